@@ -7,6 +7,7 @@ ghost use Rattle.std.specs.Prelude.{◌≡◌};
 ghost use Rattle.street_base.specs.Limits.{last_clock, greatest_id, most_nodes, most_links, most_turns, most_lanes, most_size, most_cells};
 ghost use Rattle.street_base.specs.Limits.{most_residence, most_capacity, most_limit, most_zone, most_dawdle, most_change, most_vehicles};
 ghost use Rattle.street_base.specs.Limits.{most_steps, most_plan, most_phases, most_duration, most_greens, most_detectors, most_period};
+ghost use Rattle.street_base.specs.Limits.{most_workers, most_calls, most_sessions, most_reads};
 
 use crate::names::{CarNo, Step};
 
@@ -76,6 +77,18 @@ pub const MOST_DETECTORS: usize = 1_024;
 /// The longest period of a detector, in steps.
 pub const MOST_PERIOD: u64 = 100_000;
 
+/// How many link workers there are at most.
+pub const MOST_WORKERS: u64 = 64;
+
+/// How many calls a desk takes at most.
+pub const MOST_CALLS: u64 = 1_000_000;
+
+/// How many sessions a desk has at most.
+pub const MOST_SESSIONS: usize = 1_024;
+
+/// How many reads a run asks of its input at most.
+pub const MOST_READS: u32 = 1_000_000_000;
+
 /// The limits are those of the definitions.
 pub fn limits_are_defined()
     ensures clock { LAST_CLOCK ≡ last_clock }
@@ -86,4 +99,5 @@ pub fn limits_are_defined()
     ensures vehicles { (MOST_VEHICLES ≡ most_vehicles) × (MOST_SIZE ≡ most_size) × (MOST_PLAN ≡ most_plan) × (MOST_STEPS ≡ most_steps) }
     ensures signals { (MOST_PHASES ≡ most_phases) × (MOST_DURATION ≡ most_duration) × (MOST_GREENS ≡ most_greens) }
     ensures detectors { (MOST_DETECTORS ≡ most_detectors) × (MOST_PERIOD ≡ most_period) }
+    ensures service { (MOST_WORKERS ≡ most_workers) × (MOST_CALLS ≡ most_calls) × (MOST_SESSIONS ≡ most_sessions) × (MOST_READS ≡ most_reads) }
 {}

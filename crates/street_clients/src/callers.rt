@@ -44,7 +44,7 @@ fn serve_lines<R: Threads + Wait + Sync>(
     let mut reader = Counted::new(lines.as_bytes());
     let mut writer = Counted::new(Vec::new(alloc));
     match run_lines(alloc, session, &mut reader, &mut writer) {
-        Ok(_tally) => Some(writer.stream),
+        Ok(_tally) => Some(writer.into_inner()),
         Err(_fault) => None,
     }
 }

@@ -73,7 +73,7 @@ fn tape_of(alloc: Global, desk: Desk<Unwatched>, pass: Pass<Unwatched>) -> Optio
     };
     let mut writer = Counted::new(Vec::new(alloc));
     match write_tape(alloc, &journal, &mut writer) {
-        Ok(_bytes) => Some(writer.stream),
+        Ok(_bytes) => Some(writer.into_inner()),
         Err(_fault) => None,
     }
 }

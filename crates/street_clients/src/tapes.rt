@@ -58,7 +58,7 @@ pub fn retell<R: Threads + Sync>(rt: &R, alloc: Global, tape: &[u8]) -> Result<R
         Ok(_tally) => {
             let (count, _outcome) = engine.apply(rt, &Command::Count);
             Ok(Retold {
-                replies: writer.stream,
+                replies: writer.into_inner(),
                 count,
             })
         }

@@ -1,7 +1,7 @@
 -- What steps that were made lead to.
 use Rattle.std.proofs.Common.{◌≡◌, ℕ, zero, suc, ◌+◌, ◌<◌, true, false, sym, ◌∙◌, ap, subst, true≢false, arith, Result, Ok, Err, OnOk, OnErr, is_err}
 use Rattle.street_base.specs.Prelude.{Traffic, step, steps}
-use Rattle.street_engine.specs.Prelude.{StreetsView, StreetsStandFor, StreetsGo, HaveRun}
+use Rattle.street_engine.specs.Prelude.{StreetsView, StreetsStandFor, StreetsGo}
 
 -- so many steps, and then so many
 steps-then : (a b : ℕ) (m : Traffic) → steps (a + b) m ≡ steps b (steps a m)
@@ -23,21 +23,3 @@ go-refused made x y z (Err e) so_far some still = λ m s. still (steps made m) (
 pub go-made : {T E : Type 0} (made : ℕ) (x y z : StreetsView) (r : Result T E) → StreetsGo (steps made) x y → is_err r ≡ false → OnOk r (StreetsGo step y z) → StreetsGo (steps (made + 1)) x z
 go-made made x y z (Ok t) so_far none went = go-then made 1 x y z so_far went
 go-made made x y z (Err e) so_far none went = absurd (true≢false none)
-
--- memory for a step was asked for
-pub run-prepared : (begun : StreetsView) (most : ℕ) (x y : StreetsView) (made : ℕ) → HaveRun begun most x made → y.tiles.network ≡ x.tiles.network → y.clock ≡ x.clock → StreetsGo (λ m. m) x y → HaveRun begun most y made
-run-prepared begun most x y made run network clock kept = record {
-  within = run.within;
-  network = network ∙ run.network;
-  clock = clock ∙ run.clock;
-  stands = λ m s. kept (steps made m) (run.stands m s);
-}
-
--- a step is one more of those that were made
-pub run-stepped : (begun : StreetsView) (most : ℕ) (x y : StreetsView) (made : ℕ) → HaveRun begun most x made → made < most → y.tiles.network ≡ x.tiles.network → y.clock ≡ x.clock + 1 → StreetsGo step x y → HaveRun begun most y (made + 1)
-run-stepped begun most x y made run more network clock went = record {
-  within = omega (arith, more);
-  network = network ∙ run.network;
-  clock = (let c = run.clock in omega (arith, c, clock));
-  stands = go-then made 1 begun x y run.stands went;
-}

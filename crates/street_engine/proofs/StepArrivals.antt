@@ -10,7 +10,7 @@ use Rattle.street_base.specs.declared.names.Place.{Place}
 use Rattle.street_base.specs.Prelude.{places, Vehicle, is_on_last, Traffic, in_lanes, has_ended, one_if, IsSound, changed, driven, arrival, arrivals, leaver_of, with_arrivals, step, released, departed}
 use Rattle.street_base.proofs.FormLemmas.{shape-of, changed-formed}
 use Rattle.street_base.proofs.ArrivalLemmas.{arrived, driven-lanes}
-use Rattle.street_tile.specs.Prelude.{Part, AreTiles, Each, all_places, all_arrived}
+use Rattle.street_tile.specs.Prelude.{TileView, AreTiles, Each, all_places, all_arrived}
 use Rattle.street_tile.proofs.Rows.{in-row, roads-of}
 use Rattle.street_engine.specs.Prelude.{AreComing}
 use Rattle.street_tile.proofs.Sums.{tiles-sums}
@@ -54,7 +54,7 @@ any-often n (x ∷ xs) =
 
 -- ---- all tiles
 
-tiles-arrived : (g : Place → Option ℕ) (xs ys : List Part) → length ys ≡ length xs → ((i : ℕ) (d : Part) → i < length xs → (get_or ys i d).arrived ≡ filter_map g (get_or xs i d).own.places) → all_arrived ys ≡ filter_map g (all_places xs)
+tiles-arrived : (g : Place → Option ℕ) (xs ys : List TileView) → length ys ≡ length xs → ((i : ℕ) (d : TileView) → i < length xs → (get_or ys i d).arrived ≡ filter_map g (get_or xs i d).own.places) → all_arrived ys ≡ filter_map g (all_places xs)
 tiles-arrived g [] [] e h = refl
 tiles-arrived g [] (y ∷ ys) e h = absurd (omega arith)
 tiles-arrived g (x ∷ xs) [] e h = absurd (omega arith)
@@ -63,7 +63,7 @@ tiles-arrived g (x ∷ xs) (y ∷ ys) e h =
     ∙ ap (λ (ns : List ℕ). filter_map g (all_places xs) ++ ns) (h 0 x (omega arith))
     ∙ sym (filter_map-append g (all_places xs) x.own.places)
 
-module _ (net : NetSpec) (xs ys : List Part) (tiles : AreTiles net xs) (long : length ys ≡ length xs) (m : Traffic) (on : m.network ≡ net) (sound : IsSound m)
+module _ (net : NetSpec) (xs ys : List TileView) (tiles : AreTiles net xs) (long : length ys ≡ length xs) (m : Traffic) (on : m.network ≡ net) (sound : IsSound m)
     (all : Each (λ x y. y.arrived ≡ filter_map (λ p. arrival (leaver_of (changed m) p)) x.own.places) xs ys) where
   often-all : (n : ℕ) → often n (all_arrived ys) ≡ sum_by (λ p. arrived n (leaver_of (changed m) p)) (places (changed m).network)
   often-all n =

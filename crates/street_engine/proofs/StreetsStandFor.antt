@@ -15,7 +15,7 @@ use Rattle.street_base.proofs.PlaceLemmas.{places-listed}
 use Rattle.street_base.proofs.ReleaseCountLemmas.{in_lanes-places}
 use Rattle.street_base.proofs.FormLemmas.{shape-of}
 use Rattle.street_lanes.specs.Prelude.{IsLane}
-use Rattle.street_tile.specs.Prelude.{Part, AreTiles, AllStand, StandsFor as TileStands, Each, at_place, without, planned, MetersStand, AllMetersStand, detectors_on, Steps, TilesView, TilesStandFor, TilesGo, TilesKeep, NobodyArrived, all_arrived}
+use Rattle.street_tile.specs.Prelude.{TileView, AreTiles, AllStand, StandsFor as TileStands, Each, at_place, without, planned, MetersStand, AllMetersStand, detectors_on, Steps, TilesView, TilesStandFor, TilesGo, TilesKeep, NobodyArrived, all_arrived}
 use Rattle.street_tile.proofs.Ones.{sum-one}
 use Rattle.street_engine.specs.declared.sites.DetectorSite.{DetectorSite}
 use Rattle.street_engine.specs.Prelude.{AreDetectorSites, StreetsView, IsTrafficOf, IsKept, StreetsStandFor, StreetsGo, streets_of, AreComing}
@@ -207,22 +207,22 @@ unfolding step departed released driven changed
 step-sites net sites m are = sites-map (noted (changed m) (departed (released (driven (changed m))))) (λ d. refl) net sites m.detectors are
 
 -- those who arrived were taken note of
-noted-stand : (net : NetSpec) (xs ys : List Part) (m : Traffic) → length ys ≡ length xs → Each (λ x y. y ≡ record x { arrived = [] }) xs ys → AllStand net xs m → AllStand net ys m
+noted-stand : (net : NetSpec) (xs ys : List TileView) (m : Traffic) → length ys ≡ length xs → Each (λ x y. y ≡ record x { arrived = [] }) xs ys → AllStand net xs m → AllStand net ys m
 noted-stand net xs ys m long each s = record {
   on = s.on;
   each = λ k d l.
       let within : k < length xs = omega arith in
       let t = s.each k d within in
-      subst (λ (p : Part). TileStands p m) (sym (each k d within)) (record { clock = t.clock; lanes = t.lanes; none_loose = t.none_loose; signals = t.signals });
+      subst (λ (p : TileView). TileStands p m) (sym (each k d within)) (record { clock = t.clock; lanes = t.lanes; none_loose = t.none_loose; signals = t.signals });
 }
 
-noted-meters : (xs ys : List Part) (m : Traffic) → length ys ≡ length xs → Each (λ x y. y ≡ record x { arrived = [] }) xs ys → AllMetersStand xs m → AllMetersStand ys m
+noted-meters : (xs ys : List TileView) (m : Traffic) → length ys ≡ length xs → Each (λ x y. y ≡ record x { arrived = [] }) xs ys → AllMetersStand xs m → AllMetersStand ys m
 noted-meters xs ys m long each kept k d l =
     let within : k < length xs = omega arith in
-    subst (λ (p : Part). MetersStand p m) (sym (each k d within)) (kept k d within)
+    subst (λ (p : TileView). MetersStand p m) (sym (each k d within)) (kept k d within)
 
 pub noted-nobody : (y z : TilesView) → length z.tiles ≡ length y.tiles → Each (λ x y. y ≡ record x { arrived = [] }) y.tiles z.tiles → NobodyArrived z
-noted-nobody y z long each k d l = ap (λ (t : Part). t.arrived) (each k d (omega arith))
+noted-nobody y z long each k d l = ap (λ (t : TileView). t.arrived) (each k d (omega arith))
 
 -- memory for a step was taken, and the tiles stand for what they stood for
 module _ {sites : List DetectorSite} {clock : ℕ} {s x : TilesView} {ends : List (Option End)} (kept : IsKept (streets_of s sites clock ends)) (taken : TilesKeep s x) where
@@ -276,7 +276,3 @@ kept-either (Err e) x ok err = err
 pub unless-err : {T E : Type 0} (P : Type 0) (r : Result T E) → is_err r ≡ false → OnOk r P → P
 unless-err P (Ok t) none p = p
 unless-err P (Err e) none p = absurd (true≢false none)
-
-pub always-err : {T E : Type 0} (P : Type 0) (r : Result T E) → P → OnErr r P
-always-err P (Ok t) p = tt
-always-err P (Err e) p = p

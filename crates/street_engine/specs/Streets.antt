@@ -1,10 +1,10 @@
 -- What contracts see of the traffic on a loaded network, and when it stands for traffic of the machine.
 -- Source: this profile.
-use Rattle.std.specs.Prelude.{ℕ, ◌≡◌, ◌≤◌, List, length, Option, Some}
+use Rattle.std.specs.Prelude.{ℕ, ◌≡◌, ◌≤◌, List, [], length, Option, Some}
 use Rattle.street_base.specs.declared.reply.End.{End}
 use Rattle.street_base.specs.Prelude.{last_clock, node_of, SignalPlan, signalled, entered, plan_links, Traffic, IsSound}
 use Rattle.street_node.specs.Prelude.{ShowsAs}
-use Rattle.street_tile.specs.Prelude.{TilesView, TilesStandFor, NobodyArrived}
+use Rattle.street_tile.specs.Prelude.{TilesView, TilesStandFor, NobodyArrived, no_network}
 use Rattle.street_engine.specs.declared.sites.DetectorSite.{DetectorSite}
 use Rattle.street_engine.specs.Sites.{AreDetectorSites}
 
@@ -18,6 +18,10 @@ pub record StreetsView : Type 0 where
 -- streets, part by part
 abbrev pub streets_of : TilesView → List DetectorSite → ℕ → List (Option End) → StreetsView
 streets_of tiles sites clock ends = record { tiles = tiles; sites = sites; clock = clock; ends = ends }
+
+-- no street
+abbrev pub no_streets : StreetsView
+no_streets = record { tiles = record { network = no_network; tiles = [] }; sites = []; clock = 0; ends = [] }
 
 -- the tiles stand for the traffic; it has each number in one place or ended, a signal plan or none for each node, and the detectors of
 -- these sites

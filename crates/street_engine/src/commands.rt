@@ -2,128 +2,154 @@
 //!
 //! Source: this profile.
 ghost use Rattle.std.specs.Prelude.{◌≤◌, Some, None};
+ghost use Rattle.street_base.specs.Prelude.{most_workers};
 ghost use Rattle.street_base.specs.declared.command.Command.TheVariants.{Load};
-ghost use Rattle.street_engine.specs.Prelude.{Serves, KeepsRefused};
+ghost use Rattle.street_engine.specs.Prelude.{Serves, KeepsRefused, MakesSteps};
 
 use crate::Streets;
-use crate::clock_commands::{advance, advance_by_team, count};
+use crate::clock_commands::{advance, count};
 use crate::detector_commands::{place_meter, read_meter};
 use crate::lane_commands::{lane, set_closed, signal};
 use crate::vehicle_commands::{enter, take_out, vehicle};
 use std::alloc::Global;
-use std::sync::Wait;
-use std::thread::Threads;
 use street_base::{Command, NetSpec, Outcome, Refusal, Reply};
 use street_net::NetFault;
-use street_tile::Gate;
 
 /// Applies one command to what is loaded, or to nothing: what it answers, and under which outcome. `workers`, 1 to 64, is read by a
 /// load alone: at most so many make the steps of what it loads.
-pub(crate) fn apply<R: Threads + Sync, G: Gate + Sync>(
-    rt: &R,
-    gate: &G,
+pub(crate) fn apply<M: Fn(Streets, u64) -> (Streets, u64)>(
+    make: &M,
     alloc: Global,
     workers: usize,
     state: &mut Option<Streets>,
     command: &Command,
 ) -> (Reply, Outcome)
+    requires make { MakesSteps M.Fn make.now }
     requires some { 1 ≤ workers }
-    requires few { workers ≤ 64 }
+    requires few { workers ≤ most_workers }
     ensures serves { Serves state.old command.now result.0 result.1 state.new }
     ensures refused { KeepsRefused state.old result.0 state.new }
 {
-    match state {
-        Some(streets) => serve(rt, gate, alloc, streets, command),
-        None => match command {
-            Command::Load(net) => {
-                let (streets, reply, outcome) = load(alloc, workers, net);
-                *state = streets;
-                (reply, outcome)
-            }
-            _ => (Reply::Refused(Refusal::NotLoaded), Outcome::Whole),
-        },
+    if let Some(streets) = state.take() {
+        let (streets, reply, outcome) = serve(make, alloc, streets, command);
+        *state = Some(streets);
+        return (reply, outcome);
     }
+    let (streets, reply, outcome) = begin(alloc, workers, command);
+    *state = streets;
+    (reply, outcome)
 }
 
-/// As [`apply`], and an advance is made by workers that stay.
-pub(crate) fn apply_by_team<R: Threads + Wait + Sync, G: Gate + Sync>(
-    rt: &R,
-    gate: &G,
-    alloc: Global,
-    workers: usize,
-    state: &mut Option<Streets>,
-    command: &Command,
-) -> (Reply, Outcome)
+/// Applies one command where nothing is loaded: the streets where there are some then, the reply, and its outcome.
+fn begin(alloc: Global, workers: usize, command: &Command) -> (Option<Streets>, Reply, Outcome)
     requires some { 1 ≤ workers }
-    requires few { workers ≤ 64 }
-    ensures serves { Serves state.old command.now result.0 result.1 state.new }
-    ensures refused { KeepsRefused state.old result.0 state.new }
-{
-    if let Command::Advance { steps } = command {
-        if let Some(streets) = state.take() {
-            let (streets, reply, outcome) = advance_by_team(rt, gate, alloc, streets, *steps);
-            *state = Some(streets);
-            return (reply, outcome);
-        }
-    }
-    apply(rt, gate, alloc, workers, state, command)
-}
-
-/// Applies one command to a loaded network.
-fn serve<R: Threads + Sync, G: Gate + Sync>(
-    rt: &R,
-    gate: &G,
-    alloc: Global,
-    streets: &mut Streets,
-    command: &Command,
-) -> (Reply, Outcome)
-    ensures serves { Serves (Some streets.old) command.now result.0 result.1 (Some streets.new) }
-    ensures refused { KeepsRefused (Some streets.old) result.0 (Some streets.new) }
+    requires few { workers ≤ most_workers }
+    ensures serves { Serves None command.now result.1 result.2 result.0 }
+    ensures refused { KeepsRefused None result.1 result.0 }
 {
     match command {
-        Command::Load(_) => (Reply::Refused(Refusal::AlreadyLoaded), Outcome::Whole),
+        Command::Load(net) => load(alloc, workers, net),
+        _ => (None, Reply::Refused(Refusal::NotLoaded), Outcome::Whole),
+    }
+}
+
+/// Applies one command to a loaded network: an advance by calls of `make`.
+fn serve<M: Fn(Streets, u64) -> (Streets, u64)>(
+    make: &M,
+    alloc: Global,
+    streets: Streets,
+    command: &Command,
+) -> (Streets, Reply, Outcome)
+    requires make { MakesSteps M.Fn make.now }
+    ensures serves { Serves (Some streets) command.now result.1 result.2 (Some result.0) }
+    ensures refused { KeepsRefused (Some streets) result.1 (Some result.0) }
+{
+    let mut streets = streets;
+    match command {
+        Command::Load(_) => (
+            streets,
+            Reply::Refused(Refusal::AlreadyLoaded),
+            Outcome::Whole,
+        ),
         Command::Signal {
             node,
             offset,
             phases,
-        } => signal(alloc, streets, *node, *offset, phases.as_slice()),
+        } => {
+            let (reply, outcome) = signal(alloc, &mut streets, *node, *offset, phases.as_slice());
+            (streets, reply, outcome)
+        }
         Command::Enter {
             plan,
             lane,
             depart,
             size,
-        } => enter(alloc, streets, plan.as_slice(), *lane, *depart, *size),
-        Command::Advance { steps } => advance(rt, gate, streets, *steps),
+        } => {
+            let (reply, outcome) = enter(
+                alloc,
+                &mut streets,
+                plan.as_slice(),
+                *lane,
+                *depart,
+                *size,
+            );
+            (streets, reply, outcome)
+        }
+        Command::Advance { steps } => advance(make, streets, *steps),
         Command::CloseLane {
             link,
             lane,
             first,
             last,
-        } => set_closed(streets, *link, *lane, *first, *last, true),
+        } => {
+            let (reply, outcome) = set_closed(&mut streets, *link, *lane, *first, *last, true);
+            (streets, reply, outcome)
+        }
         Command::ReopenLane {
             link,
             lane,
             first,
             last,
-        } => set_closed(streets, *link, *lane, *first, *last, false),
-        Command::TakeOut { car } => take_out(streets, *car),
+        } => {
+            let (reply, outcome) = set_closed(&mut streets, *link, *lane, *first, *last, false);
+            (streets, reply, outcome)
+        }
+        Command::TakeOut { car } => {
+            let (reply, outcome) = take_out(&mut streets, *car);
+            (streets, reply, outcome)
+        }
         Command::PlaceMeter {
             link,
             lane,
             cell,
             period,
-        } => place_meter(alloc, streets, *link, *lane, *cell, *period),
-        Command::ReadMeter { meter } => read_meter(alloc, streets, *meter),
-        Command::Vehicle { car } => vehicle(alloc, streets, *car),
-        Command::Lane { link, lane: number } => lane(alloc, streets, *link, *number),
-        Command::Count => count(streets),
+        } => {
+            let (reply, outcome) = place_meter(alloc, &mut streets, *link, *lane, *cell, *period);
+            (streets, reply, outcome)
+        }
+        Command::ReadMeter { meter } => {
+            let (reply, outcome) = read_meter(alloc, &streets, *meter);
+            (streets, reply, outcome)
+        }
+        Command::Vehicle { car } => {
+            let (reply, outcome) = vehicle(alloc, &streets, *car);
+            (streets, reply, outcome)
+        }
+        Command::Lane { link, lane: number } => {
+            let (reply, outcome) = lane(alloc, &streets, *link, *number);
+            (streets, reply, outcome)
+        }
+        Command::Count => {
+            let (reply, outcome) = count(&streets);
+            (streets, reply, outcome)
+        }
     }
 }
 
 /// Applies a load where nothing is loaded: the streets where there are some then, the reply, and its outcome.
 fn load(alloc: Global, workers: usize, net: &NetSpec) -> (Option<Streets>, Reply, Outcome)
     requires some { 1 ≤ workers }
-    requires few { workers ≤ 64 }
+    requires few { workers ≤ most_workers }
     ensures serves { Serves None (Load net.now) result.1 result.2 result.0 }
     ensures refused { KeepsRefused None result.1 result.0 }
 {

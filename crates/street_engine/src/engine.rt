@@ -1,14 +1,15 @@
 //! The engine, and the gate of an engine whose steps nobody watches.
 //!
 //! Source: this profile.
-ghost use Rattle.std.specs.Prelude.{◌≡◌, ◌≤◌, IfOk, OnErr, None};
+ghost use Rattle.std.specs.Prelude.{◌≡◌, ◌*◌, ◌+◌, ◌≤◌, IfOk, OnErr, None};
 ghost use Rattle.street_base.specs.declared.command.Command.TheVariants.{Advance};
 ghost use Rattle.street_base.specs.declared.refusal.Refusal.{Refusal};
 ghost use Rattle.street_base.specs.declared.reply.Reply.TheVariants.{Refused};
-ghost use Rattle.street_base.specs.Prelude.{refusal, State};
-ghost use Rattle.street_engine.specs.Prelude.{StandsFor, Serves, ServesAll};
+ghost use Rattle.street_base.specs.Prelude.{last_clock, most_workers, refusal, steps, State};
+ghost use Rattle.street_engine.specs.Prelude.{StandsFor, Serves, ServesAll, StreetsGo};
 
 use crate::clock_commands::advance_refusal;
+use crate::crews::{started_steps, staying_steps};
 use crate::{Streets, commands};
 use std::alloc::{AllocError, Global};
 use std::marker::Model;
@@ -85,20 +86,21 @@ impl<G: Gate + Sync + Drop> Drop for Engine<G> {
 
 impl<G: Gate + Sync + Drop> Model for Engine<G> {
     ghost use Rattle.std.specs.Prelude.{◌≤◌};
+    ghost use Rattle.street_base.specs.Prelude.{most_workers};
     ghost use Rattle.street_engine.specs.Prelude.{EngineView};
 
     ghost Value = { EngineView };
 
     ghost view = { λ e. e.streets };
 
-    ghost invariant = { λ e. (1 ≤ e.workers) × (e.workers ≤ 64) };
+    ghost invariant = { λ e. (1 ≤ e.workers) × (e.workers ≤ most_workers) };
 }
 
 impl<G: Gate + Sync + Drop> Engine<G> {
     /// An engine with nothing loaded, whose steps are made by so many workers, 1 to 64. Takes no memory.
     pub fn new(alloc: Global, workers: u32, gate: G) -> Self
         requires some { 1 ≤ workers }
-        requires few { workers ≤ 64 }
+        requires few { workers ≤ most_workers }
         ensures { StandsFor result None }
     {
         Engine {
@@ -115,9 +117,13 @@ impl<G: Gate + Sync + Drop> Engine<G> {
         ensures serves { Serves self.old command.now result.0 result.1 self.new }
         ensures refused { (refusal : Refusal) → result.0 ≡ Refused refusal → self.new ≡ self.old }
     {
+        let gate = &self.gate;
+        let make = |streets: Streets, count: u64| -> (Streets, u64)
+            requires { (count ≤ 16) × (streets.clock + count ≤ last_clock) }
+            ensures { (result.1 ≤ count) × (result.0.clock ≡ streets.clock + result.1) × StreetsGo (steps result.1) streets result.0 }
+        { started_steps(rt, gate, streets, count) };
         commands::apply(
-            rt,
-            &self.gate,
+            &make,
             self.alloc,
             self.workers as usize,
             &mut self.streets,
@@ -135,9 +141,14 @@ impl<G: Gate + Sync + Drop> Engine<G> {
         ensures serves { Serves self.old command.now result.0 result.1 self.new }
         ensures refused { (refusal : Refusal) → result.0 ≡ Refused refusal → self.new ≡ self.old }
     {
-        commands::apply_by_team(
-            rt,
-            &self.gate,
+        let gate = &self.gate;
+        let alloc = self.alloc;
+        let make = |streets: Streets, count: u64| -> (Streets, u64)
+            requires { (count ≤ 16) × (streets.clock + count ≤ last_clock) }
+            ensures { (result.1 ≤ count) × (result.0.clock ≡ streets.clock + result.1) × StreetsGo (steps result.1) streets result.0 }
+        { staying_steps(rt, gate, alloc, streets, count) };
+        commands::apply(
+            &make,
             self.alloc,
             self.workers as usize,
             &mut self.streets,

@@ -9,6 +9,7 @@
 
 mod clock_commands;
 mod commands;
+mod crews;
 mod detector_commands;
 mod ends;
 mod engine;

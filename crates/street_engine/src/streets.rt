@@ -1,33 +1,26 @@
 //! The traffic on a loaded network: what commands do to it and ask of it, and its steps by one or several threads.
 ghost use Rattle.std.specs.Prelude.{◌≡◌, ℕ, ◌+◌, ◌<◌, ◌≤◌, List, length, slice_get, slice_index_or, min, Some, None, option_map, IfOk, IfErr, OnOk, OnErr};
-ghost use Rattle.street_base.specs.Prelude.{last_clock, most_plan, most_vehicles, most_period, most_detectors, link_at};
+ghost use Rattle.street_base.specs.Prelude.{last_clock, most_workers, most_plan, most_vehicles, most_period, most_detectors, link_at};
 ghost use Rattle.street_base.specs.Prelude.{network_fault, Traffic, lane_at, step, steps, with_closure, taken_out, metered};
 ghost use Rattle.street_base.specs.Prelude.{loaded, plan_links, closed_after, seen, shown_lane, shown_rows, census, in_cells};
 ghost use Rattle.street_net.specs.Prelude.{TellsFault};
 ghost use Rattle.street_lanes.specs.Prelude.{IsLane};
-ghost use Rattle.street_engine.specs.Prelude.{StreetsStandFor, StreetsGo, StreetsAdmit, StreetsSignal};
+ghost use Rattle.street_engine.specs.Prelude.{StreetsStandFor, StreetsGo, StreetsAdmit, StreetsSignal, MakesSteps};
 
 use crate::ends::{Ends, note_arrivals};
 use crate::sites::DetectorSite;
-use crate::teams::run_with_locks;
 use std::alloc::Global;
-use std::marker::{Brand, Model};
-use std::sync::Wait;
-use std::thread::Threads;
+use std::marker::Model;
 use street_base::{
     Car, CarNo, CellNo, End, LaneNo, NetSpec, NodeIx, Place, Plan, Reply, Size, Starved, Step,
     Whereabouts,
 };
 use street_net::{NetFault, Network};
 use street_node::SignalPlan;
-use street_team::{Block, Team, locks};
-use street_tile::{Gate, TeamNetwork, Tile, TileWork, Tiles};
+use street_tile::{Gate, Lender, Tiles};
 
 /// After so many steps it is counted anew how many vehicles are in cells, and the gate is asked whether workers share the next.
 const STEPS_BETWEEN_COUNTS: u64 = 16;
-
-/// How often a step by a team lends the tiles to its threads: once in each of its three parts.
-const LENDINGS: usize = 3;
 
 /// The tiles of a loaded network, their clock, how each vehicle ended, and where each detector is.
 pub struct Streets {
@@ -58,6 +51,22 @@ impl Model for Streets {
     ghost invariant = { λ s. IsKept (streets_of s.tiles s.sites.items s.clock s.ends.ends) };
 }
 
+/// A call of `make`.
+fn make_some<M: Fn(Streets, u64) -> (Streets, u64)>(
+    make: &M,
+    streets: Streets,
+    count: u64,
+) -> (Streets, u64)
+    requires make { MakesSteps M.Fn make.now }
+    requires few { count ≤ 16 }
+    requires in_time { streets.clock + count ≤ last_clock }
+    ensures most { result.1 ≤ count }
+    ensures clock { result.0.clock ≡ streets.clock + result.1 }
+    ensures steps { StreetsGo (steps result.1) streets result.0 }
+{
+    make(streets, count)
+}
+
 impl Streets {
     /// The streets of a network with no vehicle, for so many workers, 1 to 64: a tile for each, or for each node where these are
     /// fewer.
@@ -66,7 +75,7 @@ impl Streets {
     /// The network's first fault, or lack of memory.
     pub fn load(alloc: Global, net: &NetSpec, workers: usize) -> Result<Streets, NetFault>
         requires some { 1 ≤ workers }
-        requires few { workers ≤ 64 }
+        requires few { workers ≤ most_workers }
         ensures stands { IfOk result (λ streets. StreetsStandFor streets (loaded net.now)) }
         ensures tiles { IfOk result (λ streets. length streets.tiles.tiles ≡ min workers (length net.now.nodes)) }
         ensures faultless { OnOk result (network_fault net.now ≡ None) }
@@ -91,16 +100,11 @@ impl Streets {
         self.tiles.network()
     }
 
-    /// Blocks in which a team lends the tiles to so many threads, the caller's not counted.
-    ///
-    /// # Errors
-    /// Memory was refused.
-    pub(crate) fn blocks(
-        &self,
-        alloc: Global,
-        threads: usize,
-    ) -> Result<Vec<Block<Tile>>, Starved> {
-        self.tiles.blocks(alloc, threads)
+    /// The tiles.
+    pub(crate) fn tiles(&self) -> &Tiles
+        ensures { result.now ≡ self.now.tiles }
+    {
+        &self.tiles
     }
 
     /// The clock: the number of the next step.
@@ -318,92 +322,41 @@ impl Streets {
         gate.shares(vehicles, fullest)
     }
 
-    /// How many threads the next step takes, after `done` others of the same advance, the last of them by `before` threads: one for
-    /// each tile where the gate lets the workers share it, else the caller's alone. The gate is asked once in 16 steps, in which
-    /// traffic changes little.
-    fn threads_of_step<G: Gate>(&self, gate: &G, done: u64, before: usize) -> usize
-        requires { 0 < before }
-        ensures { 0 < result }
+    /// How many threads the next steps take, the caller's among them: this alone where the workers do not share the next step, else one
+    /// for each tile.
+    pub(crate) fn threads_of_steps<G: Gate>(&self, gate: &G) -> usize
+        ensures some { 0 < result }
+        ensures few { result ≤ most_workers }
     {
-        if done % STEPS_BETWEEN_COUNTS != 0 {
-            return before;
-        }
         if self.shares_next_step(gate) {
             return self.tiles.len().max(1);
         }
         1
     }
 
-    /// One step, by so many threads at most. All the memory that it needs is taken before it begins.
+    /// One step, by whoever makes its parts. All the memory that it needs is taken before it begins.
     ///
     /// # Errors
     /// Memory was refused; the streets stand for what they stood for.
-    fn step<R: Threads + Sync, G: Gate + Sync>(
-        &mut self,
-        rt: &R,
-        gate: &G,
-        threads: usize,
-    ) -> Result<(), Starved>
-        requires some { 0 < threads }
+    fn step<L: Lender>(&mut self, lender: &mut L) -> Result<(), Starved>
+        requires lender { L.knows lender.old self.old.tiles.network }
         requires in_time { self.old.clock < last_clock }
+        ensures lender { L.knows lender.new self.new.tiles.network }
         ensures clock { OnOk result (self.new.clock ≡ self.old.clock + 1) }
         ensures step { OnOk result (StreetsGo step self.old self.new) }
         ensures still { OnErr result (self.new.clock ≡ self.old.clock) }
         ensures starved { OnErr result (StreetsGo (λ m. m) self.old self.new) }
     {
         self.tiles.prepare()?;
-        self.tiles.step(rt, gate, threads);
+        self.tiles.step(lender);
         note_arrivals(&mut self.tiles, &mut self.ends, self.clock);
         self.clock += 1;
         Ok(())
     }
 
-    /// So many steps, or fewer where memory was refused for one: tells how many.
-    pub fn steps<R: Threads + Sync, G: Gate + Sync>(&mut self, rt: &R, gate: &G, count: u64) -> u64
-        requires { self.old.clock + count ≤ last_clock }
-        ensures most { result ≤ count }
-        ensures steps { StreetsGo (steps result) self.old self.new }
-    {
-        let mut threads = 1;
-        for done in 0..count {
-            threads = self.threads_of_step(gate, done, threads);
-            if self.step(rt, gate, threads).is_err() {
-                return done;
-            }
-        }
-        count
-    }
-
-    /// As [`step`](Self::step), by a team.
-    ///
-    /// # Errors
-    /// Memory was refused; the streets stand for what they stood for.
-    pub(crate) fn step_by_team<G: Gate + Sync, K: TeamNetwork, R: Wait>(
-        &mut self,
-        team: &mut Team<'_, '_, '_, '_, Tile, TileWork<'_, G, K>, R>,
-    ) -> Result<(), Starved>
-        requires team { self.old.tiles.network ≡ K.net }
-        requires in_time { self.old.clock < last_clock }
-        ensures network { self.new.tiles.network ≡ self.old.tiles.network }
-        ensures clock { OnOk result (self.new.clock ≡ self.old.clock + 1) }
-        ensures step { OnOk result (StreetsGo step self.old self.new) }
-        ensures still { OnErr result (self.new.clock ≡ self.old.clock) }
-        ensures starved { OnErr result (StreetsGo (λ m. m) self.old self.new) }
-    {
-        self.tiles.prepare()?;
-        self.tiles.step_by_team(team);
-        note_arrivals(&mut self.tiles, &mut self.ends, self.clock);
-        self.clock += 1;
-        Ok(())
-    }
-
-    /// So many steps by the caller's thread alone, or fewer where memory was refused for one: what they leave, and how many.
-    fn steps_alone<R: Threads + Sync, G: Gate + Sync>(
-        self,
-        rt: &R,
-        gate: &G,
-        count: u64,
-    ) -> (Streets, u64)
+    /// So many steps, or fewer where memory was refused for one, by whoever makes their parts: what they leave, and how many.
+    pub(crate) fn steps_with<L: Lender>(self, lender: &mut L, count: u64) -> (Streets, u64)
+        requires lender { L.knows lender.old self.tiles.network }
         requires in_time { self.clock + count ≤ last_clock }
         ensures most { result.1 ≤ count }
         ensures clock { result.0.clock ≡ self.clock + result.1 }
@@ -411,90 +364,21 @@ impl Streets {
     {
         let mut streets = self;
         for done in 0..count {
-            if streets.step(rt, gate, 1).is_err() {
+            if streets.step(lender).is_err() {
                 return (streets, done);
             }
         }
         (streets, count)
     }
 
-    /// So many steps by a team of the caller and at most so many threads, or fewer steps where memory was refused for one: what it
-    /// leaves, and how many were made, which is none where memory for the team was refused or the network is shared too often.
-    fn team_steps<R: Threads + Wait + Sync, G: Gate + Sync>(
+    /// So many steps, or fewer where memory was refused for one, up to 16 by each call of `make`: what they leave, and how many.
+    pub(crate) fn steps<M: Fn(Streets, u64) -> (Streets, u64)>(
         self,
-        rt: &R,
-        alloc: Global,
-        gate: &G,
+        make: &M,
         count: u64,
-        threads: usize,
     ) -> (Streets, u64)
-        requires few { count ≤ 16 }
-        requires threads { threads ≤ 64 }
+        requires make { MakesSteps M.Fn make.now }
         requires in_time { self.clock + count ≤ last_clock }
-        ensures most { result.1 ≤ count }
-        ensures clock { result.0.clock ≡ self.clock + result.1 }
-        ensures steps { StreetsGo (steps result.1) self result.0 }
-    {
-        let Ok(known) = locks::<Tile>(alloc, LENDINGS * threads * count as usize) else {
-            return (self, 0);
-        };
-        let Ok(network) = self.tiles.share_network() else {
-            return (self, 0);
-        };
-        run_with_locks::<Brand, Brand, G, R>(
-            rt, alloc, gate, &known, &network, self, count, threads,
-        )
-    }
-
-    /// How many threads a team for the next steps has, with the caller's: this alone, which needs no team, where the workers do not
-    /// share the next step; else one for each tile, and no more than the gate has processors for.
-    fn threads_of_team<G: Gate>(&self, gate: &G) -> usize
-        ensures { result ≤ 64 }
-    {
-        if self.shares_next_step(gate) {
-            self.tiles.len().min(gate.processors())
-        } else {
-            1
-        }
-    }
-
-    /// `count` steps, or fewer where memory was refused for one: what they leave, and how many. Only before the first it is counted
-    /// how many vehicles are in cells, and the gate is asked: where it lets workers share and has processors for several threads, a
-    /// team makes them, else the caller alone, who also does where the team made none, as for want of its own memory.
-    fn steps_between_counts<R: Threads + Wait + Sync, G: Gate + Sync>(
-        self,
-        rt: &R,
-        alloc: Global,
-        gate: &G,
-        count: u64,
-    ) -> (Streets, u64)
-        requires few { count ≤ 16 }
-        requires in_time { self.clock + count ≤ last_clock }
-        ensures most { result.1 ≤ count }
-        ensures clock { result.0.clock ≡ self.clock + result.1 }
-        ensures steps { StreetsGo (steps result.1) self result.0 }
-    {
-        let threads = self.threads_of_team(gate);
-        if threads > 1 {
-            let (left, made) = self.team_steps(rt, alloc, gate, count, threads - 1);
-            if made > 0 {
-                return (left, made);
-            }
-            return left.steps_alone(rt, gate, count);
-        }
-        self.steps_alone(rt, gate, count)
-    }
-
-    /// As `steps`, where workers may stay: a team of them makes up to 16 steps at a time, while the gate shares steps and has
-    /// processors for several threads, and there is memory for it; else the caller makes them alone. What they leave, and how many were made.
-    pub fn steps_by_team<R: Threads + Wait + Sync, G: Gate + Sync>(
-        self,
-        rt: &R,
-        alloc: Global,
-        gate: &G,
-        count: u64,
-    ) -> (Streets, u64)
-        requires { self.clock + count ≤ last_clock }
         ensures most { result.1 ≤ count }
         ensures clock { result.0.clock ≡ self.clock + result.1 }
         ensures steps { StreetsGo (steps result.1) self result.0 }
@@ -503,7 +387,7 @@ impl Streets {
         let mut done = 0;
         for _ in 0..count {
             let some = (count - done).min(STEPS_BETWEEN_COUNTS);
-            let (left, made) = streets.steps_between_counts(rt, alloc, gate, some);
+            let (left, made) = make_some(make, streets, some);
             streets = left;
             done += made;
             let over = made < some || done == count;

@@ -1,7 +1,14 @@
-//! Steps by a team: the caller and threads that stay for up to 16 steps of an advance.
-ghost use Rattle.std.specs.Prelude.{◌≡◌, ℕ, ◌+◌, ◌^◌, ◌<◌, ◌≤◌, slice_get, Some, OnOk, OnErr};
-ghost use Rattle.street_base.specs.Prelude.{last_clock};
-ghost use Rattle.street_engine.specs.Prelude.{StreetsView, HaveRun};
+//! Steps by a team: the caller and threads that stay for a shift, up to 16 steps of an advance.
+//!
+//! Who lends what to whom: for each part of a step the caller lends each thread a block of tiles, laid on that thread's tray, works on
+//! the others itself, and has all back before it goes on. A scope holds the threads, so that they may borrow the trays. Each lending
+//! sets one of the locks to what its tiles were, and a lock is set once: so what comes back is known to be what the part makes of them.
+//!
+//! [`team_steps`] makes the locks, [`steps_with_locks`] the trays and the blocks, [`steps_in_scope`] the threads, and the steps are
+//! those of [`Streets::steps_with`], by whoever lends.
+ghost use Rattle.std.specs.Prelude.{◌≡◌, ℕ, ◌+◌, ◌^◌, ◌<◌, ◌≤◌, slice_get, Some};
+ghost use Rattle.street_base.specs.Prelude.{last_clock, most_workers, steps};
+ghost use Rattle.street_engine.specs.Prelude.{StreetsView, StreetsGo, HaveRun};
 
 use crate::Streets;
 use std::alloc::Global;
@@ -10,12 +17,21 @@ use std::snapshot::Snapshot;
 use std::sync::{OnceLock, Wait};
 use std::thread;
 use std::thread::Threads;
-use street_base::Starved;
 use street_net::Network;
-use street_team::{Block, Shared, Team, join_all, start};
+use street_team::{Block, Shared, Team, join_all, locks, start};
 use street_tile::{Gate, TeamNetwork, Tile, TileWork};
 
-/// The streets with which a team begins, and how many steps it makes at most: facts of a type, which the proof of a call picks.
+/// How often a step lends the tiles: once in each of its three parts.
+const LENDINGS: usize = 3;
+
+/// For how long a team stays, and how many threads it has besides the caller.
+#[derive(Clone, Copy)]
+pub(crate) struct Shift {
+    pub(crate) threads: usize,
+    pub(crate) steps: u64,
+}
+
+/// The streets with which a shift begins, and how many steps it makes at most: facts of a type, which the proof of a call picks.
 pub(crate) trait Begun {
     ghost begun: { StreetsView };
 
@@ -23,22 +39,17 @@ pub(crate) trait Begun {
 }
 
 impl Begun for Brand {
-    ghost use Rattle.std.specs.Prelude.{[]};
+    ghost use Rattle.street_engine.specs.Prelude.{no_streets};
 
-    ghost begun = { record {
-      tiles = record { network = record { nodes = []; links = []; turns = []; zone = 0; change = 0; dawdle = 0; seed = 0; start = 0 }; tiles = [] };
-      sites = [];
-      clock = 0;
-      ends = [];
-    } };
+    ghost begun = { no_streets };
 
     ghost most = { 0 };
 }
 
-/// What a team leaves, and how many steps it has made. What it left is a fact of the type, since a scope tells nothing else of
+/// What a shift leaves, and how many steps it has made. What it left is a fact of the type, since a scope tells nothing else of
 /// what its closure returns where that holds what the threads borrow.
 #[derive(Drop)]
-pub(crate) struct Ran<B: Begun> {
+struct Ran<B: Begun> {
     streets: Streets,
     made: u64,
     of: PhantomData<B>,
@@ -55,20 +66,19 @@ impl<B: Begun> Model for Ran<B> {
 }
 
 impl<B: Begun> Ran<B> {
-    /// The team begins with these streets: no step is made yet.
-    fn new(streets: Streets) -> Self
-        requires { streets ≡ B.begun }
-        ensures { result.made ≡ 0 }
+    /// What a shift left, and how many steps it has made.
+    fn new(streets: Streets, made: u64) -> Self
+        requires { HaveRun B.begun B.most streets made }
     {
         Ran {
             streets,
-            made: 0,
+            made,
             of: PhantomData,
         }
     }
 
-    /// The streets as the team left them, and how many steps it has made.
-    pub(crate) fn into_parts(self) -> (Streets, u64)
+    /// The streets as the shift left them, and how many steps it has made.
+    fn into_parts(self) -> (Streets, u64)
         ensures made { result.1 ≡ self.made }
         ensures ran { HaveRun B.begun B.most result.0 result.1 }
     {
@@ -79,52 +89,11 @@ impl<B: Begun> Ran<B> {
         } = self;
         (streets, made)
     }
-
-    /// One step by a team.
-    ///
-    /// # Errors
-    /// Memory was refused; no step is made.
-    fn step<G: Gate + Sync, K: TeamNetwork, R: Wait>(
-        &mut self,
-        team: &mut Team<'_, '_, '_, '_, Tile, TileWork<'_, G, K>, R>,
-    ) -> Result<(), Starved>
-        requires team { B.begun.tiles.network ≡ K.net }
-        requires in_time { B.begun.clock + B.most ≤ last_clock }
-        requires more { self.old.made < B.most }
-        requires fits { B.most < 2 ^ 64 }
-        ensures made { OnOk result (self.new.made ≡ self.old.made + 1) }
-        ensures still { OnErr result (self.new.made ≡ self.old.made) }
-    {
-        self.streets.step_by_team(team)?;
-        self.made += 1;
-        Ok(())
-    }
 }
 
-/// So many steps by a team that was started, or fewer where memory was refused for one.
-fn run<G: Gate + Sync, K: TeamNetwork, B: Begun, R: Wait>(
-    team: &mut Team<'_, '_, '_, '_, Tile, TileWork<'_, G, K>, R>,
-    streets: Streets,
-    count: u64,
-) -> Ran<B>
-    requires team { B.begun.tiles.network ≡ K.net }
-    requires begun { streets ≡ B.begun }
-    requires in_time { B.begun.clock + count ≤ last_clock }
-    requires most { count ≡ B.most }
-{
-    let mut ran = Ran::<B>::new(streets);
-    for _ in 0..count {
-        if ran.step(team).is_err() {
-            return ran;
-        }
-    }
-    ran
-}
-
-/// So many steps, or fewer where memory was refused for one, by the caller and so many threads, which stay for all of them and are
-/// started in a scope. `shared` has a tray for each of these, `spare` a block to lend tiles in to each, and `locks` are those of
-/// [`run_with_locks`].
-fn run_in_scope<
+/// The steps of a shift, or fewer where memory was refused for one. Its threads are started in a scope, and have ended when it returns.
+/// `shared` has a tray for each of them, `spare` a block for each; `locks` are those of [`team_steps`].
+fn steps_in_scope<
     'a,
     G: Gate + Sync,
     K: TeamNetwork + Send + Sync,
@@ -137,14 +106,13 @@ fn run_in_scope<
     spare: Vec<Block<Tile>>,
     locks: &'a [OnceLock<Snapshot<Block<Tile>>>],
     streets: Streets,
-    count: u64,
-    threads: usize,
+    shift: Shift,
 ) -> Ran<B>
     requires locks { (k : ℕ) (l : _) → slice_get locks.now k ≡ Some l → l.id ≡ K.lock k }
     requires team { B.begun.tiles.network ≡ K.net }
     requires begun { streets ≡ B.begun }
-    requires in_time { B.begun.clock + count ≤ last_clock }
-    requires most { count ≡ B.most }
+    requires in_time { B.begun.clock + shift.steps ≤ last_clock }
+    requires most { shift.steps ≡ B.most }
 {
     thread::scope(
         thread::scope_env(),
@@ -152,22 +120,21 @@ fn run_in_scope<
         move |scope| -> Ran<B>
             requires { ((k : ℕ) (l : _) → slice_get locks.now k ≡ Some l → l.id ≡ K.lock k)
                 × (B.begun.tiles.network ≡ K.net) × (streets ≡ B.begun)
-                × (B.begun.clock + count ≤ last_clock) × (count ≡ B.most) }
+                × (B.begun.clock + shift.steps ≤ last_clock) × (shift.steps ≡ B.most) }
         {
-            let started = start(scope, rt, alloc, shared, threads);
+            let started = start(scope, rt, alloc, shared, shift.threads);
             let mut team = Team::new(rt, shared, locks, spare, started.len());
-            let ran = run(&mut team, streets, count);
+            let (streets, made) = streets.steps_with(&mut team, shift.steps);
             shared.end();
             join_all(rt, started);
-            ran
+            Ran::new(streets, made)
         },
     )
 }
 
-/// So many steps, or fewer where memory was refused for one or for the team: what they leave, and how many were made. The team is
-/// the caller and so many threads. Each block of tiles that it lends takes one of the locks, which tells what the tiles were; `net`
-/// is the network of the streets.
-pub(crate) fn run_with_locks<
+/// The steps of a shift, or fewer where memory was refused for one, or none where it was refused for the trays or the blocks: what
+/// they leave, and how many. Each lending takes one of the locks; `net` is the network of the streets.
+fn steps_with_locks<
     K: TeamNetwork + Send + Sync,
     B: Begun + Send + Sync,
     G: Gate + Sync,
@@ -179,25 +146,47 @@ pub(crate) fn run_with_locks<
     locks: &[OnceLock<Snapshot<Block<Tile>>>],
     net: &Network,
     streets: Streets,
-    count: u64,
-    threads: usize,
+    shift: Shift,
 ) -> (Streets, u64)
     requires locks { (k : ℕ) (l : _) → slice_get locks.now k ≡ Some l → l.id ≡ K.lock k }
     requires net { net.now ≡ K.net }
     requires team { B.begun.tiles.network ≡ K.net }
     requires begun { streets ≡ B.begun }
-    requires in_time { B.begun.clock + count ≤ last_clock }
-    requires most { count ≡ B.most }
+    requires in_time { B.begun.clock + shift.steps ≤ last_clock }
+    requires most { shift.steps ≡ B.most }
     ensures ran { HaveRun B.begun B.most result.0 result.1 }
 {
     let work = TileWork::<G, K>::new(net, gate);
-    let Ok(shared) = Shared::new(alloc, &work, threads) else {
+    let Ok(shared) = Shared::new(alloc, &work, shift.threads) else {
         return (streets, 0);
     };
-    let Ok(spare) = streets.blocks(alloc, threads) else {
+    let Ok(spare) = streets.tiles().blocks(alloc, shift.threads) else {
         return (streets, 0);
     };
-    run_in_scope::<G, K, B, R>(
-        rt, alloc, &shared, spare, locks, streets, count, threads,
-    ).into_parts()
+    steps_in_scope::<G, K, B, R>(rt, alloc, &shared, spare, locks, streets, shift).into_parts()
+}
+
+/// The steps of a shift, or fewer where memory was refused for one: what they leave, and how many, which is none where memory for the
+/// team was refused or the network is shared too often.
+pub(crate) fn team_steps<R: Threads + Wait + Sync, G: Gate + Sync>(
+    rt: &R,
+    alloc: Global,
+    gate: &G,
+    streets: Streets,
+    shift: Shift,
+) -> (Streets, u64)
+    requires few { shift.steps ≤ 16 }
+    requires threads { shift.threads ≤ most_workers }
+    requires in_time { streets.clock + shift.steps ≤ last_clock }
+    ensures most { result.1 ≤ shift.steps }
+    ensures clock { result.0.clock ≡ streets.clock + result.1 }
+    ensures steps { StreetsGo (steps result.1) streets result.0 }
+{
+    let Ok(known) = locks::<Tile>(alloc, LENDINGS * shift.threads * shift.steps as usize) else {
+        return (streets, 0);
+    };
+    let Ok(network) = streets.tiles().share_network() else {
+        return (streets, 0);
+    };
+    steps_with_locks::<Brand, Brand, G, R>(rt, alloc, gate, &known, &network, streets, shift)
 }

@@ -1,9 +1,9 @@
 //! Commands of one vehicle: its entry, its taking out, and the question where it is.
 //!
 //! Source: this profile.
-ghost use Rattle.std.specs.Prelude.{◌≡◌, ◌<◌, ◌≤◌, None, length, true};
+ghost use Rattle.std.specs.Prelude.{◌≡◌, ◌*◌, ◌<◌, ◌≤◌, None, Some, IfOk, IfErr, OnOk, length};
 ghost use Rattle.street_base.specs.declared.command.Command.TheVariants.{Enter, TakeOut, Vehicle};
-ghost use Rattle.street_base.specs.Prelude.{last_clock, most_vehicles, most_size, is_within};
+ghost use Rattle.street_base.specs.Prelude.{most_vehicles};
 ghost use Rattle.street_net.specs.Prelude.{plan_refusal};
 ghost use Rattle.street_engine.specs.Prelude.{Serves, KeepsRefused, TellsEntry};
 
@@ -11,35 +11,51 @@ use crate::Streets;
 use crate::names::lane_number;
 use std::alloc::Global;
 use street_base::{
-    CarNo, LAST_CLOCK, MOST_VEHICLES, Outcome, Refusal, Reply, Size, Step, Whereabouts,
+    CarNo, LAST_CLOCK, LaneNo, MOST_VEHICLES, Outcome, Refusal, Reply, Size, Step, Whereabouts,
 };
 use street_net::PlanFault;
 
-/// Why the entry of a vehicle is refused, if it is: where 1,000,000 were admitted, or else for its plan, or else its lane, or else
-/// its depart or its size. Takes no memory.
-fn entry_refusal(
+/// What the entry of a vehicle asks beside its plan, as a lane takes it.
+#[derive(Drop)]
+struct Entry {
+    lane: LaneNo,
+    depart: Step,
+    size: Size,
+}
+
+/// What the entry of a vehicle asks beside its plan, whose links are good. Takes no memory.
+///
+/// # Errors
+/// `TooMany` where 1,000,000 were admitted, or else what is wrong with its plan, or else with its lane, or else `BadRange` for its
+/// depart or its size.
+fn entry_of(
     streets: &Streets,
     plan: &[u64],
     lane: u64,
     depart: u64,
     size: u64,
-) -> Option<Refusal>
-    ensures refusal { TellsEntry streets.now plan.now lane depart size result }
-    ensures few { result ≡ None → length streets.now.ends < most_vehicles }
-    ensures planned { result ≡ None → plan_refusal streets.now.tiles.network plan.now lane ≡ None }
-    ensures in_time { result ≡ None → depart ≤ last_clock }
-    ensures sized { result ≡ None → is_within 1 most_size size ≡ true }
+) -> Result<Entry, Refusal>
+    ensures entry { IfOk result (λ entry. (entry.lane ≡ lane) × (entry.depart ≡ depart) × (entry.size ≡ size)) }
+    ensures taken { OnOk result (TellsEntry streets.now plan.now lane depart size None) }
+    ensures few { OnOk result (length streets.now.ends < most_vehicles) }
+    ensures planned { OnOk result (plan_refusal streets.now.tiles.network plan.now lane ≡ None) }
+    ensures refused { IfErr result (λ refusal. TellsEntry streets.now plan.now lane depart size (Some refusal)) }
 {
     if streets.admitted() >= MOST_VEHICLES {
-        return Some(Refusal::TooMany);
+        return Err(Refusal::TooMany);
     }
     match streets.network().plan_refusal(plan, lane) {
-        Some(PlanFault::Bad { at }) => Some(Refusal::BadPlan { at }),
-        Some(PlanFault::Lane) => Some(Refusal::NoLane),
-        _ if depart > u64::from(LAST_CLOCK) || Size::new(size).is_none() => {
-            Some(Refusal::BadRange)
-        }
-        _ => None,
+        Some(PlanFault::Bad { at }) => return Err(Refusal::BadPlan { at }),
+        Some(PlanFault::Lane) => return Err(Refusal::NoLane),
+        _ => {}
+    }
+    match Size::new(size) {
+        Some(size) if depart <= u64::from(LAST_CLOCK) => Ok(Entry {
+            lane: lane_number(streets.network(), lane),
+            depart: depart as Step,
+            size,
+        }),
+        _ => Err(Refusal::BadRange),
     }
 }
 
@@ -56,22 +72,16 @@ pub(crate) fn enter(
     ensures serves { Serves (Some streets.old) (Enter plan.now lane depart size) result.0 result.1 (Some streets.new) }
     ensures refused { KeepsRefused (Some streets.old) result.0 (Some streets.new) }
 {
-    if let Some(refusal) = entry_refusal(streets, plan, lane, depart, size) {
-        return (Reply::Refused(refusal), Outcome::Whole);
-    }
-    let Some(size) = Size::new(size) else {
-        unreachable!();
+    let entry = match entry_of(streets, plan, lane, depart, size) {
+        Ok(entry) => entry,
+        Err(refusal) => return (Reply::Refused(refusal), Outcome::Whole),
     };
     let Ok(links) = streets.network().links_of(alloc, plan) else {
         return (Reply::Starved, Outcome::Starved);
     };
-    let lane = lane_number(streets.network(), lane);
-    let car = streets.admitted();
-    match streets.admit(alloc, links, lane, depart as Step, size) {
-        Ok(()) => {
-            let car = u64::from(car);
-            (Reply::Entered { car }, Outcome::Whole)
-        }
+    let car = u64::from(streets.admitted());
+    match streets.admit(alloc, links, entry.lane, entry.depart, entry.size) {
+        Ok(()) => (Reply::Entered { car }, Outcome::Whole),
         Err(_) => (Reply::Starved, Outcome::Starved),
     }
 }

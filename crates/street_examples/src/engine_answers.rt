@@ -31,7 +31,7 @@ pub fn answers<R: Threads + Sync>(
     let mut writer = Counted::new(Vec::new(alloc));
     let mut session = EngineSession::new(rt, Engine::new(alloc, workers, gate));
     match run_engine(alloc, &mut session, &mut reader, &mut writer) {
-        Ok(_tally) => Ok(writer.stream),
+        Ok(_tally) => Ok(writer.into_inner()),
         Err(_fault) => Err(io::Error::from(io::ErrorKind::OutOfMemory)),
     }
 }

@@ -3,9 +3,9 @@ use Rattle.std.proofs.Common.{◌≡◌, ◌≢◌, ℕ, ◌+◌, ◌<◌, List,
 use Rattle.std.proofs.lemmas.List.{get_or-set_other}
 use Rattle.street_base.specs.declared.car.Car.{Car}
 use Rattle.street_yard.specs.Prelude.{YardEntry, Yard, list_at, entry_at, car_of, list_on, list_set, car_set, without, first_or, Has, IsLoose, IsWhole}
-use Rattle.street_yard.proofs.YardLemmas.{list-written, list-other, on_within, without-is, car_of-list_set, car_of-car_set, car_of-car_set_other, entry-kept_set, entry-kept_set_other}
+use Rattle.street_yard.proofs.YardLemmas.{list-written, list-other, on_within, without-is, car_of-list_set, car_of-car_set, car_of-car_set_other, entry-kept_set, entry-kept_set_other, head-of, head-on}
 use Rattle.street_lanes.specs.Prelude.{Touches, LetsGo, Departs}
-use Rattle.street_lanes.proofs.Cars.{head-of, head-on, cars-none, get-first, cars-rest}
+use Rattle.street_lanes.proofs.Cars.{cars-none, get-first, cars-rest}
 use Rattle.street_lanes.proofs.Touches.{touch-none-at-all, touch-trans, touch-wider, touch-more, relisted, taken, written}
 use Rattle.street_lanes.proofs.Loose.{loose-but, loose-placed, loose-gone}
 use Rattle.street_lanes.proofs.ComesIn.{comes-in}

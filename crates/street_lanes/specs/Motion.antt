@@ -1,10 +1,12 @@
 -- Motion on one lane of a tile.
 -- Source: this profile.
-use Rattle.std.specs.Prelude.{◌≡◌, ◌⊎◌, ℕ, ◌+◌, ◌<◌, ◌≤◌, nat_lt, List, [], ◌∷◌, ◌++◌, length, map, Bool, true, false, ◌&&◌, Option, Some, if◌then◌else◌, option_to_list}
+use Rattle.std.specs.Prelude.{◌≡◌, ◌⊎◌, ℕ, ◌+◌, ◌<◌, ◌≤◌, nat_lt, List, [], ◌∷◌, ◌++◌, length, map, Bool, true, false, ◌&&◌, Option, Some}
+use Rattle.std.specs.Prelude.{if◌then◌else◌, option_to_list}
 use Rattle.std.specs.Option.{option_map_or}
 use Rattle.street_base.specs.declared.car.Car.{Car}
 use Rattle.street_base.specs.declared.net.NetSpec.{NetSpec}
-use Rattle.street_base.specs.Prelude.{last_clock, link_at, end_node, serves, Vehicle, vehicle_of, next_link, is_on_last, SignalPlan, is_green, Traffic, lane_at, plan_at, drive_on, leaver_of, driven_lane, arrival}
+use Rattle.street_base.specs.Prelude.{last_clock, link_at, end_node, serves, Vehicle, vehicle_of, next_link, is_on_last, SignalPlan, is_green}
+use Rattle.street_base.specs.Prelude.{Traffic, lane_at, plan_at, drive_on, leaver_of, driven_lane, arrival}
 use Rattle.street_base.specs.declared.names.Place.{Place}
 use Rattle.street_gap.specs.declared.closures.Stretch.{Stretch}
 use Rattle.street_yard.specs.Prelude.{Yard, list_at, car_of, IsLane}

@@ -116,7 +116,12 @@ fn settle(yard: &mut Yard, buffer: ListId, key: Key, ready: Step) -> Option<CarN
 
 /// The motion of a lane in a step; answers who has arrived, and each watch notes who went past it. Nothing is done where nobody is
 /// in its cells. The exit is asked for the front vehicle alone, since it matters to nobody else.
-fn drive(yard: &mut Yard, dice: &mut Dice, leg: &Leg<'_>, watches: &mut [Watch]) -> Option<CarNo>
+fn drive_leg(
+    yard: &mut Yard,
+    dice: &mut Dice,
+    leg: &Leg<'_>,
+    watches: &mut [Watch],
+) -> Option<CarNo>
     requires link { leg.now.at.link < length leg.now.net.now.links }
     requires few { leg.now.lane < 2 ^ 32 }
     requires listed { buffer_list leg.now.lane < length yard.old.lists }
@@ -213,6 +218,6 @@ impl Lanes {
             signal,
             clock,
         };
-        drive(&mut self.yard, &mut self.dice, &leg, watches)
+        drive_leg(&mut self.yard, &mut self.dice, &leg, watches)
     }
 }

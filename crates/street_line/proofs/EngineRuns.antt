@@ -5,16 +5,18 @@ use Rattle.street_base.specs.declared.reply.Outcome.{Outcome}
 use Rattle.street_base.specs.declared.reply.Reply.{Reply}
 use Rattle.street_base.specs.Prelude.{Runs, State}
 use Rattle.street_stream.specs.declared.tally.FaultKind.{FaultKind}
+use Rattle.street_stream.specs.declared.tally.RunFault.{RunFault}
 use Rattle.street_stream.specs.declared.tally.Tally.{Tally}
+use Rattle.street_stream.specs.Lines.{lines_of}
 use Rattle.street_engine.specs.Prelude.{EngineView, StandsFor}
 use Rattle.street_line.specs.declared.service.Served.{Served}
 use Rattle.street_line.specs.declared.service.Served.TheVariants.{Answered, Full}
-use Rattle.street_line.specs.Faults.{Breaks}
-use Rattle.street_line.specs.Runs.{Said, silent, faulty, calls, said, Done, Goes}
+use Rattle.street_line.specs.Faults.{Breaks, ServedInPart}
+use Rattle.street_line.specs.Runs.{Said, silent, faulty, calls, said, Done, Goes, ServedWhole}
 use Rattle.street_line.specs.Engines.{EngineServes, MachineServes, called, commands_of}
 
 -- one command
-served-machine : (before : EngineView) (command : Command) (served : Served) (after : EngineView) → EngineServes before command served after → (old : State) → StandsFor before old → (new : State) × MachineServes old command served new × StandsFor after new
+pub served-machine : (before : EngineView) (command : Command) (served : Served) (after : EngineView) → EngineServes before command served after → (old : State) → StandsFor before old → (new : State) × MachineServes old command served new × StandsFor after new
 served-machine before command (Answered reply) after h old stands =
     let step = h.1 old stands in
     (step.0, (h.0, step.1), step.2)
@@ -58,6 +60,24 @@ breaks-machine before held text after holds kind tally h old stands =
       },
       told.2,
     )
+
+-- a whole run, and one that a fault ended
+pub whole-machine : (before : EngineView) (unread held : Option (List ℕ)) (after : EngineView) (left holds : Option (List ℕ)) (tally : Tally)
+    → ServedWhole EngineServes before unread held after left holds tally → (old : State) → StandsFor before old
+    → (new : State) × StandsFor after new × ServedWhole MachineServes old unread held new left holds tally
+whole-machine before unread held after left holds tally run old stands =
+    let told = goes-machine before (lines_of run.text) run.out after run.served old stands in (
+      told.0,
+      told.2,
+      record { text = run.text; out = run.out; read = run.read; at_end = run.at_end; served = told.1; written = run.written; counted = run.counted },
+    )
+
+pub part-machine : (before : EngineView) (unread held : Option (List ℕ)) (after : EngineView) (left holds : Option (List ℕ)) (fault : RunFault)
+    → ServedInPart EngineServes before unread held after left holds fault → (old : State) → StandsFor before old
+    → (new : State) × StandsFor after new × ServedInPart MachineServes old unread held new left holds fault
+part-machine before unread held after left holds fault run old stands =
+    let told = breaks-machine before held run.text after holds fault.kind fault.tally run.breaks old stands in
+    (told.0, told.2, record { text = run.text; read = run.read; breaks = told.1 })
 
 -- ---- a run
 

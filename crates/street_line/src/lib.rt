@@ -8,8 +8,12 @@
 //! functions are shown here too.
 #![tactic(auto)]
 
+mod again;
 mod answers;
 mod engines;
+mod kept;
+mod kept_laws;
+mod kept_runs;
 mod laws;
 mod runs;
 mod script;
@@ -17,8 +21,12 @@ mod server;
 mod service;
 mod session;
 mod sessions;
+mod teams;
 
+pub use again::{Again, AgainFault, run_again};
 pub use engines::{EngineSession, run_engine};
+pub use kept_laws::{kept_lines_are_the_machines, kept_lines_lead_there};
+pub use kept_runs::{KeptFault, run_kept};
 pub use laws::lines_are_a_run;
 pub use runs::{run_lines, run_lines_within};
 pub use script::{Script, answer_all, run_scripts};
@@ -27,3 +35,4 @@ pub use session::DeskSession;
 pub use sessions::run_alone;
 pub use street_stream::{Counted, FaultKind, RunFault, Tally};
 pub use street_text::{LineFault, command_reads_back, command_text, read_command, reply_text};
+pub use teams::{TeamSession, run_team};

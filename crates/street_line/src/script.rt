@@ -91,8 +91,8 @@ pub fn answer_all<R: Threads + Wait + Sync, D: Read>(
 {
     let mut writer = Counted::new(Vec::new(alloc));
     match run_lines(alloc, session, reader, &mut writer) {
-        Ok(_) => (writer.stream, None),
-        Err(fault) => (writer.stream, Some(in_memory(fault.kind))),
+        Ok(_) => (writer.into_inner(), None),
+        Err(fault) => (writer.into_inner(), Some(in_memory(fault.kind))),
     }
 }
 

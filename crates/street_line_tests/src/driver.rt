@@ -65,7 +65,7 @@ fn drive(alloc: Global, text: &[u8], reads: u32) -> (Result<Tally, Halt<Stopped>
     let mut handler = Answerer { lines: 0 };
     let limits = Limits { line: 3, reads };
     let run = drive_lines(alloc, &mut handler, &mut reader, &mut writer, limits);
-    (run, writer.stream)
+    (run, writer.into_inner())
 }
 
 #[test]
@@ -174,6 +174,6 @@ fn replies_are_out_before_the_next_read(rt: HostRuntime) -> Result<(), Fail> {
         return Err(Fail::from("the run broke"));
     };
     assert!(rt; counts(&tally) == (5, 5, 5, 15));
-    assert!(rt; reader.is_prompt() && !reader.stream.is_late);
+    assert!(rt; reader.is_prompt() && !reader.into_inner().is_late);
     Ok(())
 }

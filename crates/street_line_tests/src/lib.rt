@@ -9,6 +9,8 @@ mod desk;
 #[cfg(test)]
 mod driver;
 #[cfg(test)]
+mod kept;
+#[cfg(test)]
 mod line_commands;
 #[cfg(test)]
 mod lines;

@@ -49,7 +49,7 @@ fn served(alloc: Global, text: &[u8]) -> (Option<Tally>, Vec<u8>, u64) {
     let mut writer = Counted::new(Vec::new(alloc));
     let mut toy = Toy { clock: 0 };
     let tally = run_lines(alloc, &mut toy, &mut reader, &mut writer).ok();
-    (tally, writer.stream, toy.clock)
+    (tally, writer.into_inner(), toy.clock)
 }
 
 #[test]

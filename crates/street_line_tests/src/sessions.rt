@@ -48,7 +48,7 @@ fn one_call_of<R: Threads + Wait + Abort + AllocGlobal + Sync>(
     let tally = run_alone(rt.alloc(), &mut session, &mut reader, &mut writer).ok();
     let pass = session.into_pass();
     let journal = journal_of(rt, desk, pass);
-    (tally, writer.stream, journal.len())
+    (tally, writer.into_inner(), journal.len())
 }
 
 /// What is written to the lines of `one_call`.

@@ -69,7 +69,7 @@ fn sent_into(alloc: Global, room: Room) -> (Sent, Vec<u8>) {
         failures: writer.failures(),
         empty_writes: writer.empty_writes(),
     };
-    (told, writer.stream.taken)
+    (told, writer.into_inner().taken)
 }
 
 /// Those seven bytes go out so.

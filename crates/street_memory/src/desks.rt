@@ -103,7 +103,7 @@ fn tape_of(alloc: Global, journal: &Journal) -> Option<Vec<u8>> {
     for _try in 0..2 {
         let mut writer = Counted::new(Vec::new(alloc));
         if write_tape(alloc, journal, &mut writer).is_ok() {
-            return Some(writer.stream);
+            return Some(writer.into_inner());
         }
     }
     None
@@ -115,7 +115,7 @@ fn upgraded(alloc: Global, tape: &[u8]) -> Option<Vec<u8>> {
         let mut reader = Counted::new(tape);
         let mut writer = Counted::new(Vec::new(alloc));
         if upgrade(alloc, &mut reader, &mut writer).is_ok() {
-            return Some(writer.stream);
+            return Some(writer.into_inner());
         }
     }
     None
@@ -139,7 +139,7 @@ fn replay_once<R: Threads + Sync>(
             admitted,
             waiting,
             ..
-        } => Some((writer.stream, *admitted, *waiting)),
+        } => Some((writer.into_inner(), *admitted, *waiting)),
         _ => None,
     }
 }

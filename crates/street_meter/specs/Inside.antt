@@ -1,5 +1,6 @@
 -- What the fields of a meter stand for, and its next rows.
 use Rattle.std.specs.Prelude.{◌≡◌, ℕ, ◌+◌, ◌*◌, ◌^◌, ◌<◌, ◌≤◌}
+use Rattle.street_base.specs.Prelude.{last_clock, most_period}
 use Rattle.street_base.specs.declared.reply.MeterRow.{MeterRow}
 use Rattle.street_base.specs.declared.reply.RunningRow.{RunningRow}
 use Rattle.street_meter.specs.declared.meter.Meter.TheInside.{Inside}
@@ -18,9 +19,9 @@ shown m = record {
 -- the running row is not full, its sums are those of so many steps, and 32 full rows have room
 pub record IsSound (m : Inside) : Type 0 where
   pub some : 1 ≤ m.period
-  pub short : m.period ≤ 100000
+  pub short : m.period ≤ most_period
   pub steps : m.running.steps < m.period
-  pub clock : m.running.start + m.running.steps ≤ 1000000000
+  pub clock : m.running.start + m.running.steps ≤ last_clock
   pub passes : m.running.passes ≤ m.running.steps * 2 ^ 32
   pub speeds : m.running.speeds ≤ m.running.steps * 2 ^ 32
   pub occupied : m.running.occupied ≤ m.running.steps * 2 ^ 32

@@ -92,7 +92,7 @@ fn ended(row: RunningRow) -> MeterRow
 
 /// The running row with one step more.
 fn with_step(row: RunningRow, passes: u32, speeds: u32, occupied: u32) -> RunningRow
-    requires steps { row.steps < 100000 }
+    requires steps { row.steps < most_period }
     requires passes { row.passes ≤ row.steps * 2 ^ 32 }
     requires speeds { row.speeds ≤ row.steps * 2 ^ 32 }
     requires occupied { row.occupied ≤ row.steps * 2 ^ 32 }

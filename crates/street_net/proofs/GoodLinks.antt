@@ -1,7 +1,7 @@
 -- What a network without a fault keeps, link by link and turn by turn.
 use Rattle.std.proofs.Common.{◌≡◌, ℕ, ◌<◌, ◌≤◌, Bool, true, false, length, get_or, take, refl, sym, ◌∙◌, ap, subst, arith, Option, Some, None, is_some, slice_get, ◌==◌, option_and_then}
 use Rattle.std.specs.List.{list_any}
-use Rattle.std.proofs.lemmas.Bool.{and_parts, or_parts, ltb-true, leb-true, eqb-true}
+use Rattle.std.proofs.lemmas.Bool.{and_parts, or_parts, ltb-true, leb-true, eqb-true, not-false}
 use Rattle.std.proofs.lemmas.List.Quantifiers.{position-Some}
 use Rattle.std.proofs.lemmas.Option.{slice_get_within, get_or_from_slice_get}
 use Rattle.street_base.specs.declared.net.LinkSpec.{LinkSpec}
@@ -10,7 +10,7 @@ use Rattle.street_base.specs.declared.net.NetSpec.{NetSpec}
 use Rattle.street_base.specs.Prelude.{most_lanes, most_limit, no_link, link_at, link_of, node_of, names_link, is_within, is_bad_link, is_bad_turn, is_same_turn, link_with, joins, network_fault}
 use Rattle.street_base.proofs.OptionLemmas.{holds-some}
 use Rattle.street_base.proofs.FirstBadLemmas.{first_bad-none}
-use Rattle.street_base.proofs.FaultLemmas.{not-false, turns-good, links-good}
+use Rattle.street_base.proofs.FaultLemmas.{turns-good, links-good}
 use Rattle.street_net.proofs.KeyLemmas.{find-position}
 
 -- what an identifier of a link finds

@@ -6,12 +6,6 @@ use Rattle.std.proofs.lemmas.List.{length-map, map-append, take_more}
 use Rattle.std.proofs.lemmas.List.Folds.{find_at}
 use Rattle.std.proofs.lemmas.Option.{slice_get_past, slice_get-get_or}
 
-pub eqb-sym : (a b : ℕ) → eqb a b ≡ eqb b a
-eqb-sym a b = elim (cases_Bool (eqb b a)) as (λ _. eqb a b ≡ eqb b a) [
-  | inl t ↦ eq-eqb a b (sym (eqb-true b a t)) ∙ sym t
-  | inr f ↦ ne_eqb a b (λ e. eqb-false b a f (sym e)) ∙ sym f
-]
-
 module _ {X K : Type 0} (key : X → K) (p : K → Bool) (q : X → Bool) (same : (x : X) → p (key x) ≡ q x) where
   pub list_any-keys : (xs : List X) → list_any p (map key xs) ≡ list_any q xs
   list_any-keys [] = refl

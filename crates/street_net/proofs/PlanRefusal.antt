@@ -4,10 +4,9 @@ use Rattle.std.specs.List.{cons_option}
 use Rattle.street_base.specs.declared.net.NetSpec.{NetSpec}
 use Rattle.street_base.specs.Prelude.{most_plan, link_of, plan_links, is_bad_entry, first_bad, plan_fault}
 use Rattle.std.specs.Option.{option_map_or}
-use Rattle.std.proofs.lemmas.Bool.{true≢false, cond-true, cond-false, ne_eqb, le-leb, cases_lt}
+use Rattle.std.proofs.lemmas.Bool.{true≢false, cond-true, cond-false, ne_eqb, le-leb, cases_lt, not-false}
 use Rattle.std.proofs.lemmas.List.{take_more, take_all}
 use Rattle.std.proofs.lemmas.List.Elements.{filter_map-append}
-use Rattle.street_base.proofs.FaultLemmas.{not-false}
 use Rattle.street_base.proofs.FirstBadLemmas.{first_bad-none as faultless-each}
 use Rattle.street_net.specs.declared.faults.PlanFault.{PlanFault}
 use Rattle.street_net.specs.declared.faults.PlanFault.TheVariants.{Bad, Lane}

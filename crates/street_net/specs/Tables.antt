@@ -1,6 +1,7 @@
 -- What a network keeps beside its lists, so that a step searches for nothing in them.
 -- Source: the order of release is this profile's.
-use Rattle.std.specs.Prelude.{◌≡◌, ℕ, ◌+◌, ◌*◌, ◌<◌, ◌≤◌, ◌==◌, List, map, filter, length, nat_lt, Bool, true, false, ◌&&◌, ◌||◌, Some, None, Vec, unwrap_or, slice_index_or, ◌≢◌, Option, MatchOption, Contains}
+use Rattle.std.specs.Prelude.{◌≡◌, ℕ, ◌+◌, ◌*◌, ◌<◌, ◌≤◌, ◌==◌, List, map, filter, length, nat_lt, Bool, true, false, ◌&&◌, ◌||◌, Some, None, Vec}
+use Rattle.std.specs.Prelude.{unwrap_or, slice_index_or, ◌≢◌, Option, MatchOption, Contains}
 use Rattle.std.specs.Option.{option_map_or}
 use Rattle.std.specs.List.{between}
 use Rattle.std.specs.declared.alloc.Global.{Global}
@@ -131,7 +132,8 @@ AreKept net pairs = (link : ℕ) (d : Pair) → link < length pairs → IsKept n
 -- ---- a network
 
 -- a load without faults, with its identifiers in order and its tables
-pub record IsChecked (net : NetSpec) (nodes links : List ℕ) (briefs : List Brief) (in_lanes : List (Vec Place Global)) (starts : List ℕ) (turns : List Turn) (nexts : List Pair) : Type 0 where
+pub record IsChecked (net : NetSpec) (nodes links : List ℕ) (briefs : List Brief) (in_lanes : List (Vec Place Global)) (starts : List ℕ)
+    (turns : List Turn) (nexts : List Pair) : Type 0 where
   pub faultless : network_fault net ≡ None
   pub nodes_listed : nodes ≡ ids_of_nodes net.nodes
   pub links_listed : links ≡ ids_of_links net.links

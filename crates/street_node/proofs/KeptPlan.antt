@@ -1,7 +1,7 @@
 -- A plan that is kept, against the plan that was told.
 use Rattle.std.proofs.Common.{◌≡◌, ℕ, zero, suc, ◌+◌, ◌<◌, ◌≤◌, ◌%◌, Bool, true, List, [], ◌∷◌, map, length, get_or, refl, sym, ◌∙◌, ap, subst, arith, inl, inr, None, nat_lt, sum_by, ◌==◌}
 use Rattle.std.specs.List.{list_all}
-use Rattle.std.proofs.lemmas.Bool.{cases_Bool, cond-true, cond-false, and_parts, or_parts, leb-true, leb-false, ltb-true, ltb-false, both_ways}
+use Rattle.std.proofs.lemmas.Bool.{cases_Bool, cond-true, cond-false, and_parts, or_parts, leb-true, leb-false, ltb-true, ltb-false, both_ways, not-false}
 use Rattle.std.proofs.lemmas.List.{length-map, get_or-map}
 use Rattle.std.proofs.lemmas.List.Sums.{sum_by-cons}
 use Rattle.std.proofs.lemmas.Option.{none-some}
@@ -11,7 +11,6 @@ use Rattle.street_base.specs.declared.command.PhaseSpec.{PhaseSpec}
 use Rattle.street_base.specs.Prelude.{most_phases, most_duration, first_bad, is_within, is_bad_phase, is_turn_to, offset_fault, signal_fault, network_fault, phase_of_spec, plan_of, Phase, cycle}
 use Rattle.street_base.proofs.OptionLemmas.{option_or-none}
 use Rattle.street_base.proofs.FirstBadLemmas.{first_bad-none}
-use Rattle.street_base.proofs.FaultLemmas.{not-false}
 use Rattle.street_node.specs.Prelude.{plan_seen, shown, IsSamePhase, ShowsAs}
 use Rattle.street_node.proofs.Shown.{shown-at, shown-same, durations-same}
 use Rattle.street_node.proofs.GreenTurns.{no-lane}

@@ -2,13 +2,14 @@
 use Rattle.std.proofs.Common.{◌≡◌, ℕ, ◌+◌, ◌<◌, Bool, true, false, List, length, take, refl, sym, ◌∙◌, ap, arith, inl, inr, Option, Some, None, slice_get, slice_set, not, ◌&&◌, ◌||◌}
 use Rattle.std.specs.Option.{option_map_or}
 use Rattle.std.specs.List.{list_any}
+use Rattle.std.proofs.Math.Bool.{or-false}
 use Rattle.std.proofs.lemmas.Bool.{cases_Bool, both_ways}
 use Rattle.std.proofs.lemmas.List.{get_or-set_same, get_or-set_other}
 use Rattle.std.proofs.lemmas.List.Folds.{list_any_more}
 use Rattle.std.proofs.lemmas.Option.{slice_get_within, get_or_from_slice_get}
 use Rattle.street_base.specs.declared.names.Place.{Place}
 use Rattle.street_base.specs.Prelude.{is_place, is_free, Traffic, lane_at, target, may_give, gives}
-use Rattle.street_base.proofs.ReleaseLemmas.{is_place-same, is_place-refl, is_place-swap}
+use Rattle.street_base.proofs.ReleaseLemmas.{same_place, is_place-same, is_place-refl, is_place-swap}
 use Rattle.street_net.specs.Prelude.{slot_of, mouth}
 use Rattle.street_node.specs.Prelude.{IsWalk, AreShut}
 use Rattle.street_node.proofs.BufferWalk.{goes-at}
@@ -17,15 +18,7 @@ pub slot-apart : (p q : Place) → p.lane < 2 → q.lane < 2 → is_place p q �
 slot-apart p q a b other e =
     let link : p.link ≡ q.link = omega arith in
     let lane : p.lane ≡ q.lane = omega arith in
-    let same : p ≡ q = made p q link lane in
-    both_ways (is_place p q) other (ap (is_place p) (sym same) ∙ is_place-refl p)
-  where
-    made : (p q : Place) → p.link ≡ q.link → p.lane ≡ q.lane → p ≡ q
-    made p q a b = ap (λ (n : ℕ). record { link = n; lane = p.lane }) a ∙ ap (λ (n : ℕ). record { link = q.link; lane = n }) b
-
-or_none : (b : Bool) → (b || false) ≡ b
-or_none true = refl
-or_none false = refl
+    both_ways (is_place p q) other (ap (is_place p) (sym (same_place p q link lane)) ∙ is_place-refl p)
 
 never : (a b : Bool) → (a && not (b || true)) ≡ false
 never true true = refl
@@ -49,7 +42,7 @@ module _ (m : Traffic) (Among : Place → Type 0) (ps : List Place) (k : ℕ) (f
   shut-led p led = rw (any-more (may_give m p) ps k from at, led) (never (is_free (lane_at m p).track 0) (list_any (may_give m p) (take k ps)))
 
   shut-else : (p : Place) → Among p → may_give m p from ≡ false → mouth mouths p ≡ is_free (lane_at m p).track 0 && not (list_any (may_give m p) (take (k + 1) ps))
-  shut-else p there none = shut p there ∙ sym (rw (any-more (may_give m p) ps k from at, none) (ap (λ (b : Bool). is_free (lane_at m p).track 0 && not b) (or_none (list_any (may_give m p) (take k ps)))))
+  shut-else p there none = shut p there ∙ sym (rw (any-more (may_give m p) ps k from at, none) (ap (λ (b : Bool). is_free (lane_at m p).track 0 && not b) (or-false (list_any (may_give m p) (take k ps)))))
 
   -- no mouth that is open would have been shut by it
   shut-stays : ((p : Place) → Among p → may_give m p from ≡ true → mouth mouths p ≡ false) → AreShut m Among ps (k + 1) mouths

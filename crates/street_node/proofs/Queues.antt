@@ -4,20 +4,10 @@ use Rattle.street_base.specs.declared.car.Car.{Car}
 use Rattle.street_base.specs.Prelude.{vehicle_of, on_next_link}
 use Rattle.street_yard.specs.Prelude.{YardEntry, Yard, list_at, entry_at, car_of, list_on, first_or, Has, Away, IsApart, IsWhole}
 use Rattle.street_yard.proofs.Keys.{has-away}
-use Rattle.street_yard.proofs.YardLemmas.{some_car, mapped-same, head_is, on_has_entry, parts_apart, without-is}
+use Rattle.street_yard.proofs.YardLemmas.{some_car, mapped-same, head-of, head-on, head-held, parts_apart, without-is}
 use Rattle.street_node.specs.Prelude.{queued_of, queue_of, sent_on, SendsOn}
 
 -- ---- the front
-
-pub head-of : (y : Yard) (n k : ℕ) → first_or (list_at y n) None ≡ Some k → (rest : List ℕ) × (list_at y n ≡ k ∷ rest)
-head-of y n k h = head_is k (list_at y n) (Some k) refl (sym h)
-
--- the front is on its list
-pub head-on : (y : Yard) (n k : ℕ) → IsWhole y → first_or (list_at y n) None ≡ Some k → list_on y k ≡ Some n
-head-on y n k whole h = let at = head-of y n k h in whole.names k n ([], at.0, at.1)
-
-pub head-held : (y : Yard) (n k : ℕ) → IsWhole y → first_or (list_at y n) None ≡ Some k → IsSome (entry_at y k)
-head-held y n k whole h = on_has_entry y k n (head-on y n k whole h)
 
 pub queue-first : (y : Yard) (n k : ℕ) (car : Car) → first_or (list_at y n) None ≡ Some k → car_of y k ≡ Some car → slice_get (queue_of y n) 0 ≡ Some (queued_of car)
 queue-first y n k car h held = let at = head-of y n k h in rw (at.1, held) refl

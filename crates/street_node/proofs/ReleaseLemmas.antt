@@ -14,7 +14,8 @@ use Rattle.street_yard.specs.Prelude.{YardEntry, Yard, entry_at, list_on, IsApar
 use Rattle.street_node.specs.Prelude.{queued_of, queue_of, IsWalk, AreShut, Crossing, crossing, crossing_in, queue_after, IsAhead, IsFront, Shows, SendsOn, ReleasesFirst, lane_to, lane_from, way_out}
 use Rattle.street_node.specs.declared.release.Released.{Released}
 use Rattle.street_node.proofs.Joins.{Joins, turn-joins, way-joins, joins-ahead, ahead-few}
-use Rattle.street_node.proofs.Queues.{head-on, queue-first, queue-sent, queue-other, sent-vehicle, apart-at}
+use Rattle.street_yard.proofs.YardLemmas.{head-on}
+use Rattle.street_node.proofs.Queues.{queue-first, queue-sent, queue-other, sent-vehicle, apart-at}
 use Rattle.street_node.proofs.BufferWalk.{stays}
 use Rattle.street_node.proofs.LaneWalk.{filter-holds, lanes-walk}
 use Rattle.street_node.proofs.Mouths.{shut-start, shut-none, shut-before, shut-behind, gives-by}

@@ -13,7 +13,7 @@ use Rattle.street_yard.specs.Prelude.{YardEntry, Yard, car_of, list_on, IsApart,
 use Rattle.street_node.specs.Prelude.{queue_of, HaveShortPlans, lane_to, way_out, IsFront, SendsOn, Shows, ReleasesFirst, crossing}
 use Rattle.street_node.specs.declared.release.Released.{Released}
 use Rattle.street_node.proofs.Joins.{Joins, way-joins}
-use Rattle.street_node.proofs.Queues.{head-on}
+use Rattle.street_yard.proofs.YardLemmas.{head-on}
 use Rattle.street_node.proofs.Sends.{Walked, walk-start, walk-stays, walk-sends, untouched}
 use Rattle.street_node.proofs.ReleaseLemmas.{goes-start, goes-none, goes-shut, goes-sent}
 

@@ -1,6 +1,7 @@
 -- The release phase of one node: which fronts go, whereto, and what is left.
 -- Source: this profile.
-use Rattle.std.specs.Prelude.{◌≡◌, ◌≢◌, ℕ, ◌+◌, ◌<◌, ◌==◌, nat_le, min, List, [], ◌∷◌, ◌++◌, length, map, drop, take, filter_map, Bool, true, false, Option, Some, None, option_map, option_and_then, slice_get, slice_set, slice_index_or, if◌then◌else◌, All}
+use Rattle.std.specs.Prelude.{◌≡◌, ◌≢◌, ℕ, ◌+◌, ◌<◌, ◌==◌, nat_le, min, List, [], ◌∷◌, ◌++◌, length, map, drop, take, filter_map, Bool, true, false}
+use Rattle.std.specs.Prelude.{Option, Some, None, option_map, option_and_then, slice_get, slice_set, slice_index_or, if◌then◌else◌, All}
 use Rattle.std.specs.Option.{option_map_or}
 use Rattle.street_base.specs.declared.net.NetSpec.{NetSpec}
 use Rattle.street_base.specs.declared.car.Car.{Car}
@@ -22,7 +23,8 @@ pub record Crossing : Type 0 where
 
 -- who crosses from this buffer: if its front goes, the one who enters the lane that it leads to
 abbrev pub crossing : Traffic → Place → Option Crossing
-crossing m from = if gives m from then option_and_then (λ to. option_map (λ v. record { from = from; to = to; vehicle = v }) (entering m to)) (target m from) else None
+crossing m from =
+    if gives m from then option_and_then (λ to. option_map (λ v. record { from = from; to = to; vehicle = v }) (entering m to)) (target m from) else None
 
 -- the queue of this buffer after the releases
 abbrev pub queue_after : Traffic → Place → List Queued
@@ -72,7 +74,12 @@ sent_on limit e = record e { car = record e.car { speed = min e.car.speed limit;
 
 -- where a front goes, if it is ready
 abbrev pub way_out : NetSpec → ℕ → Place → Option Queued → Option Place
-way_out net clock from = option_and_then (λ q. if nat_le q.ready clock then option_and_then (λ next. option_map (λ t. record { link = next; lane = t.next_lane }) (turn net from next)) (next_link q.vehicle) else None)
+way_out net clock from =
+    option_and_then
+    (λ q.
+    if nat_le q.ready clock
+    then option_and_then (λ next. option_map (λ t. record { link = next; lane = t.next_lane }) (turn net from next)) (next_link q.vehicle)
+    else None)
 
 -- the first of a list, with its turn
 pub record IsFront (net : NetSpec) (y : Yard) (from : Place) (n : ℕ) (r : Released) : Type 0 where
@@ -117,7 +124,8 @@ pub record ReleasesFirst (net : NetSpec) (node : ℕ) (ns : List ℕ) (m : Traff
   pub crossings : map (crossing_in new) more ≡ map (λ c. Some c) (filter_map (crossing m) (take k (in_places net node)))
 
 -- the releases of a node: in any traffic that the lists and the mouths stand for, those of its buffers
-pub record Releases (net : NetSpec) (node clock : ℕ) (ns : List ℕ) (old new : Yard) (open_old open_new : List Bool) (before after : List Released) : Type 0 where
+pub record Releases (net : NetSpec) (node clock : ℕ) (ns : List ℕ) (old new : Yard) (open_old open_new : List Bool)
+    (before after : List Released) : Type 0 where
   pub more : List Released
   pub told : after ≡ before ++ more
   pub sends : Sends net ns old new more

@@ -4,7 +4,8 @@
 //! is looked at. The status is 1 where the run was cut off.
 #![tactic(auto)]
 
-ghost use Rattle.std.specs.Prelude.{None, IfOk, IfErr, OnOk};
+ghost use Rattle.std.specs.Prelude.{◌≡◌, None, IfOk, IfErr, OnOk, OnErr};
+ghost use Rattle.std.specs.Process.{exit_status};
 ghost use Rattle.street_stream.specs.Streams.{IsFlushed, IsFresh, IsPrompt};
 ghost use Rattle.street_stream.specs.Faults.{IsCaused};
 ghost use Rattle.street_line.specs.Streams.{MachineServesAll, MachineServesFirst};
@@ -20,7 +21,15 @@ use street_line::{Counted, EngineSession, RunFault, Tally, run_engine};
 fn main(rt: HostRuntime) -> ExitCode {
     let mut reader = Counted::new(rt.reader());
     let mut writer = Counted::new(io::writer(&rt));
-    match serve(&rt, rt.alloc(), &mut reader, &mut writer) {
+    end_with(serve(&rt, rt.alloc(), &mut reader, &mut writer))
+}
+
+/// Ends with what became of a run.
+fn end_with(run: Result<Tally, RunFault>) -> ExitCode
+    ensures done { OnOk run (exit_status result ≡ 0) }
+    ensures broken { OnErr run (exit_status result ≡ 1) }
+{
+    match run {
         Ok(_tally) => ExitCode::SUCCESS,
         Err(_fault) => ExitCode::FAILURE,
     }

@@ -306,7 +306,7 @@ fn is_driven(rt: &impl Abort, yard: &Yard, key: Key, cell: u32, speed: u8) {
 fn write_fields(rt: &impl Abort, yard: &mut Yard, key: Key) {
     is_driven(rt, yard, key, 0, 0);
     is_named(rt, yard, key);
-    yard.drive(key, 9, 4);
+    yard.set_motion(key, 9, 4);
     is_driven(rt, yard, key, 9, 4);
     is_named(rt, yard, key);
     yard.set_cell(key, 11);

@@ -4,7 +4,7 @@ use Rattle.std.specs.List.{list_all, range_with_len}
 use Rattle.street_base.specs.declared.car.Car.{Car}
 use Rattle.street_base.specs.Prelude.{Vehicle, vehicle_of, next_link, Track, is_closed, Changing}
 use Rattle.street_yard.specs.Prelude.{YardEntry, Yard, entry_at, car_of, first_or, IsWhole, cell_at, rear_at, vehicle_with, IsFalling}
-use Rattle.street_yard.proofs.YardLemmas.{cell_is}
+use Rattle.street_yard.proofs.YardLemmas.{cell_is, some_car}
 use Rattle.street_yard.proofs.FallingLists.{falling-split}
 use Rattle.street_gap.specs.Prelude.{is_in, closed_marks, entrance_after, are_open, IsWithin, lesser, IsPosition}
 use Rattle.street_gap.specs.declared.closures.Stretch.{Stretch}
@@ -43,11 +43,7 @@ room-by y count lane seen cell rear speed r same ok is =
 
 -- the car of an entry
 pub its_car : (y : Yard) (key : ℕ) → IsSome (entry_at y key) → (car : Car) × (car_of y key ≡ Some car)
-its_car y key h = of_entry (entry_at y key) h
-  where
-    of_entry : (o : Option YardEntry) → IsSome o → (car : Car) × (option_map (λ (e : YardEntry). e.car) o ≡ Some car)
-    of_entry None h = absurd (cc)
-    of_entry (Some e) h = (e.car, refl)
+its_car y key h = some_car (entry_at y key) h
 
 -- the same car
 some-vehicle : (car : Car) (v : Vehicle) (o : Option Car) → o ≡ Some car → option_map vehicle_of o ≡ Some v → vehicle_of car ≡ v

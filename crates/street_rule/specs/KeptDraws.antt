@@ -26,7 +26,8 @@ pub record Asked (n lane slow : ℕ) (old new : ChaCha) (bits : ℕ) : Type 0 wh
 -- the bits are those of the vehicle and the block that they are kept for, where the odds leave a choice
 pub record IsKept (key : List ℕ) (dawdle change : ℕ) (kept : KeptDraws) : Type 0 where
   pub changes : 0 < change → change < 1000 → (i : ℕ) → i < 32 → (kept.bits / 2 ^ (2 * i) % 2 == 1) ≡ is_drawn key change kept.number (kept.block * 64 + 2 * i)
-  pub dawdles : 0 < dawdle → dawdle < 1000 → (i : ℕ) → i < 32 → (kept.bits / 2 ^ (2 * i + 1) % 2 == 1) ≡ is_drawn key dawdle kept.number (kept.block * 64 + 2 * i + 1)
+  pub dawdles : 0 < dawdle → dawdle < 1000 → (i : ℕ) → i < 32
+      → (kept.bits / 2 ^ (2 * i + 1) % 2 == 1) ≡ is_drawn key dawdle kept.number (kept.block * 64 + 2 * i + 1)
 
 -- all that is kept is right, whatever its place
 pub record IsSound (key : List ℕ) (seed dawdle change : ℕ) (dawdle_drawn change_drawn : Bool) (kept aside : List KeptDraws) : Type 0 where

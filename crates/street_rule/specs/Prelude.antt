@@ -7,5 +7,6 @@ pub use Rattle.street_rule.specs.Odds.{Odds}
 pub use Rattle.street_rule.specs.Pass.{Drives, HasMoved, IsExit, Leaves, MovesAlong, MovesList, MovesOn, drive_with, left_lists, stopped}
 pub use Rattle.street_rule.specs.Relinked.{Carries, HasNoMarks, IsFallen, IsOnEither, KeepsOthers, Relinks, is_marked, is_unmarked, put_all, put_falling}
 pub use Rattle.street_rule.specs.Road.{IsRoad, IsRoadLane, Road, RoadLane, lane_of, lane_seen, length_of, lists_of, no_lane, track_of}
-pub use Rattle.street_rule.specs.Sight.{Decides, DecidesAt, IsOutlook, TellsRoom, changing_of, decision, gap_between, gap_down, gap_up, has_room, has_room_between, odds_of, wishes_with}
+pub use Rattle.street_rule.specs.Sight.{Decides, DecidesAt, IsOutlook, TellsRoom, changing_of, decision, gap_between, gap_down, gap_up, has_room}
+pub use Rattle.street_rule.specs.Sight.{has_room_between, odds_of, wishes_with}
 pub use Rattle.street_rule.specs.Watch.{HasRoom, IsReady, noted, watched}

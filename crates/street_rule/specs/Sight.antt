@@ -42,11 +42,13 @@ wishes_with changing lane count gap x speed next =
     then option_map_or (λ n. zone_wish (changing.serves lane n) (changing.serves (1 - lane) n) (nat_lt gap (speed + 1))) next (nat_lt gap (speed + 1))
     else nat_lt gap (speed + 1)
 
--- there is room for it on the other lane, with its front at x and its rear at r: the cells beside are free, the gap ahead long enough to speed up, the gap behind above 5
+-- there is room for it on the other lane, with its front at x and its rear at r: the cells
+-- beside are free, the gap ahead long enough to speed up, the gap behind above 5
 abbrev pub has_room : Track → ℕ → ℕ → ℕ → Bool
 has_room other x r speed = are_free other r x && (nat_lt (speed + 1) (free_ahead other x) && nat_lt 5 (free_behind other r))
 
--- the same, by the rear of the vehicle above the front's cell beside, the cell of the one at it or below, and whether the cells beside are open; who covers one of them leaves no gap
+-- the same, by the rear of the vehicle above the front's cell beside, the cell of the one at it or
+-- below, and whether the cells beside are open; who covers one of them leaves no gap
 abbrev pub has_room_between : List Bool → Bool → Option ℕ → Option ℕ → ℕ → ℕ → ℕ → Bool
 has_room_between closed is_open above below x r speed =
     is_open && (nat_lt (speed + 1) (gap_up closed above x) && nat_lt 5 (gap_down below r))

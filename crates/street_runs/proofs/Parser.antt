@@ -1,19 +1,20 @@
 -- What the parser reads of the command, and what it finds, as rows.
-use Rattle.std.proofs.Common.{IfErr, Ok, Err, Result, inr, ◌≡◌, ◌∙◌, ◌≤◌, suc, List, [], ◌∷◌, Option, None, Some, All, IsSome, false, true, length, map, codes, is_some, option_map, true≢false, unwrap_or, vec_len, refl, sym, ap, subst, arith, append_assoc, append-nil}
+use Rattle.std.proofs.Common.{Bool, IfErr, Ok, Err, Result, inl, inr, ◌⊎◌, ◌≡◌, ◌∙◌, ◌≤◌, suc, List, [], ◌∷◌, Option, None, Some, All, IsSome, false, true, length, map, codes, is_some, option_map, true≢false, unwrap_or, vec_len, refl, sym, ap, subst, arith, append_assoc, append-nil}
 use Rattle.std.specs.Borrow.{Bor}
 use Rattle.clap.proofs.OnLiterals.{clap_on_literals}
-use Rattle.clap.specs.Words.{AddsArg, AddsInTurn, App, FailsBy, HasMatchesOf, Row, Rule, Text, app_of, fault_of, first_of, first_value, found_of, is_simple, is_simple_and_free, matched_of, matches_of, raw_values, rows_of, rule_of}
+use Rattle.clap.specs.Words.{AddsArg, AddsInTurn, App, FailsBy, HasKind, HasMatchesOf, IsAmong, Row, Rule, Text, app_of, fault_of, first_of, first_value, found_of, is_simple, kind_of, is_simple_and_free, matched_of, matches_of, raw_values, rows_of, rule_of}
 use Rattle.clap.proofs.WalkLemmas.{first_value-rows, raw_values-rows}
 use Rattle.clap.specs.declared.error.Error.{Error}
 use Rattle.clap.specs.declared.error.kind.ErrorKind.{ErrorKind}
+use Rattle.clap.specs.declared.error.kind.ErrorKind.TheVariants.{DisplayHelp, DisplayVersion, OutOfMemory}
 use Rattle.clap.specs.declared.builder.arg.Arg.{Arg}
 use Rattle.clap.specs.declared.builder.command.Command.{Command}
 use Rattle.clap.specs.declared.parser.matches.ArgMatches.{ArgMatches}
 use Rattle.street_runs.specs.declared.words.Options.{Options}
 use Rattle.street_runs.specs.declared.words.WordsFault.{WordsFault}
 use Rattle.street_runs.specs.declared.words.WordsFault.TheVariants.{Bad, Help, Starved}
-use Rattle.street_runs.specs.Parser.{IsCountIfSaid, IsFit, IsFound, IsNumberOf, IsRefused, IsUnfit, found_in, refusals_of, scripts_in, streetsim_app, with_rules}
-use Rattle.street_runs.specs.Words.{StandsTogether, TellsBad}
+use Rattle.street_runs.specs.Parser.{IsCountIfSaid, IsFit, IsFound, IsNumberOf, IsRefused, IsUnfit, found_in, is_said, refusals_of, scripts_in, streetsim_app, with_rules}
+use Rattle.street_runs.specs.Words.{IsDeskless, StandsAlone, StandsTogether, TellsBad, ToldOf}
 
 -- a command to which arguments are added in turn has their rules behind its own
 pub rules_in_turn : (old : Command) (args : List Arg) (new : Command) → AddsInTurn AddsArg old args new → All (λ a. a.global ≡ false) args
@@ -56,16 +57,47 @@ pub found_rows : (matches : ArgMatches) (found : Options) → IsNumberOf (first_
     → option_map (λ s. s.now) found.tape ≡ first_value (found_of matches) (codes "tape")
     → option_map (λ s. s.now) found.replay ≡ first_value (found_of matches) (codes "replay")
     → option_map (λ s. s.now) found.upgrade ≡ first_value (found_of matches) (codes "upgrade")
+    → found.endless ≡ is_said (first_of (codes "endless") (rows_of (found_of matches)))
+    → option_map (λ s. s.now) found.keep ≡ first_value (found_of matches) (codes "keep")
+    → found.unsynced ≡ is_said (first_of (codes "unsynced") (rows_of (found_of matches)))
     → map (λ s. s.now) found.scripts.items ≡ unwrap_or (option_map raw_values (matched_of (found_of matches) (codes "script"))) []
     → IsFound (rows_of (found_of matches)) found
-found_rows matches found workers calls tape replay upgrade scripts = record {
+found_rows matches found workers calls tape replay upgrade endless keep unsynced scripts = record {
   workers = workers;
   calls = calls;
   tape = first_row matches (codes "tape") _ tape;
   replay = first_row matches (codes "replay") _ replay;
   upgrade = first_row matches (codes "upgrade") _ upgrade;
+  endless = endless;
+  keep = first_row matches (codes "keep") _ keep;
+  unsynced = unsynced;
   scripts = scripts ∙ ap (λ (o : Option (List Text)). unwrap_or o []) (raw_values-rows (found_of matches) (codes "script"));
 }
+
+-- an option that no word says is in no row
+pub unsaid : (matches : ArgMatches) (name : Text) (word : Option (Bor Text)) (says : Bool) → option_map (λ s. s.now) word ≡ first_value (found_of matches) name
+    → says ≡ is_some word → says ≡ false → first_of name (rows_of (found_of matches)) ≡ None
+unsaid matches name None says is asks quiet = sym (first_row matches name _ is)
+unsaid matches name (Some x) says is asks quiet = absurd (true≢false (sym asks ∙ quiet))
+
+-- and one that is in no row is said by none
+pub silent : (matches : ArgMatches) (name : Text) (word : Option (Bor Text)) (says : Bool) → option_map (λ s. s.now) word ≡ first_value (found_of matches) name
+    → says ≡ is_some word → first_of name (rows_of (found_of matches)) ≡ None → says ≡ false
+silent matches name None says is asks none = asks
+silent matches name (Some x) says is asks none = absurd (true≢false (ap is_some (first_row matches name _ is ∙ none)))
+
+-- the rows tell that there is no desk where the options do
+rows_deskless : (rows : List Row) (found : Options) → IsFound rows found → IsDeskless found → (is_said (first_of (codes "endless") rows) ≡ true) ⊎ IsSome (first_of (codes "keep") rows)
+rows_deskless rows found is (inl endless) = inl (sym is.endless ∙ endless)
+rows_deskless rows found is (inr keep) = inr (subst IsSome is.keep (some_there found.keep keep))
+
+found_deskless : (rows : List Row) (found : Options) → IsFound rows found → (is_said (first_of (codes "endless") rows) ≡ true) ⊎ IsSome (first_of (codes "keep") rows) → IsDeskless found
+found_deskless rows found is (inl endless) = inl (is.endless ∙ endless)
+found_deskless rows found is (inr keep) = inr (some_back found.keep (subst IsSome (sym is.keep) keep))
+
+-- without a desk no word says how many calls there are
+pub unsaid_calls : (rows : List Row) (found : Options) → IsFound rows found → IsFit rows → IsDeskless found → first_of (codes "calls") rows ≡ None
+unsaid_calls rows found is fits none = (fits.alone (rows_deskless rows found is none)).0
 
 -- words that are told bad are not fit
 pub bad_unfit : (kind : ErrorKind) (fault : WordsFault) (fit : Type 0) → TellsBad kind fault → (fit → ⊥) → IsUnfit fit fault
@@ -76,18 +108,27 @@ bad_unfit kind Starved fit bad unfit = tt
 -- options that stand together are found in fit words
 pub fit : (rows : List Row) (found : Options) → vec_len found.scripts ≡ length found.scripts.items → IsFound rows found
     → IsCountIfSaid 64 (first_of (codes "workers") rows) → IsCountIfSaid 1000000 (first_of (codes "calls") rows)
-    → StandsTogether found → vec_len found.scripts ≤ 1024 → IsFit rows
-fit rows found whole is workers calls stands few =
+    → StandsTogether found → StandsAlone found → vec_len found.scripts ≤ 1024 → (IsDeskless found → first_of (codes "calls") rows ≡ None) → IsFit rows
+fit rows found whole is workers calls together alone few unsaid =
     let many : length (scripts_in rows) ≡ vec_len found.scripts = sym (ap length is.scripts) ∙ length_of_texts found.scripts.items ∙ sym whole in
     let none : vec_len found.scripts ≡ 0 → scripts_in rows ≡ [] = λ e. sym is.scripts ∙ none_of_texts found.scripts.items (sym whole ∙ e) in
     record {
       workers = workers;
       calls = calls;
       scripts = omega (arith, many, few);
-      replay = λ some. let alone = stands.replay (some_back found.replay (subst IsSome (sym is.replay) some)) in
-          (sym is.tape ∙ ap (option_map (λ s. s.now)) alone.0, none alone.1);
-      upgrade = λ some. let alone = stands.upgrade (some_back found.upgrade (subst IsSome (sym is.upgrade) some)) in
-          (sym is.tape ∙ ap (option_map (λ s. s.now)) alone.0, sym is.replay ∙ ap (option_map (λ s. s.now)) alone.1, none alone.2);
+      replay = λ some. let only = together.replay (some_back found.replay (subst IsSome (sym is.replay) some)) in
+          (sym is.tape ∙ ap (option_map (λ s. s.now)) only.0, none only.1);
+      upgrade = λ some. let only = together.upgrade (some_back found.upgrade (subst IsSome (sym is.upgrade) some)) in
+          (sym is.tape ∙ ap (option_map (λ s. s.now)) only.0, sym is.replay ∙ ap (option_map (λ s. s.now)) only.1, none only.2);
+      alone = λ said. let deskless = found_deskless rows found is said in
+          let only = alone.alone deskless in (
+            unsaid deskless,
+            sym is.tape ∙ ap (option_map (λ s. s.now)) only.0,
+            sym is.replay ∙ ap (option_map (λ s. s.now)) only.1,
+            sym is.upgrade ∙ ap (option_map (λ s. s.now)) only.2,
+            none only.3,
+          );
+      unsynced = λ said. subst IsSome is.keep (some_there found.keep (alone.unsynced (is.unsynced ∙ said)));
     }
 
 -- and options that are found in fit words stand together
@@ -95,10 +136,23 @@ pub stands : (rows : List Row) (found : Options) → vec_len found.scripts ≡ l
 stands rows found whole is fits =
     let none : scripts_in rows ≡ [] → vec_len found.scripts ≡ 0 = λ e. whole ∙ sym (length_of_texts found.scripts.items) ∙ ap length (is.scripts ∙ e) in
     record {
-      replay = λ some. let alone = fits.replay (subst IsSome is.replay (some_there found.replay some)) in
-          (none_back found.tape (is.tape ∙ alone.0), none alone.1);
-      upgrade = λ some. let alone = fits.upgrade (subst IsSome is.upgrade (some_there found.upgrade some)) in
-          (none_back found.tape (is.tape ∙ alone.0), none_back found.replay (is.replay ∙ alone.1), none alone.2);
+      replay = λ some. let only = fits.replay (subst IsSome is.replay (some_there found.replay some)) in
+          (none_back found.tape (is.tape ∙ only.0), none only.1);
+      upgrade = λ some. let only = fits.upgrade (subst IsSome is.upgrade (some_there found.upgrade some)) in
+          (none_back found.tape (is.tape ∙ only.0), none_back found.replay (is.replay ∙ only.1), none only.2);
+    }
+
+pub stands_alone : (rows : List Row) (found : Options) → vec_len found.scripts ≡ length found.scripts.items → IsFound rows found → IsFit rows → StandsAlone found
+stands_alone rows found whole is fits =
+    let none : scripts_in rows ≡ [] → vec_len found.scripts ≡ 0 = λ e. whole ∙ sym (length_of_texts found.scripts.items) ∙ ap length (is.scripts ∙ e) in
+    record {
+      alone = λ deskless. let only = fits.alone (rows_deskless rows found is deskless) in (
+        none_back found.tape (is.tape ∙ only.1),
+        none_back found.replay (is.replay ∙ only.2),
+        none_back found.upgrade (is.upgrade ∙ only.3),
+        none only.4,
+      );
+      unsynced = λ said. some_back found.keep (subst IsSome (sym is.keep) (fits.unsynced (sym is.unsynced ∙ said)));
     }
 
 pub few : (rows : List Row) (found : Options) → vec_len found.scripts ≡ length found.scripts.items → IsFound rows found → IsFit rows → vec_len found.scripts ≤ 1024
@@ -132,3 +186,19 @@ pub options_refused : (words : List Text) (rows : List Row) (result : Result Opt
     → IfErr result (IsUnfit (IsFit rows)) → IfErr result (IsRefused words)
 options_refused words rows (Ok options) taken same unfit = tt
 options_refused words rows (Err fault) taken same unfit = unfit_refused words rows fault taken same unfit
+
+-- what the parser refuses is told so
+pub told_refused : (words : List Text) (error : Error) (fault : WordsFault) → ToldOf error fault → HasKind (refusals_of words) error → IsRefused words fault
+told_refused words error (Bad text) told (inl memory) = absurd (told.3 memory)
+told_refused words error (Bad text) told (inr among) = inl (subst (λ (e : Error). IsAmong (kind_of e) (refusals_of words)) (sym told.0) among)
+told_refused words error (Help text) (same, inl help) (inl memory) = absurd (other_kinds (sym help ∙ memory))
+  where
+    other_kinds : DisplayHelp ≡ OutOfMemory → ⊥
+    other_kinds e = absurd (cc)
+told_refused words error (Help text) (same, inl help) (inr among) = inl (subst (λ (k : ErrorKind). IsAmong k (refusals_of words)) help among)
+told_refused words error (Help text) (same, inr version) (inl memory) = absurd (other_kinds (sym version ∙ memory))
+  where
+    other_kinds : DisplayVersion ≡ OutOfMemory → ⊥
+    other_kinds e = absurd (cc)
+told_refused words error (Help text) (same, inr version) (inr among) = inr (subst (λ (k : ErrorKind). IsAmong k (refusals_of words)) version among)
+told_refused words error Starved told kind = tt

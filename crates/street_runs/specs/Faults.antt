@@ -8,6 +8,10 @@ use Rattle.std.specs.declared.io.Error.{Error}
 use Rattle.std.specs.declared.io.ErrorKind.TheVariants as io
 use Rattle.street_stream.specs.declared.tally.FaultKind.{FaultKind}
 use Rattle.street_stream.specs.declared.tally.FaultKind.TheVariants as kind
+use Rattle.street_line.specs.declared.again.AgainFault.{AgainFault}
+use Rattle.street_line.specs.declared.again.AgainFault.TheVariants as again
+use Rattle.street_line.specs.declared.kept_runs.KeptFault.{KeptFault}
+use Rattle.street_line.specs.declared.kept_runs.KeptFault.TheVariants as kept
 use Rattle.street_tape.specs.declared.fault.TapeFault.{TapeFault}
 use Rattle.street_tape.specs.declared.fault.TapeFault.TheVariants as tape
 use Rattle.street_runs.specs.declared.fault.Fault.{Fault}
@@ -39,6 +43,17 @@ abbrev pub fault_of_tape : TapeFault → Bor (List ℕ) → Bor (List ℕ) → F
 fault_of_tape tape.NotTape from to = BadTape 1
 fault_of_tape (tape.BadEntry line) from to = BadTape line
 fault_of_tape (tape.Run fault) from to = fault_of_run fault.kind from to
+
+-- lines of a kept file are done again; a line that is no command, or is refused, is told as that of a tape
+abbrev pub again_fault : AgainFault → Bor (List ℕ) → Fault
+again_fault (again.Run kind) name = fault_of_run kind name name
+again_fault (again.BadLine line) name = BadTape line
+
+-- a session that is kept in a file reads standard input and writes standard output
+abbrev pub IsKeptFault : KeptFault → Bor (List ℕ) → Fault → Type 0
+IsKeptFault (kept.Run kind) name fault = (input : Bor (List ℕ)) × (output : Bor (List ℕ)) × (fault ≡ fault_of_run kind input output)
+    × (input.now ≡ codes "standard input") × (output.now ≡ codes "standard output")
+IsKeptFault kept.Log name fault = fault ≡ Write name
 
 -- the system had no memory for a file
 abbrev pub LacksMemory : Error → Type 0

@@ -1,16 +1,20 @@
 -- What the parser makes of the words of the command line, by its own rules.
 -- Source: this profile.
-use Rattle.std.specs.Prelude.{◌≡◌, ◌≤◌, ◌⊎◌, ◌++◌, ℕ, List, [], ◌∷◌, Option, None, Some, codes, length, option_map, IsSome, unwrap_or, map, ⊤}
+use Rattle.std.specs.Prelude.{◌≡◌, ◌≤◌, ◌⊎◌, ◌++◌, ℕ, List, [], ◌∷◌, Bool, true, false, Option, None, Some, bytes_eq, codes, length, option_map, IsSome, unwrap_or, map, ⊤}
 use Rattle.std.specs.Str.Parse.{IsNumeral, digits_value, without_leading_plus}
 use Rattle.clap.specs.Lexer.{usize_max}
 use Rattle.clap.specs.Words.{App, IsAmong, Kinds, Row, Rule, Text, all_of, fault_of, first_of, kind_of, matches_of, new_app, new_rule}
-use Rattle.clap.specs.declared.builder.action.ArgAction.TheVariants.{Append, Set}
-use Rattle.clap.specs.declared.error.kind.ErrorKind.TheVariants.{DisplayHelp}
+use Rattle.clap.specs.declared.builder.action.ArgAction.TheVariants.{Append, Set, SetTrue}
+use Rattle.clap.specs.declared.error.kind.ErrorKind.TheVariants.{DisplayHelp, DisplayVersion}
 use Rattle.street_runs.specs.declared.words.Options.{Options}
 use Rattle.street_runs.specs.declared.words.WordsFault.{WordsFault}
 use Rattle.street_runs.specs.declared.words.WordsFault.TheVariants.{Bad, Help, Starved}
 
 -- ---- the command
+
+-- a word with no value
+abbrev pub flag_rule : Text → Rule
+flag_rule name = record (new_rule name) { long = Some name; action = Some SetTrue }
 
 -- an option with one value
 abbrev pub option_rule : Text → Rule
@@ -27,15 +31,20 @@ script_rule = record (new_rule (codes "script")) {
 -- the options, and then the scripts
 abbrev pub streetsim_rules : List Rule
 streetsim_rules = option_rule (codes "workers") ∷ option_rule (codes "calls") ∷ option_rule (codes "tape") ∷ option_rule (codes "replay")
-    ∷ option_rule (codes "upgrade") ∷ script_rule ∷ []
+    ∷ option_rule (codes "upgrade") ∷ flag_rule (codes "endless")
+    ∷ option_rule (codes "keep") ∷ flag_rule (codes "unsynced") ∷ script_rule ∷ []
 
 -- a command that has more arguments
 abbrev pub with_rules : App → List Rule → App
 with_rules app rules = record app { top = record app.top { rules = app.top.rules ++ rules } }
 
+-- a command that tells its version
+abbrev pub with_version : App → App
+with_version app = record app { top = record app.top { has_version = true } }
+
 -- all that a parse reads of the command `streetsim`
 abbrev pub streetsim_app : App
-streetsim_app = with_rules (new_app (codes "streetsim")) streetsim_rules
+streetsim_app = with_rules (with_version (new_app (codes "streetsim"))) streetsim_rules
 
 -- ---- what it finds
 
@@ -61,6 +70,11 @@ abbrev pub IsCountIfSaid : ℕ → Option Text → Type 0
 IsCountIfSaid most None = ⊤
 IsCountIfSaid most (Some word) = IsCount most word
 
+-- a word with no value is said
+abbrev pub is_said : Option Text → Bool
+is_said None = false
+is_said (Some word) = bytes_eq word (codes "true")
+
 -- what was found is fit: the numbers are in their ranges, and the options stand together
 pub record IsFit (rows : List Row) : Type 0 where
   pub workers : IsCountIfSaid 64 (first_of (codes "workers") rows)
@@ -69,6 +83,10 @@ pub record IsFit (rows : List Row) : Type 0 where
   pub replay : IsSome (first_of (codes "replay") rows) → (first_of (codes "tape") rows ≡ None) × (scripts_in rows ≡ [])
   pub upgrade : IsSome (first_of (codes "upgrade") rows)
       → (first_of (codes "tape") rows ≡ None) × (first_of (codes "replay") rows ≡ None) × (scripts_in rows ≡ [])
+  pub alone : (is_said (first_of (codes "endless") rows) ≡ true) ⊎ IsSome (first_of (codes "keep") rows)
+      → (first_of (codes "calls") rows ≡ None) × (first_of (codes "tape") rows ≡ None) × (first_of (codes "replay") rows ≡ None)
+      × (first_of (codes "upgrade") rows ≡ None) × (scripts_in rows ≡ [])
+  pub unsynced : is_said (first_of (codes "unsynced") rows) ≡ true → IsSome (first_of (codes "keep") rows)
 
 -- the number of an option: what its word says in decimal digits, or the default where the option is not used
 abbrev pub IsNumberOf : Option Text → ℕ → ℕ → Type 0
@@ -82,6 +100,9 @@ pub record IsFound (rows : List Row) (found : Options) : Type 0 where
   pub tape : option_map (λ s. s.now) found.tape ≡ first_of (codes "tape") rows
   pub replay : option_map (λ s. s.now) found.replay ≡ first_of (codes "replay") rows
   pub upgrade : option_map (λ s. s.now) found.upgrade ≡ first_of (codes "upgrade") rows
+  pub endless : found.endless ≡ is_said (first_of (codes "endless") rows)
+  pub keep : option_map (λ s. s.now) found.keep ≡ first_of (codes "keep") rows
+  pub unsynced : found.unsynced ≡ is_said (first_of (codes "unsynced") rows)
   pub scripts : map (λ s. s.now) found.scripts.items ≡ scripts_in rows
 
 -- there are options: the parser takes the words, and what it finds is fit
@@ -96,8 +117,9 @@ IsUnfit fit (Bad error) = fit → ⊥
 IsUnfit fit (Help error) = ⊥
 IsUnfit fit Starved = ⊤
 
--- there are none: the parser refuses the words, as it does where they ask for help, or takes them and finds what is not fit, or memory ran out
+-- there are none: the parser refuses the words, as it does where they ask for help or the version, or takes them and finds what is not fit, or memory
+-- ran out
 abbrev pub IsRefused : List Text → WordsFault → Type 0
 IsRefused words (Bad error) = IsAmong (kind_of error) (refusals_of words) ⊎ ((refusals_of words ≡ []) × (IsFit (found_in words) → ⊥))
-IsRefused words (Help error) = IsAmong DisplayHelp (refusals_of words)
+IsRefused words (Help error) = IsAmong DisplayHelp (refusals_of words) ⊎ IsAmong DisplayVersion (refusals_of words)
 IsRefused words Starved = ⊤

@@ -1,10 +1,10 @@
 -- What the words of the command line ask for.
 -- Source: this profile.
-use Rattle.std.specs.Prelude.{◌≡◌, ◌≢◌, ◌≤◌, vec_len, IsSome, None, ⊤}
+use Rattle.std.specs.Prelude.{◌≡◌, ◌≢◌, ◌≤◌, ◌⊎◌, vec_len, IsSome, None, true, ⊤}
 use Rattle.clap.specs.Words.{kind_of}
 use Rattle.clap.specs.declared.error.Error.{Error}
 use Rattle.clap.specs.declared.error.kind.ErrorKind.{ErrorKind}
-use Rattle.clap.specs.declared.error.kind.ErrorKind.TheVariants.{DisplayHelp, OutOfMemory}
+use Rattle.clap.specs.declared.error.kind.ErrorKind.TheVariants.{DisplayHelp, DisplayVersion, OutOfMemory}
 use Rattle.street_runs.specs.declared.words.Options.{Options}
 use Rattle.street_runs.specs.declared.words.WordsFault.{WordsFault}
 use Rattle.street_runs.specs.declared.words.WordsFault.TheVariants.{Bad, Help, Starved}
@@ -22,10 +22,23 @@ pub record StandsTogether (found : Options) : Type 0 where
   pub replay : IsSome found.replay → (found.tape ≡ None) × (vec_len found.scripts ≡ 0)
   pub upgrade : IsSome found.upgrade → (found.tape ≡ None) × (found.replay ≡ None) × (vec_len found.scripts ≡ 0)
 
+-- there is no desk: no end of calls is asked for, or the session is kept
+abbrev pub IsDeskless : Options → Type 0
+IsDeskless found = (found.endless ≡ true) ⊎ IsSome found.keep
+
+-- neither scripts nor tapes are there
+abbrev pub HasNoCompany : Options → Type 0
+HasNoCompany found = (found.tape ≡ None) × (found.replay ≡ None) × (found.upgrade ≡ None) × (vec_len found.scripts ≡ 0)
+
+-- where there is no desk there are neither scripts nor tapes; only a file in which a session is kept is not synced
+pub record StandsAlone (found : Options) : Type 0 where
+  pub alone : IsDeskless found → HasNoCompany found
+  pub unsynced : found.unsynced ≡ true → IsSome found.keep
+
 -- the fault that tells of the parser's error
 abbrev pub ToldOf : Error → WordsFault → Type 0
-ToldOf error (Bad text) = (text ≡ error) × (kind_of error ≢ DisplayHelp) × (kind_of error ≢ OutOfMemory)
-ToldOf error (Help text) = (text ≡ error) × (kind_of error ≡ DisplayHelp)
+ToldOf error (Bad text) = (text ≡ error) × (kind_of error ≢ DisplayHelp) × (kind_of error ≢ DisplayVersion) × (kind_of error ≢ OutOfMemory)
+ToldOf error (Help text) = (text ≡ error) × ((kind_of error ≡ DisplayHelp) ⊎ (kind_of error ≡ DisplayVersion))
 ToldOf error Starved = kind_of error ≡ OutOfMemory
 
 -- the words are told bad, for a reason of this kind, or memory ran out

@@ -95,7 +95,7 @@ fn serve_alone<R: Threads + Wait + Sync, D: Read, W: Write>(
 }
 
 /// How many threads may run at once: one where the system does not tell.
-fn processors<R: Threads>(rt: &R) -> usize {
+pub(crate) fn processors<R: Threads>(rt: &R) -> usize {
     match thread::available_parallelism(rt) {
         Ok(count) => count.get(),
         Err(_) => 1,

@@ -3,10 +3,24 @@
 //! Source: this profile.
 ghost use Rattle.std.specs.Prelude.{◌≡◌, All, IfOk, false, map};
 ghost use Rattle.clap.specs.Words.{app_of, rule_of};
-ghost use Rattle.street_runs.specs.Parser.{option_rule, script_rule, streetsim_app, streetsim_rules};
+ghost use Rattle.street_runs.specs.Parser.{flag_rule, option_rule, script_rule, streetsim_app, streetsim_rules};
 
 use clap::{Arg, ArgAction, Command};
 use std::alloc::{AllocError, Global};
+
+/// The program's version.
+const VERSION: &str = "1.0.0";
+
+/// A word with no value.
+fn flag<'a>(alloc: Global, name: &'a str, help: &'a str) -> Arg<'a>
+    ensures rule { rule_of result ≡ flag_rule name.entry.now }
+    ensures local { result.global ≡ false }
+{
+    Arg::new(alloc, name)
+        .long(name)
+        .action(ArgAction::SetTrue)
+        .help(help)
+}
 
 /// An option with one value.
 fn option<'a>(alloc: Global, name: &'a str, value: &'a str, help: &'a str) -> Arg<'a>
@@ -69,6 +83,24 @@ fn arguments<'a>(alloc: Global) -> Result<Vec<Arg<'a>>, AllocError>
             "FILE",
             "Writes a tape anew in version 2 to standard output; with neither scripts, --tape nor --replay",
         ),
+        flag(
+            alloc,
+            "endless",
+            "Serves standard input without a journal, and so without an end of calls; \
+             with neither scripts, --calls nor tapes",
+        ),
+        option(
+            alloc,
+            "keep",
+            "FILE",
+            "Does the lines of FILE first, and keeps each line that changes something there before its reply goes out; \
+             without an end of calls, and with neither scripts, --calls nor tapes",
+        ),
+        flag(
+            alloc,
+            "unsynced",
+            "With --keep: FILE outlives the end of the program, and not that of the machine",
+        ),
         scripts(alloc),
     ]?)
 }
@@ -82,6 +114,7 @@ pub(crate) fn streetsim<'a>(alloc: Global) -> Result<Command<'a>, AllocError>
         .about(
             "A traffic simulator. Without scripts it serves standard input: one command a line, one reply a line, all of JSON",
         )
+        .version(VERSION)
         .bin_name("streetsim")?
         .args(arguments)
 }

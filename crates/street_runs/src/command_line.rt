@@ -1,11 +1,11 @@
 //! From the words of the command line to options.
 //!
 //! Source: this profile.
-ghost use Rattle.std.specs.Prelude.{◌≤◌, ◌<◌, ◌≡◌, [], IfErr, IfOk, IsNone, IsSome, SomeIff, codes, length, map, option_map, string_bytes, unwrap_or, vec_len};
+ghost use Rattle.std.specs.Prelude.{◌≤◌, ◌<◌, ◌≡◌, [], false, true, IfErr, IfOk, IsNone, IsSome, SomeIff, codes, length, map, option_map, string_bytes, unwrap_or, vec_len};
 ghost use Rattle.std.specs.Str.Parse.{digits_value, without_leading_plus};
 ghost use Rattle.clap.specs.Words.{app_of, first_of, found_of, matched_of, raw_values, rows_of};
-ghost use Rattle.street_runs.specs.Parser.{IsAsked, IsCount, IsCountIfSaid, IsFit, IsFound, IsNumberOf, IsRefused, IsUnfit, streetsim_app};
-ghost use Rattle.street_runs.specs.Words.{IsInRange, StandsTogether, TellsBad};
+ghost use Rattle.street_runs.specs.Parser.{IsAsked, IsCount, IsCountIfSaid, IsFit, IsFound, IsNumberOf, IsRefused, IsUnfit, is_said, streetsim_app};
+ghost use Rattle.street_runs.specs.Words.{HasNoCompany, IsDeskless, IsInRange, StandsAlone, StandsTogether, TellsBad};
 
 use crate::command::streetsim;
 use crate::words::{Options, WordsFault};
@@ -22,6 +22,10 @@ const WORKERS: u64 = 1;
 const MOST_CALLS: u64 = 1_000_000;
 
 const CALLS: u64 = 65_536;
+
+/// What is told of words that stand beside `--endless` or `--keep`.
+const COMPANY: &str =
+    "the arguments '--endless' and '--keep <FILE>' cannot be used with scripts, '--calls <N>', '--tape <FILE>', '--replay <FILE>' or '--upgrade <FILE>'";
 
 /// The most scripts.
 const MOST_SCRIPTS: usize = 1_024;
@@ -63,6 +67,16 @@ fn number(
     Err(bad_words(command, ErrorKind::ValueValidation, text.as_str()))
 }
 
+/// Whether a word with no value is said.
+fn is_said(matches: &ArgMatches<'_>, name: &str) -> bool
+    ensures { result ≡ is_said (first_of name.now (rows_of (found_of matches.now))) }
+{
+    match matches.get_str(name) {
+        Some(word) => word == "true",
+        None => false,
+    }
+}
+
 /// The fault that tells what is wrong with the words.
 fn bad_words(command: &mut Command<'_>, kind: ErrorKind, text: &str) -> WordsFault
     ensures { TellsBad kind result }
@@ -77,11 +91,12 @@ fn bad_words(command: &mut Command<'_>, kind: ErrorKind, text: &str) -> WordsFau
 ///
 /// # Errors
 ///
-/// `Help`, with the parser's text, where a word asks for help; `Bad`, with a text that says which word, where something
+/// `Help`, with the parser's text, where a word asks for help or the version; `Bad`, with a text that says which word, where something
 /// else is wrong; `Starved` where memory was refused. Of several wrong things the parser's is told first.
 pub fn options<'a>(alloc: Global, words: &'a [String]) -> Result<Options<'a>, WordsFault>
     ensures ranges { IfOk result IsInRange }
     ensures together { IfOk result StandsTogether }
+    ensures alone { IfOk result StandsAlone }
     ensures asked { IfOk result (IsAsked (map string_bytes words.now)) }
     ensures refused { IfErr result (IsRefused (map string_bytes words.now)) }
 {
@@ -99,6 +114,7 @@ fn asked<'a>(
 ) -> Result<Options<'a>, WordsFault>
     ensures ranges { IfOk result IsInRange }
     ensures together { IfOk result StandsTogether }
+    ensures alone { IfOk result StandsAlone }
     ensures asked { app_of command.old ≡ streetsim_app → IfOk result (IsAsked (map string_bytes words.now)) }
     ensures refused { app_of command.old ≡ streetsim_app → IfErr result (IsRefused (map string_bytes words.now)) }
 {
@@ -114,6 +130,7 @@ fn matched<'a>(
 ) -> Result<Options<'a>, WordsFault>
     ensures ranges { IfOk result IsInRange }
     ensures together { IfOk result StandsTogether }
+    ensures alone { IfOk result StandsAlone }
     ensures found { IfOk result (IsFound (rows_of (found_of matches.now))) }
     ensures fit { IfOk result (λ found. IsFit (rows_of (found_of matches.now))) }
     ensures unfit { IfErr result (IsUnfit (IsFit (rows_of (found_of matches.now)))) }
@@ -126,9 +143,16 @@ fn matched<'a>(
         tape: matches.get_str("tape"),
         replay: matches.get_str("replay"),
         upgrade: matches.get_str("upgrade"),
+        endless: is_said(matches, "endless"),
+        keep: matches.get_str("keep"),
+        unsynced: is_said(matches, "unsynced"),
         scripts: named_scripts(alloc, matches)?,
     };
-    match misfit(&found) {
+    if let Some((kind, text)) = misfit(&found) {
+        return Err(bad_words(command, kind, text));
+    }
+    let says_calls = matches.get_str("calls").is_some();
+    match misfit_alone(&found, says_calls) {
         Some((kind, text)) => Err(bad_words(command, kind, text)),
         None => Ok(found),
     }
@@ -167,6 +191,69 @@ fn misfit(found: &Options<'_>) -> Option<(ErrorKind, &'static str)>
     }
     if found.scripts.len() > MOST_SCRIPTS {
         return Some((ErrorKind::TooManyValues, "more than 1024 scripts"));
+    }
+    None
+}
+
+/// Whether there is no desk.
+fn is_deskless(found: &Options<'_>) -> bool
+    ensures is { result ≡ true → IsDeskless found.now }
+    ensures not { result ≡ false → IsDeskless found.now → ⊥ }
+{
+    if found.endless {
+        return true;
+    }
+    found.keep.is_some()
+}
+
+/// Whether scripts or tapes are there.
+fn has_company(found: &Options<'_>) -> bool
+    ensures not { result ≡ false → HasNoCompany found.now }
+    ensures is { result ≡ true → HasNoCompany found.now → ⊥ }
+{
+    if found.tape.is_some() {
+        return true;
+    }
+    if found.replay.is_some() {
+        return true;
+    }
+    if found.upgrade.is_some() {
+        return true;
+    }
+    !found.scripts.is_empty()
+}
+
+/// Whether no file is named that is not to be synced.
+fn lacks_file(found: &Options<'_>) -> bool
+    ensures is { result ≡ true → (found.now.unsynced ≡ true) × IsNone found.now.keep }
+    ensures not { result ≡ false → found.now.unsynced ≡ true → IsSome found.now.keep }
+{
+    if !found.unsynced {
+        return false;
+    }
+    found.keep.is_none()
+}
+
+/// What is wrong with these options where there is no desk, if anything is. `says_calls` tells whether the words say how many calls
+/// there are.
+fn misfit_alone(found: &Options<'_>, says_calls: bool) -> Option<(ErrorKind, &'static str)>
+    ensures none { IsNone result → StandsAlone found.now × (IsDeskless found.now → says_calls ≡ false) }
+    ensures some { IsSome result → StandsAlone found.now → IsDeskless found.now × (says_calls ≡ true) }
+{
+    if lacks_file(found) {
+        return Some((
+            ErrorKind::MissingRequiredArgument,
+            "the argument '--unsynced' is of use only with '--keep <FILE>'",
+        ));
+    }
+    if !is_deskless(found) {
+        return None;
+    }
+    if says_calls {
+        return Some((ErrorKind::ArgumentConflict, COMPANY));
+    }
+    if has_company(found) {
+        return Some((ErrorKind::ArgumentConflict, COMPANY));
     }
     None
 }

@@ -8,8 +8,11 @@
 mod clients;
 mod command;
 mod command_line;
+mod endless;
 mod fault;
+mod kept;
 mod laws;
+mod log_file;
 mod outputs;
 mod reasons;
 mod tapes;
@@ -17,7 +20,9 @@ mod words;
 
 pub use clients::{serve_input, serve_scripts};
 pub use command_line::options;
+pub use endless::serve_endless;
 pub use fault::Fault;
+pub use kept::serve_kept;
 pub use laws::{input_is_taped, scripts_are_told};
 pub use outputs::STANDARD_OUTPUT;
 pub use reasons::reason;

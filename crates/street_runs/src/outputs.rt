@@ -136,7 +136,7 @@ pub fn open_file<'a, R: Files<File = File>>(rt: &R, name: &'a str) -> Result<Fil
 }
 
 /// The fault of a file that could not be opened, perhaps because memory ran out.
-fn of_file<'a>(error: &io::Error, otherwise: Fault<'a>) -> Fault<'a>
+pub(crate) fn of_file<'a>(error: &io::Error, otherwise: Fault<'a>) -> Fault<'a>
     ensures starved { LacksMemory error.now → result ≡ OutOfMemory }
     ensures other { (LacksMemory error.now → ⊥) → result ≡ otherwise.entry }
     ensures either { IsFileFault otherwise.entry result }

@@ -22,6 +22,13 @@ pub struct Options<'a> {
     pub replay: Option<&'a str>,
     /// The tape to be upgraded. It stands with neither scripts, a tape to write nor one to be replayed.
     pub upgrade: Option<&'a str>,
+    /// Whether standard input is served without a desk: with no journal, and as many calls as come. It stands with neither scripts
+    /// nor tapes.
+    pub endless: bool,
+    /// The file in which the session is kept that standard input is. It stands with neither scripts nor tapes.
+    pub keep: Option<&'a str>,
+    /// Whether that file is not synced. It stands only with such a file.
+    pub unsynced: bool,
     /// The files whose lines are served, at most 1,024. Where there are none, standard input is served.
     pub scripts: Vec<&'a str>,
 }
@@ -33,7 +40,7 @@ pub enum WordsFault {
     /// together.
     #[error("bad arguments")]
     Bad(clap::Error),
-    /// Help is asked for: the parser's own text.
+    /// Help or the version is asked for: the parser's own text.
     #[error("{0}")]
     Help(clap::Error),
     /// Memory was refused.
@@ -46,7 +53,7 @@ impl From<clap::Error> for WordsFault {
 
     fn from(error: clap::Error) -> WordsFault {
         match error.kind() {
-            ErrorKind::DisplayHelp => WordsFault::Help(error),
+            ErrorKind::DisplayHelp | ErrorKind::DisplayVersion => WordsFault::Help(error),
             ErrorKind::OutOfMemory => WordsFault::Starved,
             _ => WordsFault::Bad(error),
         }

@@ -1,10 +1,14 @@
 //! The program `streetsim`: commands come as lines of JSON from standard input or from scripts, and replies go out as lines.
 //!
 //! All calls go through a desk, which keeps a journal of them; the journal can be kept as a tape, and a tape replayed or
-//! upgraded.
+//! upgraded. Where no end of calls is asked for there is no desk.
 #![tactic(auto)]
 
+ghost use Rattle.std.specs.Prelude.{◌≡◌, OnOk, IfErr};
+ghost use Rattle.std.specs.Process.{exit_status};
+ghost use Rattle.street_runs.specs.Faults.{status_of};
 ghost use Rattle.street_runs.specs.Words.{IsInRange};
+ghost use Rattle.street_runs.specs.declared.fault.Fault.TheVariants as faults;
 
 use std::fs::File;
 use std::process::ExitCode;
@@ -13,8 +17,8 @@ use std::sync::Wait;
 use std::thread::Threads;
 use std::{env, io};
 use street_runs::{
-    Fault, Options, STANDARD_OUTPUT, WordsFault, options, reason, replay_tape, serve_input,
-    serve_scripts, upgrade_tape,
+    Fault, Options, STANDARD_OUTPUT, WordsFault, options, reason, replay_tape, serve_endless,
+    serve_input, serve_kept, serve_scripts, upgrade_tape,
 };
 
 fn main(rt: HostRuntime) -> ExitCode {
@@ -31,14 +35,11 @@ fn run<R: Threads + Wait + Sync + Input + Print + Eprint + AllocGlobal + Files<F
     words: &[String],
 ) -> ExitCode {
     match options(rt.alloc(), words) {
-        Ok(options) => match carry_out(rt, &options) {
-            Ok(()) => ExitCode::SUCCESS,
-            Err(fault) => tell(rt, fault),
-        },
-        Err(WordsFault::Help(help)) => match help.print(rt) {
-            Ok(()) => ExitCode::SUCCESS,
-            Err(_) => tell(rt, Fault::Write(STANDARD_OUTPUT)),
-        },
+        Ok(options) => end_with(rt, carry_out(rt, &options)),
+        Err(WordsFault::Help(help)) => {
+            let printed = help.print(rt);
+            end_with(rt, printed.or(Err(Fault::Write(STANDARD_OUTPUT))))
+        }
         Err(WordsFault::Bad(error)) => match format!(in rt.alloc(); "{error}") {
             Ok(text) => tell_words(rt, reason(text.as_str())),
             Err(_) => tell(rt, Fault::BadArguments),
@@ -47,28 +48,50 @@ fn run<R: Threads + Wait + Sync + Input + Print + Eprint + AllocGlobal + Files<F
     }
 }
 
+/// Ends with what became of a run: its fault is told.
+fn end_with(rt: &impl Eprint, run: Result<(), Fault<'_>>) -> ExitCode
+    ensures done { OnOk run.entry (exit_status result ≡ 0) }
+    ensures broken { IfErr run.entry (λ fault. exit_status result ≡ status_of fault) }
+{
+    match run {
+        Ok(()) => ExitCode::SUCCESS,
+        Err(fault) => tell(rt, fault),
+    }
+}
+
 /// Tells a fault on standard error. Where that fails too, the status alone tells it.
-fn tell(rt: &impl Eprint, fault: Fault<'_>) -> ExitCode {
+fn tell(rt: &impl Eprint, fault: Fault<'_>) -> ExitCode
+    ensures { exit_status result ≡ status_of fault.entry }
+{
     let _ = eprintln!(rt; "streetsim: {fault}");
     ExitCode::from(fault.status())
 }
 
 /// Tells on standard error that the words are wrong, and in a line of its own which one and why.
-fn tell_words(rt: &impl Eprint, why: &str) -> ExitCode {
+fn tell_words(rt: &impl Eprint, why: &str) -> ExitCode
+    ensures { exit_status result ≡ status_of faults.BadArguments }
+{
     let status = tell(rt, Fault::BadArguments);
     let _ = eprintln!(rt; "{why}");
     status
 }
 
-/// Does what the words ask for: upgrades or replays a tape, or serves scripts or standard input.
-fn carry_out<'a, R: Threads + Wait + Sync + Input + Print + AllocGlobal + Files<File = File>>(
-    rt: &R,
-    options: &Options<'a>,
-) -> Result<(), Fault<'a>>
+/// Does what the words ask for: upgrades or replays a tape, or serves scripts or standard input, at a desk or without one, or as a
+/// session that is kept.
+fn carry_out<
+    'a,
+    R: Threads + Wait + Sync + Input + Print + Eprint + AllocGlobal + Files<File = File>,
+>(rt: &R, options: &Options<'a>) -> Result<(), Fault<'a>>
     requires { IsInRange options.now }
 {
     if let Some(tape) = options.upgrade {
         return upgrade_tape(rt, tape);
+    }
+    if let Some(file) = options.keep {
+        return serve_kept(rt, options, file);
+    }
+    if options.endless {
+        return serve_endless(rt, options.workers);
     }
     match options.replay {
         Some(tape) => replay_tape(rt, options.workers, tape),

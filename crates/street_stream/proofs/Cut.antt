@@ -54,7 +54,7 @@ one_line [] some = absurd (some refl)
 one_line (x ∷ xs) some = refl
 
 -- more text leaves the lines that have ended
-cut_more : (seen more : List ℕ) → (rest : List (List ℕ)) × ((cut (seen ++ more)).0 ≡ (cut seen).0 ++ rest)
+pub cut_more : (seen more : List ℕ) → (rest : List (List ℕ)) × ((cut (seen ++ more)).0 ≡ (cut seen).0 ++ rest)
 cut_more seen [] = ([], ap (λ t. (cut t).0) (append-nil seen) ∙ sym (append-nil (cut seen).0))
 cut_more seen (b ∷ more) =
     let later = cut_more (seen ++ b ∷ []) more in

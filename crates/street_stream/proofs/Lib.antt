@@ -2,9 +2,13 @@ pub mod LinesFound
 pub mod PartialLines
 pub mod Sent
 pub mod Cut
+pub mod CutParts
 pub mod Handles
 pub mod Feeds
+pub mod OpenTexts
+pub mod Logs
 pub mod Breaks
 pub mod HandlerReferences
 pub mod Prompt
 pub mod Caused
+pub mod Calls

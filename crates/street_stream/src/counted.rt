@@ -1,11 +1,13 @@
 //! Readers and writers that count their calls, and keep whether each read came behind a flush.
 //!
-//! Source: this profile. Counts stop at the greatest `u64`.
+//! Source: this profile. Counts stop at the greatest `u64`. Each call makes one call of the stream that is counted, and gives its
+//! result: see [`crate::Source`] and [`crate::Sink`].
 ghost use Rattle.std.specs.Prelude.{◌≡◌, ◌==◌, ◌||◌, ◌&&◌, OnOk, OnErr, IfOk, if◌then◌else◌, true, false};
 ghost use Rattle.std.specs.Io.KnownBytes.{Keeps, ReadConsumes, WriteAppends};
 ghost use Rattle.std.specs.Io.{ReadsAtMost, WritesAtMost};
 ghost use Rattle.street_stream.specs.Streams.{one_more, IsFresh};
 
+use crate::ends::{Sink, Source};
 use std::io;
 use std::io::{Read, Write};
 
@@ -15,8 +17,7 @@ use std::io::{Read, Write};
 /// whether that was so at each read but the first, and how often the writer had been called when it was last read.
 #[derive(Drop)]
 pub struct Counted<T> {
-    /// The reader or writer.
-    pub stream: T,
+    stream: T,
     calls: u64,
     failures: u64,
     empty_writes: u64,
@@ -40,6 +41,13 @@ impl<T> Counted<T> {
             is_prompt: false,
             writer_calls: 0,
         }
+    }
+
+    /// The reader or writer.
+    pub fn into_inner(self) -> T
+        ensures { result ≡ self.stream }
+    {
+        self.stream
     }
 
     /// How often it was called to read, to write or to flush.
@@ -71,12 +79,13 @@ impl<T> Counted<T> {
     }
 }
 
-impl<R: Read> Counted<R> {
+impl<R: Source> Counted<R> {
     /// Reads as `read` does, and keeps of the writer how often it had been called, and whether its last call was a flush that did
     /// not fail, at this read and at each before it but the first.
     pub fn read_behind<W>(&mut self, writer: &Counted<W>, buffer: &mut [u8]) -> io::Result<usize>
         ensures bound { ReadsAtMost result buffer.new }
         ensures bytes { ReadConsumes (R.remaining self.old.stream) (R.remaining self.new.stream) result buffer.new }
+        ensures once { R.gives self.old.stream buffer.old result self.new.stream buffer.new }
         ensures calls { self.new.calls ≡ one_more self.old.calls }
         ensures given { OnOk result (self.new.failures ≡ self.old.failures) }
         ensures failed { OnErr result (self.new.failures ≡ one_more self.old.failures) }
@@ -92,12 +101,13 @@ impl<R: Read> Counted<R> {
     }
 }
 
-impl<R: Read> Read for Counted<R> {
+impl<R: Source> Read for Counted<R> {
     ghost remaining = { λ c. R.remaining c.stream };
 
     fn read(&mut self, buffer: &mut [u8]) -> io::Result<usize>
         ensures bound { ReadsAtMost result buffer.new }
         ensures bytes { ReadConsumes (R.remaining self.old.stream) (R.remaining self.new.stream) result buffer.new }
+        ensures once { R.gives self.old.stream buffer.old result self.new.stream buffer.new }
         ensures calls { self.new.calls ≡ one_more self.old.calls }
         ensures given { OnOk result (self.new.failures ≡ self.old.failures) }
         ensures failed { OnErr result (self.new.failures ≡ one_more self.old.failures) }
@@ -106,7 +116,7 @@ impl<R: Read> Read for Counted<R> {
     {
         self.calls = self.calls.saturating_add(1);
         self.is_prompt = false;
-        let result = self.stream.read(buffer);
+        let result = self.stream.read_once(buffer);
         if result.is_err() {
             self.failures = self.failures.saturating_add(1);
         }
@@ -114,12 +124,13 @@ impl<R: Read> Read for Counted<R> {
     }
 }
 
-impl<W: Write> Write for Counted<W> {
+impl<W: Sink> Write for Counted<W> {
     ghost contents = { λ c. W.contents c.stream };
 
     fn write(&mut self, bytes: &[u8]) -> io::Result<usize>
         ensures bound { WritesAtMost result bytes.now }
         ensures bytes { WriteAppends (W.contents self.old.stream) (W.contents self.new.stream) result bytes.now }
+        ensures once { W.takes self.old.stream bytes.now result self.new.stream }
         ensures calls { self.new.calls ≡ one_more self.old.calls }
         ensures taken { OnOk result (self.new.failures ≡ self.old.failures) }
         ensures empty { IfOk result (λ n. self.new.empty_writes
@@ -130,7 +141,7 @@ impl<W: Write> Write for Counted<W> {
     {
         self.calls = self.calls.saturating_add(1);
         self.is_flushed = false;
-        let result = self.stream.write(bytes);
+        let result = self.stream.write_once(bytes);
         match result {
             Ok(0) => self.empty_writes = self.empty_writes.saturating_add(1),
             Ok(_) => {}
@@ -141,6 +152,7 @@ impl<W: Write> Write for Counted<W> {
 
     fn flush(&mut self) -> io::Result<()>
         ensures bytes { Keeps (W.contents self.old.stream) (W.contents self.new.stream) }
+        ensures once { W.passes self.old.stream result self.new.stream }
         ensures calls { self.new.calls ≡ one_more self.old.calls }
         ensures done { OnOk result (self.new.failures ≡ self.old.failures) }
         ensures failed { OnErr result (self.new.failures ≡ one_more self.old.failures) }
@@ -149,7 +161,7 @@ impl<W: Write> Write for Counted<W> {
         ensures held { OnErr result (self.new.is_flushed ≡ false) }
     {
         self.calls = self.calls.saturating_add(1);
-        let result = self.stream.flush();
+        let result = self.stream.flush_once();
         self.is_flushed = result.is_ok();
         if result.is_err() {
             self.failures = self.failures.saturating_add(1);

@@ -1,7 +1,8 @@
 //! The lines of a text, cut out of reads and handled one after another.
 //!
 //! Source: this profile. Each reply is written, and passed on, before the next read.
-ghost use Rattle.std.specs.Prelude.{◌≡◌, ◌+◌, ◌^◌, ◌<◌, [], ◌∷◌, ◌++◌, IfOk, OnOk, IfErr, length};
+ghost use Rattle.std.specs.Prelude.{◌≡◌, ◌+◌, ◌^◌, ◌<◌, [], ◌∷◌, ◌++◌, IfOk, OnOk, IfErr, OnErr, length};
+ghost use Rattle.street_stream.specs.Calls.{OnlyWrites, PassesOn, IsCutShort, AreRounds, BreaksOff};
 ghost use Rattle.street_stream.specs.Streams.{IsFlushed, IsFresh, IsPrompt};
 ghost use Rattle.street_stream.specs.Faults.{IsCausedByLine};
 ghost use Rattle.street_stream.specs.HandledLines.{Drives, IsTally};
@@ -10,13 +11,13 @@ ghost use Rattle.street_stream.specs.Progress.{IsWithin, Grows, TakesTo, TakeSto
 
 use crate::answer::{Answer, Cause, Halt};
 use crate::counted::Counted;
+use crate::ends::{Sink, Source};
 use crate::handler::LineHandler;
 use crate::part::PartialLine;
 use crate::tally::{FaultKind, Tally};
 use crate::writes::{flush_out, write_reply};
 use memchr::memchr;
 use std::alloc::Global;
-use std::io::{Read, Write};
 
 /// The most calls of `read` that a run makes, where nobody asks for fewer.
 pub const MOST_READS: u32 = 1_000_000_000;
@@ -32,13 +33,13 @@ pub struct Limits {
 
 /// A run as far as it has come: the line that has not ended, and the tally of those that have.
 #[derive(Drop)]
-struct Progress {
-    part: PartialLine,
-    tally: Tally,
+pub(crate) struct Progress {
+    pub(crate) part: PartialLine,
+    pub(crate) tally: Tally,
 }
 
 /// A line has ended: it is handled, and its reply written.
-fn end_line<H: LineHandler, W: Write>(
+fn end_line<H: LineHandler, W: Sink>(
     alloc: Global,
     handler: &mut H,
     writer: &mut Counted<W>,
@@ -54,6 +55,7 @@ fn end_line<H: LineHandler, W: Write>(
     ensures broken { IfErr result (TakeStops H.meaning W.contents
         handler.old writer.old part.now tally.old handler.new writer.new tally.new) }
     ensures caused { IfErr result (λ cause. IsCausedByLine cause writer.new) }
+    ensures calls { OnlyWrites W.takes writer.old.stream writer.new.stream }
 {
     tally.lines += 1;
     let answer = match handler.take(alloc, part) {
@@ -71,7 +73,7 @@ fn end_line<H: LineHandler, W: Write>(
 }
 
 /// Takes up the last bytes of a line, which its LF follows, and handles the line.
-fn take_line<H: LineHandler, W: Write>(
+fn take_line<H: LineHandler, W: Sink>(
     alloc: Global,
     handler: &mut H,
     writer: &mut Counted<W>,
@@ -88,6 +90,7 @@ fn take_line<H: LineHandler, W: Write>(
     ensures broken { IfErr result (FeedStops H.meaning W.contents
         handler.old writer.old progress.old (bytes.now ++ 10 ∷ []) handler.new writer.new progress.new) }
     ensures caused { IfErr result (λ cause. IsCausedByLine cause writer.new) }
+    ensures calls { OnlyWrites W.takes writer.old.stream writer.new.stream }
 {
     progress.part.extend(bytes)?;
     end_line(alloc, handler, writer, &progress.part, &mut progress.tally)?;
@@ -96,7 +99,7 @@ fn take_line<H: LineHandler, W: Write>(
 }
 
 /// Takes up the next bytes of the text: each line that ends in them is handled, and what comes after the last LF is kept.
-fn feed<H: LineHandler, W: Write>(
+pub(crate) fn feed<H: LineHandler, W: Sink>(
     alloc: Global,
     handler: &mut H,
     writer: &mut Counted<W>,
@@ -112,6 +115,7 @@ fn feed<H: LineHandler, W: Write>(
     ensures broken { IfErr result (FeedStops H.meaning W.contents
         handler.old writer.old progress.old bytes.now handler.new writer.new progress.new) }
     ensures caused { IfErr result (λ cause. IsCausedByLine cause writer.new) }
+    ensures calls { OnlyWrites W.takes writer.old.stream writer.new.stream }
 {
     let mut at = 0;
     'lines: while let Some(size) = memchr(b'\n', &bytes[at..]) {
@@ -123,7 +127,7 @@ fn feed<H: LineHandler, W: Write>(
 }
 
 /// Takes up the next bytes of the text, as [`feed`] does, and passes on the replies.
-fn feed_through<H: LineHandler, W: Write>(
+fn feed_through<H: LineHandler, W: Sink>(
     alloc: Global,
     handler: &mut H,
     writer: &mut Counted<W>,
@@ -139,6 +143,8 @@ fn feed_through<H: LineHandler, W: Write>(
     ensures broken { IfErr result (FeedStops H.meaning W.contents
         handler.old writer.old progress.old bytes.now handler.new writer.new progress.new) }
     ensures caused { IfErr result (λ cause. IsCausedByLine cause writer.new) }
+    ensures done { OnOk result (PassesOn W.takes W.passes writer.old.stream writer.new.stream) }
+    ensures undone { OnErr result (IsCutShort W.takes W.passes writer.old.stream writer.new.stream) }
     ensures passed { OnOk result (IsFlushed writer.new) }
 {
     feed(alloc, handler, writer, progress, bytes)?;
@@ -147,7 +153,7 @@ fn feed_through<H: LineHandler, W: Write>(
 }
 
 /// Handles the last line of a text that has ended, where it has no LF.
-fn finish<H: LineHandler, W: Write>(
+pub(crate) fn finish<H: LineHandler, W: Sink>(
     alloc: Global,
     handler: &mut H,
     writer: &mut Counted<W>,
@@ -162,6 +168,7 @@ fn finish<H: LineHandler, W: Write>(
     ensures broken { IfErr result (FinishStops H.meaning W.contents
         handler.old writer.old progress.old handler.new writer.new progress.new) }
     ensures caused { IfErr result (λ cause. IsCausedByLine cause writer.new) }
+    ensures calls { OnlyWrites W.takes writer.old.stream writer.new.stream }
 {
     if progress.part.as_slice().is_empty() {
         return Ok(());
@@ -171,7 +178,7 @@ fn finish<H: LineHandler, W: Write>(
 }
 
 /// Handles the last line of a text that has ended, as [`finish`] does, and passes on the replies.
-fn finish_through<H: LineHandler, W: Write>(
+fn finish_through<H: LineHandler, W: Sink>(
     alloc: Global,
     handler: &mut H,
     writer: &mut Counted<W>,
@@ -186,6 +193,8 @@ fn finish_through<H: LineHandler, W: Write>(
     ensures broken { IfErr result (FinishStops H.meaning W.contents
         handler.old writer.old progress.old handler.new writer.new progress.new) }
     ensures caused { IfErr result (λ cause. IsCausedByLine cause writer.new) }
+    ensures done { OnOk result (PassesOn W.takes W.passes writer.old.stream writer.new.stream) }
+    ensures undone { OnErr result (IsCutShort W.takes W.passes writer.old.stream writer.new.stream) }
     ensures passed { OnOk result (IsFlushed writer.new) }
 {
     finish(alloc, handler, writer, progress)?;
@@ -194,7 +203,7 @@ fn finish_through<H: LineHandler, W: Write>(
 }
 
 /// Reads the text to its end, and handles its lines.
-fn drive_all<H: LineHandler, R: Read, W: Write>(
+fn drive_all<H: LineHandler, R: Source, W: Sink>(
     alloc: Global,
     handler: &mut H,
     reader: &mut Counted<R>,
@@ -210,6 +219,10 @@ fn drive_all<H: LineHandler, R: Read, W: Write>(
     ensures few { OnOk result (progress.new.tally.lines < 2 ^ 62) }
     ensures prompt { IsPrompt reader.new }
     ensures flushed { OnOk result (IsFlushed writer.new) }
+    ensures rounds { OnOk result (AreRounds R.gives W.takes W.passes reader.new.calls
+        reader.old.stream writer.old.stream reader.new.stream writer.new.stream) }
+    ensures broken_off { IfErr result (λ cause. BreaksOff R.gives W.takes W.passes cause reader.new.calls
+        reader.old.stream writer.old.stream reader.new.stream writer.new.stream) }
 {
     let mut buffer = [0u8; 4096];
     for _ in 0..reads {
@@ -234,6 +247,9 @@ fn drive_all<H: LineHandler, R: Read, W: Write>(
 /// known before it is made, so each finds the same: the flush before it held the output of all that was read till then. A run
 /// without a fault ends with such a flush, too.
 ///
+/// Of the reader and the writer no call is made but these, as `specs/Calls` says: rounds of one read each, and behind it writes
+/// and a flush.
+///
 /// A line ends with LF or where the text ends; a last part of no bytes is no line. Of a line no more is kept than one byte
 /// above the most that it may have. The ends are fresh: nothing was called of them yet.
 ///
@@ -242,7 +258,7 @@ fn drive_all<H: LineHandler, R: Read, W: Write>(
 /// `Line` where a line ended the run. `Run` with `Read` where a read failed; `Write` where a write or a flush failed, or a
 /// write took no bytes; `Starved` where memory ran out to keep a line or for the text of a reply; `Endless` after so many
 /// reads. After either no more is read or handled; what was done till then is `Broke` of `specs/HandledLines`.
-pub fn drive_lines<H: LineHandler, R: Read, W: Write>(
+pub fn drive_lines<H: LineHandler, R: Source, W: Sink>(
     alloc: Global,
     handler: &mut H,
     reader: &mut Counted<R>,
@@ -257,6 +273,10 @@ pub fn drive_lines<H: LineHandler, R: Read, W: Write>(
     ensures few { IfOk result (λ tally. tally.lines < 2 ^ 62) }
     ensures prompt { IsPrompt reader.new }
     ensures flushed { OnOk result (IsFlushed writer.new) }
+    ensures rounds { OnOk result (AreRounds R.gives W.takes W.passes reader.new.calls
+        reader.old.stream writer.old.stream reader.new.stream writer.new.stream) }
+    ensures broken_off { IfErr result (λ halt. BreaksOff R.gives W.takes W.passes halt.cause reader.new.calls
+        reader.old.stream writer.old.stream reader.new.stream writer.new.stream) }
 {
     let mut progress = Progress {
         part: PartialLine::new(alloc, limits.line),

@@ -2,13 +2,18 @@
 //! that cuts reads into lines and hands them on, and the tally of what was done.
 //!
 //! Where a text is cut into lines stands in `specs/Lines`, what a stream counts in `specs/Streams`, what a run of lines gives and
-//! what one that broke leaves in `specs/HandledLines`, and what causes each fault in `specs/Faults`.
+//! what one that broke leaves in `specs/HandledLines`, and what causes each fault in `specs/Faults`. What a log holds that is
+//! written before all else, and what a fault leaves of it, stands in `specs/Logs`, and a text that is handled a part at a time
+//! in `specs/OpenTexts`.
 #![tactic(auto)]
 
 mod answer;
 mod counted;
 mod driver;
+mod ends;
 mod handler;
+mod log;
+mod open_text;
 mod part;
 mod tally;
 mod writes;
@@ -16,7 +21,10 @@ mod writes;
 pub use answer::{Answer, Cause, Halt};
 pub use counted::Counted;
 pub use driver::{Limits, MOST_READS, drive_lines};
+pub use ends::{Sink, Source};
 pub use handler::LineHandler;
+pub use log::{KeepFault, Log, keep_first};
+pub use open_text::{OpenText, cut_off_text, whole_lines};
 pub use part::PartialLine;
 pub use tally::{FaultKind, RunFault, Tally};
 pub use writes::{flush_out, write_reply, write_text};

@@ -139,7 +139,11 @@ fn numbers_out_of_range_are_bad(rt: HostRuntime) -> Result<(), Fail> {
 
 #[test]
 fn unknown_words_are_bad(rt: HostRuntime) -> Result<(), Fail> {
-    check_bad(&rt, &["--version"], "unexpected argument '--version' found")?;
+    check_bad(
+        &rt,
+        &["--endless=1"],
+        "unexpected value '1' for '--endless' found; no more were expected",
+    )?;
     check_bad(&rt, &["--workers", "-1"], "unexpected argument '-1' found")?;
     check_bad(&rt, &["-x"], "unexpected argument '-x' found")
 }
@@ -152,6 +156,7 @@ fn an_option_has_one_value(rt: HostRuntime) -> Result<(), Fail> {
         ("tape", "<FILE>"),
         ("replay", "<FILE>"),
         ("upgrade", "<FILE>"),
+        ("keep", "<FILE>"),
     ] {
         let option = format!(in rt.alloc(); "--{name}")?;
         let none = format!(in rt.alloc();
@@ -184,6 +189,78 @@ fn an_upgrade_stands_alone(rt: HostRuntime) -> Result<(), Fail> {
     check_bad(&rt, &["--upgrade", "a.tape", "--tape", "b.tape"], what)?;
     check_bad(&rt, &["--upgrade", "a.tape", "--replay", "b.tape"], what)?;
     check_bad(&rt, &["--upgrade", "a.tape", "a.jsonl"], what)
+}
+
+/// What is told of words that stand beside `--endless` or `--keep`.
+const COMPANY: &str =
+    "the arguments '--endless' and '--keep <FILE>' cannot be used with scripts, '--calls <N>', '--tape <FILE>', '--replay <FILE>' or '--upgrade <FILE>'";
+
+/// Whether there is no desk by these words.
+fn is_endless(alloc: Global, words: &[&str]) -> Result<bool, Fail> {
+    let words = words_of(alloc, words)?;
+    let found = options(alloc, words.as_slice())?;
+    Ok(found.endless)
+}
+
+#[test]
+fn no_end_of_calls(rt: HostRuntime) -> Result<(), Fail> {
+    assert_eq!(rt; is_endless(rt.alloc(), &[])?, false);
+    assert_eq!(rt;
+        is_endless(rt.alloc(), &["--workers", "3", "--endless"])?,
+        true
+    );
+    for word in [
+        "--calls=65536",
+        "--tape=a",
+        "--replay=a",
+        "--upgrade=a",
+        "a.jsonl",
+    ] {
+        check_bad(&rt, &["--endless", word], COMPANY)?;
+    }
+    Ok(())
+}
+
+/// The file in which a session is kept by these words, and whether it is not synced.
+fn check_kept(
+    rt: &(impl Abort + AllocGlobal),
+    words: &[&str],
+    keep: Option<&str>,
+    unsynced: bool,
+) -> Result<(), Fail> {
+    let words = words_of(rt.alloc(), words)?;
+    let found = options(rt.alloc(), words.as_slice())?;
+    assert!(rt;
+        found.keep == keep && found.unsynced == unsynced,
+        "other options are found"
+    );
+    Ok(())
+}
+
+#[test]
+fn a_session_is_kept(rt: HostRuntime) -> Result<(), Fail> {
+    check_kept(&rt, &[], None, false)?;
+    check_kept(&rt, &["--keep", "day.jsonl"], Some("day.jsonl"), false)?;
+    check_kept(
+        &rt,
+        &["--unsynced", "--keep=day.jsonl", "--endless"],
+        Some("day.jsonl"),
+        true,
+    )?;
+    for word in [
+        "--calls=65536",
+        "--tape=a",
+        "--replay=a",
+        "--upgrade=a",
+        "a.jsonl",
+    ] {
+        check_bad(&rt, &["--keep", "b", word], COMPANY)?;
+    }
+    check_bad(
+        &rt,
+        &["--unsynced"],
+        "the argument '--unsynced' is of use only with '--keep <FILE>'",
+    )
 }
 
 /// A text of one line, and one without the parser's mark, come as they are.
@@ -224,10 +301,21 @@ fn check_help(rt: &impl Abort, text: &str) {
         "--tape <FILE>",
         "--replay <FILE>",
         "--upgrade <FILE>",
+        "--endless",
+        "--keep <FILE>",
+        "--unsynced",
+        "--version",
         "[SCRIPT]...",
     ] {
         assert!(rt; text.contains(name), "no {name} in {text}");
     }
+}
+
+#[test]
+fn version_is_told(rt: HostRuntime) -> Result<(), Fail> {
+    let text = told(rt.alloc(), &["--workers", "3", "--version"])?;
+    assert_eq!(rt; text.as_str(), "help streetsim 1.0.0\n");
+    Ok(())
 }
 
 #[test]

@@ -62,7 +62,7 @@ fn replayed_whole<R: Threads + Sync>(
             ..
         }
     );
-    (tally, writer.stream, has_ended)
+    (tally, writer.into_inner(), has_ended)
 }
 
 #[test]

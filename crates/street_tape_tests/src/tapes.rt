@@ -73,7 +73,7 @@ fn journal_of<R: Threads + Wait + Abort + AllocGlobal + Sync>(rt: &R) -> Journal
 fn taped(alloc: Global, journal: &Journal) -> (Option<u128>, Vec<u8>) {
     let mut writer = Counted::new(Vec::new(alloc));
     let bytes = write_tape(alloc, journal, &mut writer).ok();
-    (bytes, writer.stream)
+    (bytes, writer.into_inner())
 }
 
 #[test]

@@ -15,7 +15,8 @@ BackMay {T} may part first shown xs = (j k : ℕ) (d : T) → j + k + 1 ≡ leng
 
 -- each of these items was worked on, of which the last is number first, and the one before it the next
 abbrev pub BackDoes : {T : Type 0} → (ℕ → ℕ → List Bool → T → T → Type 0) → ℕ → ℕ → List Bool → List T → List T → Type 0
-BackDoes {T} does part first shown xs ys = (j k : ℕ) (d : T) → j + k + 1 ≡ length xs → does part (first + k) shown (slice_index_or xs j d) (slice_index_or ys j d)
+BackDoes {T} does part first shown xs ys = (j k : ℕ) (d : T) → j + k + 1 ≡ length xs
+    → does part (first + k) shown (slice_index_or xs j d) (slice_index_or ys j d)
 
 -- a block has the items of a list from this number on, the last of them first
 abbrev pub IsBackOf : {T A : Type 0} → List T → ℕ → Vec T A → Type 0

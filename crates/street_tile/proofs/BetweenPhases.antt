@@ -8,7 +8,7 @@ use Rattle.street_base.proofs.OptionLemmas.{option_map-some}
 use Rattle.street_lanes.specs.Prelude.{IsLane, IsOn, Detectors}
 use Rattle.street_node.specs.Prelude.{Crossing, crossing as crosses}
 use Rattle.street_node.proofs.Crossings.{crossing-leads}
-use Rattle.street_tile.specs.Prelude.{Transfer, crossing, Part, IsTileOf, IsShare, AreTiles, SameTile, Each, AllStand, IsIdle, IsPrepared, nobody, Shows, ShowsOwn, detectors_at, HaveWatched, MetersStand, AllMetersStand, noted_by, LanePhase, MotionPhase, ReleasePhase, EnterPhase, ticked, MeterPhase, all_handed, received, Steps}
+use Rattle.street_tile.specs.Prelude.{Transfer, crossing, TileView, IsTileOf, IsShare, AreTiles, SameTile, Each, AllStand, IsIdle, IsPrepared, nobody, Shows, ShowsOwn, detectors_at, HaveWatched, MetersStand, AllMetersStand, noted_by, LanePhase, MotionPhase, ReleasePhase, EnterPhase, ticked, MeterPhase, all_handed, received, Steps}
 use Rattle.street_tile.proofs.Rows.{in-row, roads-of}
 use Rattle.street_tile.proofs.OwnLanes.{lane-of}
 use Rattle.street_tile.proofs.SameTile.{same-moved, tile-of-same}
@@ -34,7 +34,7 @@ crossings-lanes net m on (p ∷ ps) k d h = by_entry (crossing m p) refl k h (cr
 
 -- ---- tiles stay the tiles that they were
 
-pub tiles-same : (net : NetSpec) (xs ys : List Part) → length ys ≡ length xs → Each SameTile xs ys → AreTiles net xs → AreTiles net ys
+pub tiles-same : (net : NetSpec) (xs ys : List TileView) → length ys ≡ length xs → Each SameTile xs ys → AreTiles net xs → AreTiles net ys
 tiles-same net xs ys e same tiles = let some = tiles.some in let few = tiles.few in record {
   some = omega arith;
   few = omega arith;
@@ -46,40 +46,40 @@ tiles-same net xs ys e same tiles = let some = tiles.some in let few = tiles.few
       subst (λ (k : ℕ). IsShare net k i (get_or ys i d)) (sym e) at;
 }
 
-pub tiles-each : (net : NetSpec) (xs : List Part) → AreTiles net xs → All (IsTileOf net) xs
+pub tiles-each : (net : NetSpec) (xs : List TileView) → AreTiles net xs → All (IsTileOf net) xs
 tiles-each net xs tiles i d h = (tiles.shares i d h).tile
 
-pub tiles-lanes : (net : NetSpec) (xs ys : List Part) → length ys ≡ length xs → Each (LanePhase net) xs ys → AreTiles net xs → AreTiles net ys
+pub tiles-lanes : (net : NetSpec) (xs ys : List TileView) → length ys ≡ length xs → Each (LanePhase net) xs ys → AreTiles net xs → AreTiles net ys
 tiles-lanes net xs ys e lanes tiles = tiles-same net xs ys e (λ i d h. (lanes i d h).goes.same) tiles
 
-pub tiles-motion : (net : NetSpec) (xs ys : List Part) → length ys ≡ length xs → Each (MotionPhase net) xs ys → AreTiles net xs → AreTiles net ys
+pub tiles-motion : (net : NetSpec) (xs ys : List TileView) → length ys ≡ length xs → Each (MotionPhase net) xs ys → AreTiles net xs → AreTiles net ys
 tiles-motion net xs ys e motion tiles = tiles-same net xs ys e (λ i d h. (motion i d h).goes.same) tiles
 
 -- after motion each tile holds its mouths
-pub shown-motion : (net : NetSpec) (xs ys : List Part) → length ys ≡ length xs → Each (MotionPhase net) xs ys → All ShowsOwn ys
+pub shown-motion : (net : NetSpec) (xs ys : List TileView) → length ys ≡ length xs → Each (MotionPhase net) xs ys → All ShowsOwn ys
 shown-motion net xs ys e motion i d h = (motion i d (omega arith)).shown
 
-pub tiles-release : (net : NetSpec) (view : List Bool) (xs ys : List Part) → length ys ≡ length xs → Each (ReleasePhase net view) xs ys → AreTiles net xs → AreTiles net ys
+pub tiles-release : (net : NetSpec) (view : List Bool) (xs ys : List TileView) → length ys ≡ length xs → Each (ReleasePhase net view) xs ys → AreTiles net xs → AreTiles net ys
 tiles-release net view xs ys e releases tiles = tiles-same net xs ys e (λ i d h. (releases i d h).same) tiles
 
-pub tiles-move : (net : NetSpec) (xs ys : List Part) → length ys ≡ length xs → Each (λ x y. y ≡ received (all_handed xs) x) xs ys → AreTiles net xs → AreTiles net ys
+pub tiles-move : (net : NetSpec) (xs ys : List TileView) → length ys ≡ length xs → Each (λ x y. y ≡ received (all_handed xs) x) xs ys → AreTiles net xs → AreTiles net ys
 tiles-move net xs ys e moves tiles = tiles-same net xs ys e (λ i d h. same-moved (get_or xs i d) (get_or ys i d) _ _ (moves i d h)) tiles
 
-pub tiles-enter : (net : NetSpec) (xs ys : List Part) → length ys ≡ length xs → Each (EnterPhase net) xs ys → AreTiles net xs → AreTiles net ys
+pub tiles-enter : (net : NetSpec) (xs ys : List TileView) → length ys ≡ length xs → Each (EnterPhase net) xs ys → AreTiles net xs → AreTiles net ys
 tiles-enter net xs ys e enters tiles = tiles-same net xs ys e (λ i d h. (enters i d h).same) tiles
 
-pub tiles-meter : (net : NetSpec) (xs ys : List Part) → length ys ≡ length xs → Each (MeterPhase net) xs ys → AreTiles net xs → AreTiles net ys
+pub tiles-meter : (net : NetSpec) (xs ys : List TileView) → length ys ≡ length xs → Each (MeterPhase net) xs ys → AreTiles net xs → AreTiles net ys
 tiles-meter net xs ys e ticks tiles = tiles-same net xs ys e (λ i d h. (ticks i d h).goes.same) tiles
 
 -- a tile that has lost no room is as prepared as it was
-prepared-same : (x y : Part) → y.own.places ≡ x.own.places → x.own.room ≤ y.own.room → IsPrepared x → IsPrepared y
+prepared-same : (x y : TileView) → y.own.places ≡ x.own.places → x.own.room ≤ y.own.room → IsPrepared x → IsPrepared y
 prepared-same x y e room prepared = let same : length y.own.places ≡ length x.own.places = ap length e in omega arith
 
 changed-clock : (m : Traffic) → (changed m).clock ≡ m.clock
 unfolding changed
 changed-clock m = refl
 
-module _ (net : NetSpec) (xs ys zs : List Part) (a : length ys ≡ length xs) (b : length zs ≡ length xs) (lanes : Each (LanePhase net) xs ys) where
+module _ (net : NetSpec) (xs ys zs : List TileView) (a : length ys ≡ length xs) (b : length zs ≡ length xs) (lanes : Each (LanePhase net) xs ys) where
   pub in-time-lanes : (m : Traffic) → AllStand net xs m → m.clock < last_clock → All (λ x. x.clock < last_clock) ys
   in-time-lanes m s h i d l =
       let one = goes-all net changed xs ys a (λ i d h. (lanes i d h).goes) m (on-changed net m s.on) s in
@@ -97,7 +97,7 @@ module _ (net : NetSpec) (xs ys zs : List Part) (a : length ys ≡ length xs) (b
     pub idle-handed : All IsIdle xs → All (λ x. x.handed ≡ []) zs
     idle-handed idle i d h = (motion i d (omega arith)).goes.handed ∙ (lanes i d (omega arith)).goes.handed ∙ (idle i d (omega arith)).handed
 
-    pub idle-coming : All IsIdle xs → (i : ℕ) (d : Part) → i < length xs → (get_or zs i d).coming ≡ nobody (get_or zs i d)
+    pub idle-coming : All IsIdle xs → (i : ℕ) (d : TileView) → i < length xs → (get_or zs i d).coming ≡ nobody (get_or zs i d)
     idle-coming idle i d h =
         (motion i d (omega arith)).goes.coming ∙ (lanes i d (omega arith)).goes.coming ∙ (idle i d (omega arith)).coming
         ∙ ap (λ (ps : List Place). map (λ p. None) ps) (sym ((motion i d (omega arith)).goes.same.own.places ∙ (lanes i d (omega arith)).goes.same.own.places))
@@ -113,24 +113,24 @@ module _ (net : NetSpec) (xs ys zs : List Part) (a : length ys ≡ length xs) (b
         (motion i d (omega arith)).arrived (changed m) one.on (one.each i d (omega arith))
         ∙ ap (filter_map (λ p. arrival (leaver_of (changed m) p))) (lanes i d h).goes.same.own.places
 
-module _ (net : NetSpec) (view : List Bool) (xs ys : List Part) (a : length ys ≡ length xs) (releases : Each (ReleasePhase net view) xs ys) where
+module _ (net : NetSpec) (view : List Bool) (xs ys : List TileView) (a : length ys ≡ length xs) (releases : Each (ReleasePhase net view) xs ys) where
   pub prepared-release : All IsPrepared xs → All IsPrepared ys
   prepared-release prepared i d h = let r = releases i d (omega arith) in prepared-same (get_or xs i d) (get_or ys i d) r.same.own.places r.room (prepared i d (omega arith))
 
-  pub release-nobody : ((i : ℕ) (d : Part) → i < length xs → (get_or xs i d).coming ≡ nobody (get_or xs i d)) → All (λ y. y.coming ≡ nobody y) ys
+  pub release-nobody : ((i : ℕ) (d : TileView) → i < length xs → (get_or xs i d).coming ≡ nobody (get_or xs i d)) → All (λ y. y.coming ≡ nobody y) ys
   release-nobody before i d h = (releases i d (omega arith)).coming ∙ before i d (omega arith) ∙ ap (λ (ps : List Place). map (λ p. None) ps) (sym (releases i d (omega arith)).same.own.places)
 
   pub release-lanes : (m : Traffic) → AllStand net xs m → Shows net view m → All (λ y. All (λ (e : Transfer). IsLane net e.to) y.handed) ys
   release-lanes m s shows i d h = subst (All (λ (e : Transfer). IsLane net e.to)) (sym ((releases i d (omega arith)).handed m s.on shows (s.each i d (omega arith)))) (crossings-lanes net m s.on (get_or xs i d).own.places)
 
-module _ (net : NetSpec) (ys zs ws : List Part) (a : length zs ≡ length ys) (b : length ws ≡ length ys) (moves : Each (λ y z. z ≡ received (all_handed ys) y) ys zs) where
+module _ (net : NetSpec) (ys zs ws : List TileView) (a : length zs ≡ length ys) (b : length ws ≡ length ys) (moves : Each (λ y z. z ≡ received (all_handed ys) y) ys zs) where
   pub prepared-move : All IsPrepared ys → All IsPrepared zs
   prepared-move prepared i d h = subst IsPrepared (sym (moves i d (omega arith))) (prepared i d (omega arith))
 
-  module _ (us : List Part) (c : length us ≡ length ys) (enters : Each (EnterPhase net) zs ws) (meter : Each (MeterPhase net) ws us) where
+  module _ (us : List TileView) (c : length us ≡ length ys) (enters : Each (EnterPhase net) zs ws) (meter : Each (MeterPhase net) ws us) where
     idle-again : All (λ u. (u.handed ≡ []) × (u.coming ≡ nobody u)) us
     idle-again i d h = (
-      (meter i d (omega arith)).goes.handed ∙ (enters i d (omega arith)).handed ∙ ap (λ (t : Part). t.handed) (moves i d (omega arith)),
+      (meter i d (omega arith)).goes.handed ∙ (enters i d (omega arith)).handed ∙ ap (λ (t : TileView). t.handed) (moves i d (omega arith)),
       (meter i d (omega arith)).goes.coming ∙ (enters i d (omega arith)).coming ∙ ap (λ (ps : List Place). map (λ p. None) ps) (sym ((meter i d (omega arith)).goes.same.own.places ∙ (enters i d (omega arith)).same.own.places)),
     )
 
@@ -143,12 +143,12 @@ unfolding departed released driven changed
 detectors-through m = refl
 
 -- what the detectors note in the last phase is what they note in the step
-ends-meters : (x : Part) (m : Traffic) → MetersStand x (noted_by (changed m) (departed (released (driven (changed m))))) → MetersStand x (step m)
+ends-meters : (x : TileView) (m : Traffic) → MetersStand x (noted_by (changed m) (departed (released (driven (changed m))))) → MetersStand x (step m)
 unfolding step noted_by
 ends-meters x m s = s
 
 -- a step whole: whatever the tiles stood for, they then stand for the machine's next state
-module _ (net : NetSpec) (view : List Bool) (x0 x1 x2 x3 x4 x5 : List Part) (e1 : length x1 ≡ length x0) (e2 : length x2 ≡ length x0) (e3 : length x3 ≡ length x0) (e4 : length x4 ≡ length x0) (e5 : length x5 ≡ length x0)
+module _ (net : NetSpec) (view : List Bool) (x0 x1 x2 x3 x4 x5 : List TileView) (e1 : length x1 ≡ length x0) (e2 : length x2 ≡ length x0) (e3 : length x3 ≡ length x0) (e4 : length x4 ≡ length x0) (e5 : length x5 ≡ length x0)
     (tiles : AreTiles net x0) (lanes : Each (LanePhase net) x0 x1) (motion : Each (MotionPhase net) x1 x2) (shows : (m : Traffic) → AllStand net x2 m → Shows net view m)
     (releases : Each (ReleasePhase net view) x2 x3) (moves : Each (λ y z. z ≡ received (all_handed x3) y) x3 x4) (enters : Each (EnterPhase net) x4 x5) where
   pub stand-enter : (m : Traffic) → AllStand net x0 m → AllStand net x5 (departed (released (driven (changed m))))
@@ -160,18 +160,18 @@ module _ (net : NetSpec) (view : List Bool) (x0 x1 x2 x3 x4 x5 : List Part) (e1 
   pub in-time : (m : Traffic) → AllStand net x0 m → m.clock < last_clock → All (λ x. x.clock < last_clock) x5
   in-time m s h i d l = let e = (stand-enter m s).each i d l in let c = e.clock ∙ clock-through m in omega arith
 
-  stand-step : (x6 : List Part) → length x6 ≡ length x0 → Each (MeterPhase net) x5 x6 → (m : Traffic) → AllStand net x0 m → AllStand net x6 (step m)
+  stand-step : (x6 : List TileView) → length x6 ≡ length x0 → Each (MeterPhase net) x5 x6 → (m : Traffic) → AllStand net x0 m → AllStand net x6 (step m)
   stand-step x6 e6 meter m s =
       let five = stand-enter m s in
       ends-step net x6 m (goes-all net ticked x5 x6 (omega arith) (λ i d h. (meter i d h).goes) (departed (released (driven (changed m)))) (on-ticked net (departed (released (driven (changed m)))) five.on) five)
 
-  arrived-step : (x6 : List Part) → length x6 ≡ length x0 → Each (MeterPhase net) x5 x6 → (m : Traffic) → AllStand net x0 m → Each (λ x y. y.arrived ≡ filter_map (λ p. arrival (leaver_of (changed m) p)) x.own.places) x0 x6
+  arrived-step : (x6 : List TileView) → length x6 ≡ length x0 → Each (MeterPhase net) x5 x6 → (m : Traffic) → AllStand net x0 m → Each (λ x y. y.arrived ≡ filter_map (λ p. arrival (leaver_of (changed m) p)) x.own.places) x0 x6
   arrived-step x6 e6 meter m s i d h =
-      (meter i d (omega arith)).arrived ∙ (enters i d (omega arith)).arrived ∙ ap (λ (t : Part). t.arrived) (moves i d (omega arith)) ∙ (releases i d (omega arith)).arrived
+      (meter i d (omega arith)).arrived ∙ (enters i d (omega arith)).arrived ∙ ap (λ (t : TileView). t.arrived) (moves i d (omega arith)) ∙ (releases i d (omega arith)).arrived
       ∙ arrived-motion net x0 x1 x2 e1 e2 lanes motion m s i d h
 
   -- the detectors note the step
-  meters-step : (x6 : List Part) → length x6 ≡ length x0 → Each (MeterPhase net) x5 x6 → (m : Traffic) → AllStand net x0 m → AllMetersStand x0 m → AllMetersStand x6 (step m)
+  meters-step : (x6 : List TileView) → length x6 ≡ length x0 → Each (MeterPhase net) x5 x6 → (m : Traffic) → AllStand net x0 m → AllMetersStand x0 m → AllMetersStand x6 (step m)
   meters-step x6 e6 meter m s stands i d h =
       let before = changed m in
       let after = departed (released (driven before)) in
@@ -182,14 +182,14 @@ module _ (net : NetSpec) (view : List Bool) (x0 x1 x2 x3 x4 x5 : List Part) (e1 
       let entered = enters i d (omega arith) in
       let one = goes-all net changed x0 x1 e1 (λ j e l. (lanes j e l).goes) m (on-changed net m s.on) s in
       let five = stand-enter m s in
-      let places : (get_or x5 i d).own.places ≡ (get_or x1 i d).own.places = entered.same.own.places ∙ ap (λ (t : Part). t.own.places) came ∙ left.same.own.places ∙ moved.goes.same.own.places in
-      let detectors : (get_or x5 i d).detectors ≡ (get_or x2 i d).detectors = entered.detectors ∙ ap (λ (t : Part). t.detectors) came ∙ left.detectors in
+      let places : (get_or x5 i d).own.places ≡ (get_or x1 i d).own.places = entered.same.own.places ∙ ap (λ (t : TileView). t.own.places) came ∙ left.same.own.places ∙ moved.goes.same.own.places in
+      let detectors : (get_or x5 i d).detectors ≡ (get_or x2 i d).detectors = entered.detectors ∙ ap (λ (t : TileView). t.detectors) came ∙ left.detectors in
       let saw : HaveWatched before (get_or x5 i d).own.places (get_or x5 i d).detectors = rw (places, detectors) (moved.watched before one.on (one.each i d (omega arith))) in
       let meters : (k : ℕ) → (detectors_at (get_or x5 i d).detectors k).meters ≡ (detectors_at (get_or x0 i d).detectors k).meters = λ k. ap (λ gs. (detectors_at gs k).meters) detectors ∙ ap (λ (g : Detectors). g.meters) (moved.detectors.each k) ∙ ap (λ gs. (detectors_at gs k).meters) sideways.detectors in
       let stood = meters-through (get_or x0 i d) (get_or x5 i d) m after (places ∙ sideways.goes.same.own.places) meters (detectors-through m) (stands i d (omega arith)) in
       ends-meters (get_or x6 i d) m ((meter i d (omega arith)).noted before after five.on (five.each i d (omega arith)) saw stood)
 
-  pub whole-step : (x6 : List Part) → length x6 ≡ length x0 → Each (MeterPhase net) x5 x6 → Steps net x0 x6
+  pub whole-step : (x6 : List TileView) → length x6 ≡ length x0 → Each (MeterPhase net) x5 x6 → Steps net x0 x6
   whole-step x6 e6 meter = record {
     machine = stand-step x6 e6 meter;
     arrived = arrived-step x6 e6 meter;

@@ -12,7 +12,7 @@ use Rattle.street_node.specs.Prelude.{ShowsAs, AtMostOnce}
 use Rattle.street_lanes.specs.Prelude.{LaneView, LaneStands, Lanes, IsLane, Same, GoesIf, GoesAt, lane_of, size_of, size_on, IsOn}
 use Rattle.street_lanes.specs.Lanes.{IsOf}
 use Rattle.street_net.specs.Prelude.{slot_of}
-use Rattle.street_tile.specs.Prelude.{Part, IsTileOf, StandsFor, AreNumbers, is_own, at_place, planned, DoesIf, Does}
+use Rattle.street_tile.specs.Prelude.{TileView, IsTileOf, StandsFor, AreNumbers, is_own, at_place, planned, DoesIf, Does}
 use Rattle.street_tile.proofs.SameLanes.{same-none, same-long, even-of}
 use Rattle.street_tile.proofs.SameTile.{tile-seen, place-seen, at-view}
 use Rattle.street_tile.proofs.Each.{lane_at-each}
@@ -22,8 +22,8 @@ use Rattle.street_tile.proofs.Numbers.{number-found, apart-at}
 -- ---- lanes
 
 -- an own lane's number, where the table is of the fields of a tile
-pub number-seen : (net : NetSpec) {x v : Part} → x ≡ v → (p : Place) (numbers : List ℕ) (slot at d : ℕ) → IsTileOf net v → AreNumbers x.links x.own.places numbers → IsLane net p → is_own net v.low v.high p ≡ true → slot ≡ slot_of p → at ≡ get_or numbers slot d → slice_get v.own.places at ≡ Some p
-number-seen net {x} {v} is p numbers slot at d tile numbered there own = number-found net v p numbers slot at d tile (subst (λ (t : Part). AreNumbers t.links t.own.places numbers) is numbered) there own
+pub number-seen : (net : NetSpec) {x v : TileView} → x ≡ v → (p : Place) (numbers : List ℕ) (slot at d : ℕ) → IsTileOf net v → AreNumbers x.links x.own.places numbers → IsLane net p → is_own net v.low v.high p ≡ true → slot ≡ slot_of p → at ≡ get_or numbers slot d → slice_get v.own.places at ≡ Some p
+number-seen net {x} {v} is p numbers slot at d tile numbered there own = number-found net v p numbers slot at d tile (subst (λ (t : TileView). AreNumbers t.links t.own.places numbers) is numbered) there own
 
 -- a lane is as long as its link
 pub lane-sized : (net : NetSpec) (x : Lanes) → IsOf net x → (n : ℕ) (p : Place) → slice_get x.places n ≡ Some p → length (lane_of x n).track.cells ≡ (link_at net p.link).length
@@ -49,7 +49,7 @@ pub lane_at-place : (net : NetSpec) (p : Place) (rule : LaneState → LaneState)
 unfolding at_place
 lane_at-place net p rule m on q there = lane_at-each net m on q there (λ r lane. if is_place r p then rule lane else lane)
 
-module _ (net : NetSpec) (x : Part) (tile : IsTileOf net x) where
+module _ (net : NetSpec) (x : TileView) (tile : IsTileOf net x) where
   -- no lane is a tile's twice
   pub once-in : AtMostOnce x.own.places
   once-in = subst AtMostOnce (sym tile.places) (own-once net x.low x.high)
@@ -100,7 +100,7 @@ module _ (net : NetSpec) (x : Part) (tile : IsTileOf net x) where
 -- ---- signals
 
 -- a plan that shows what another shows, set at an own node
-pub does-plan : (net : NetSpec) (x : Part) (node : ℕ) (plan other : SignalPlan) → x.low ≤ node → node - x.low < length x.signals → ShowsAs plan other → DoesIf net (λ m. node < length m.signals) (planned node other) x (record x { signals = set x.signals (node - x.low) (Some plan) })
+pub does-plan : (net : NetSpec) (x : TileView) (node : ℕ) (plan other : SignalPlan) → x.low ≤ node → node - x.low < length x.signals → ShowsAs plan other → DoesIf net (λ m. node < length m.signals) (planned node other) x (record x { signals = set x.signals (node - x.low) (Some plan) })
 unfolding planned
 does-plan net x node plan other low within shows = record {
   same = record { low = refl; high = refl; links = refl; own = same-none x.own; sized = refl };
@@ -127,7 +127,7 @@ does-plan net x node plan other low within shows = record {
 
 -- ---- of what the fields of a tile show
 
-module _ (net : NetSpec) {x v : Part} (is : x ≡ v) (tile : IsTileOf net v) (n : ℕ) (p : Place) (at : slice_get v.own.places n ≡ Some p) where
+module _ (net : NetSpec) {x v : TileView} (is : x ≡ v) (tile : IsTileOf net v) (n : ℕ) (p : Place) (at : slice_get v.own.places n ≡ Some p) where
   pub seen-length : length (lane_of x.own n).track.cells ≡ (link_at net p.link).length
   seen-length = lane-sized net x.own (tile-seen is tile).own n p (place-seen n p is at)
 
@@ -145,13 +145,13 @@ module _ (net : NetSpec) {x v : Part} (is : x ≡ v) (tile : IsTileOf net v) (n 
   seen-at rule own goes = at-view (Does net (at_place p rule)) is (does-at net x (tile-seen is tile) n p (place-seen n p is at) rule own goes)
 
   pub seen-count : (closed : Bool) (first last : ℕ) (own : Lanes) (count : ℕ) → GoesAt n (with_marks closed first last) x.own own → ((s : LaneState) → LaneStands (lane_of own n) s → count ≡ closed_cells s.track.closed) → (m : Traffic) → StandsFor v m → count ≡ closed_after closed first last (lane_at m p)
-  seen-count closed first last own count goes counts m s = counts (with_marks closed first last (lane_at m p)) (goes.goes (lane_at m p) (stands-in net x (tile-seen is tile) m (subst (λ (t : Part). StandsFor t m) (sym is) s) n p (place-seen n p is at)))
+  seen-count closed first last own count goes counts m s = counts (with_marks closed first last (lane_at m p)) (goes.goes (lane_at m p) (stands-in net x (tile-seen is tile) m (subst (λ (t : TileView). StandsFor t m) (sym is) s) n p (place-seen n p is at)))
 
   pub seen-shown : (reply : Reply) → ((s : LaneState) → LaneStands (lane_of x.own n) s → reply ≡ shown_lane s) → (m : Traffic) → StandsFor v m → reply ≡ shown_lane (lane_at m p)
-  seen-shown reply shows m s = shows (lane_at m p) (stands-in net x (tile-seen is tile) m (subst (λ (t : Part). StandsFor t m) (sym is) s) n p (place-seen n p is at))
+  seen-shown reply shows m s = shows (lane_at m p) (stands-in net x (tile-seen is tile) m (subst (λ (t : TileView). StandsFor t m) (sym is) s) n p (place-seen n p is at))
 
-pub seen-plan : (net : NetSpec) {x v : Part} → x ≡ v → (node k : ℕ) (plan other : SignalPlan) → v.low ≤ node → node < v.high → x.low + length x.signals ≡ x.high → k ≡ node → ShowsAs plan other → DoesIf net (λ m. node < length m.signals) (planned node other) v (record x { signals = set x.signals (k - x.low) (Some plan) })
+pub seen-plan : (net : NetSpec) {x v : TileView} → x ≡ v → (node k : ℕ) (plan other : SignalPlan) → v.low ≤ node → node < v.high → x.low + length x.signals ≡ x.high → k ≡ node → ShowsAs plan other → DoesIf net (λ m. node < length m.signals) (planned node other) v (record x { signals = set x.signals (k - x.low) (Some plan) })
 seen-plan net {x} {v} is node k plan other low high nodes same shows =
-    let low_x : x.low ≤ node = subst (λ (t : Part). t.low ≤ node) (sym is) low in
-    let high_x : node < x.high = subst (λ (t : Part). node < t.high) (sym is) high in
+    let low_x : x.low ≤ node = subst (λ (t : TileView). t.low ≤ node) (sym is) low in
+    let high_x : node < x.high = subst (λ (t : TileView). node < t.high) (sym is) high in
     at-view (DoesIf net (λ m. node < length m.signals) (planned node other)) is (rw same (does-plan net x node plan other low_x (omega arith) shows))

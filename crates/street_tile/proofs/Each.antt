@@ -4,6 +4,7 @@ use Rattle.std.specs.List.{enumerate_from}
 use Rattle.street_base.specs.declared.net.NetSpec.{NetSpec}
 use Rattle.street_base.specs.declared.names.Place.{Place}
 use Rattle.street_base.specs.Prelude.{link_at, Traffic, LaneState, no_lane, lane_at, each_lane, Vehicle, released, entering, departed, departed_lane}
+use Rattle.street_base.proofs.Counting.{shift}
 use Rattle.street_base.proofs.CensusLemmas.{HasShape}
 use Rattle.street_base.proofs.FormLemmas.{shape-of}
 use Rattle.street_lanes.specs.Prelude.{IsLane, IsOn}
@@ -13,9 +14,6 @@ pub enumerated-at : {A B : Type 0} (f : ℕ → A → B) (n : ℕ) (xs : List A)
 enumerated-at f n [] k d e h = absurd (omega arith)
 enumerated-at f n (x ∷ xs) zero d e h = ap (λ i. f i x) (sym (add-zero n))
 enumerated-at f n (x ∷ xs) (suc k) d e h = enumerated-at f (n + 1) xs k d e (omega arith) ∙ ap (λ i. f i (get_or xs k d)) (shift n k)
-  where
-    shift : (n k : ℕ) → n + 1 + k ≡ n + suc k
-    shift n k = omega arith
 
 module _ (net : NetSpec) (m : Traffic) (on : IsOn net m) (p : Place) (there : IsLane net p) where
   pub shape : HasShape m

@@ -11,7 +11,7 @@ use Rattle.street_lanes.specs.Prelude.{LaneStands, Lanes, lane_of, place_at, no_
 use Rattle.street_lanes.specs.Lanes.{IsOf}
 use Rattle.street_meter.specs.Meter.{Meter, Stands, detector_of, next_step}
 use Rattle.street_rule.specs.declared.watch.Watch.{Watch}
-use Rattle.street_tile.specs.Prelude.{Part, IsBare, AreBare, AreDue, sizes_of, no_detectors, detectors_at, bare, KeepMeters, HaveNoted, detectors_on, MetersStand}
+use Rattle.street_tile.specs.Prelude.{TileView, IsBare, AreBare, AreDue, sizes_of, no_detectors, detectors_at, bare, KeepMeters, HaveNoted, detectors_on, MetersStand}
 use Rattle.street_tile.proofs.SameLanes.{even-of}
 use Rattle.street_node.proofs.LaneWalk.{filter-holds}
 
@@ -250,7 +250,7 @@ lane-noted before m p olds news ws go note saw stand =
 -- ---- through the phases
 
 -- what does not change the meters nor the detectors
-pub meters-through : (x y : Part) (m after : Traffic) → y.own.places ≡ x.own.places → ((k : ℕ) → (detectors_at y.detectors k).meters ≡ (detectors_at x.detectors k).meters) → after.detectors ≡ m.detectors → MetersStand x m → MetersStand y after
+pub meters-through : (x y : TileView) (m after : Traffic) → y.own.places ≡ x.own.places → ((k : ℕ) → (detectors_at y.detectors k).meters ≡ (detectors_at x.detectors k).meters) → after.detectors ≡ m.detectors → MetersStand x m → MetersStand y after
 meters-through x y m after places meters detectors stand k p at =
     subst (λ (ds : List Detector). MetersStandFor (detectors_at y.detectors k).meters (detectors_on p ds)) (sym detectors)
     (subst (λ (xs : List Meter). MetersStandFor xs (detectors_on p m.detectors)) (sym (meters k)) (stand k p (sym (ap (λ (ps : List Place). slice_get ps k) places) ∙ at)))

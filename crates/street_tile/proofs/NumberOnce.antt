@@ -9,7 +9,7 @@ use Rattle.street_base.specs.declared.names.Place.{Place}
 use Rattle.street_base.specs.Prelude.{SignalPlan, Traffic, LaneState, Queued, Waiting, lane_at, in_lane, lane_without}
 use Rattle.street_lanes.specs.Prelude.{LaneView, LaneStands, Lanes, IsLane, AllLanes, GoesIf, lane_of, place_at, no_place, IsOn, PlanStands}
 use Rattle.street_lanes.proofs.Without.{all-stay, cells-stay}
-use Rattle.street_tile.specs.Prelude.{Part, IsTileOf, StandsFor, without, DoesIf, HaveAtMostOne}
+use Rattle.street_tile.specs.Prelude.{TileView, IsTileOf, StandsFor, without, DoesIf, HaveAtMostOne}
 use Rattle.street_tile.proofs.Each.{lane_at-each}
 use Rattle.street_tile.proofs.SameLanes.{place-is, stands-at, stand-all, even-of}
 use Rattle.street_tile.proofs.OwnLanes.{own-lanes}
@@ -30,8 +30,8 @@ sum-both f (r ∷ ps) (suc j) (suc k) p q ne a b = let le = sum-both f ps j k p 
 
 -- ---- a lane of a tile, as its view shows it
 
-pub lane-seen : {net : NetSpec} {x v : Part} (n : ℕ) → x ≡ v → IsTileOf net v → n < length v.own.places → IsTileOf net x × (n < length x.own.places)
-lane-seen {net} n is tile within = subst (λ (u : Part). IsTileOf net u × (n < length u.own.places)) (sym is) (tile, within)
+pub lane-seen : {net : NetSpec} {x v : TileView} (n : ℕ) → x ≡ v → IsTileOf net v → n < length v.own.places → IsTileOf net x × (n < length x.own.places)
+lane-seen {net} n is tile within = subst (λ (u : TileView). IsTileOf net u × (n < length u.own.places)) (sym is) (tile, within)
 
 -- ---- a number that is not there
 
@@ -65,7 +65,7 @@ module _ (number : ℕ) where
   unfolding without
   signals-without m = refl
 
-  module _ (net : NetSpec) (x : Part) (tile : IsTileOf net x) (n : ℕ) (h : n < length x.own.places) where
+  module _ (net : NetSpec) (x : TileView) (tile : IsTileOf net x) (n : ℕ) (h : n < length x.own.places) where
     there : (k : ℕ) (p : Place) → slice_get x.own.places k ≡ Some p → IsLane net p
     there = subst (AllLanes net) (sym tile.places) (own-lanes net x.low x.high)
 

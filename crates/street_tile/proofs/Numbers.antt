@@ -12,22 +12,22 @@ use Rattle.street_base.proofs.PlaceLemmas.{places-listed}
 use Rattle.street_base.proofs.PlaceOnceLemmas.{places-once}
 use Rattle.street_lanes.specs.Prelude.{IsLane}
 use Rattle.street_net.specs.Prelude.{slot_of}
-use Rattle.street_tile.specs.Prelude.{Part, IsTileOf, AreNumbers, is_own}
+use Rattle.street_tile.specs.Prelude.{TileView, IsTileOf, AreNumbers, is_own}
 use Rattle.street_node.specs.Prelude.{AtMostOnce}
 use Rattle.street_node.proofs.BufferWalk.{times-cons, times-at, once-rest, at-any}
 use Rattle.street_tile.proofs.PublishedView.{any-at}
 use Rattle.street_tile.proofs.MovedHandOvers.{own-listed}
 
 -- an own lane has a number
-pub own-number : (net : NetSpec) (x : Part) (p : Place) → IsTileOf net x → IsLane net p → is_own net x.low x.high p ≡ true → (k : ℕ) × (slice_get x.own.places k ≡ Some p)
+pub own-number : (net : NetSpec) (x : TileView) (p : Place) → IsTileOf net x → IsLane net p → is_own net x.low x.high p ≡ true → (k : ℕ) × (slice_get x.own.places k ≡ Some p)
 own-number net x p tile there own = any-at p x.own.places (subst (λ (ps : List Place). list_any (is_place p) ps ≡ true) (sym tile.places) (own-listed net x.low x.high p (places-once net p (places-listed net p there.1)) own))
 
 -- it has its place among the own lanes at its number
-pub number-at : (net : NetSpec) (x : Part) (p : Place) (numbers : List ℕ) → IsTileOf net x → AreNumbers x.links x.own.places numbers → IsLane net p → is_own net x.low x.high p ≡ true → slice_get x.own.places (get_or numbers (slot_of p) 0) ≡ Some p
+pub number-at : (net : NetSpec) (x : TileView) (p : Place) (numbers : List ℕ) → IsTileOf net x → AreNumbers x.links x.own.places numbers → IsLane net p → is_own net x.low x.high p ≡ true → slice_get x.own.places (get_or numbers (slot_of p) 0) ≡ Some p
 number-at net x p numbers tile numbered there own = let found = own-number net x p tile there own in ap (slice_get x.own.places) (numbered.at found.0 p found.1) ∙ found.1
 
 -- so has it at a number that was read there
-pub number-found : (net : NetSpec) (x : Part) (p : Place) (numbers : List ℕ) (slot at d : ℕ) → IsTileOf net x → AreNumbers x.links x.own.places numbers → IsLane net p → is_own net x.low x.high p ≡ true → slot ≡ slot_of p → at ≡ get_or numbers slot d → slice_get x.own.places at ≡ Some p
+pub number-found : (net : NetSpec) (x : TileView) (p : Place) (numbers : List ℕ) (slot at d : ℕ) → IsTileOf net x → AreNumbers x.links x.own.places numbers → IsLane net p → is_own net x.low x.high p ≡ true → slot ≡ slot_of p → at ≡ get_or numbers slot d → slice_get x.own.places at ≡ Some p
 number-found net x p numbers slot at d tile numbered there own slot_is at_is =
     let link = there.0 in
     let lane = there.1 in

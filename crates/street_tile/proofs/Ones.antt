@@ -11,7 +11,7 @@ use Rattle.street_base.proofs.ReleaseLemmas.{is_place-refl}
 use Rattle.street_base.proofs.ReleaseCountLemmas.{in_lanes-places}
 use Rattle.street_base.proofs.FormLemmas.{shape-of}
 use Rattle.street_lanes.specs.Prelude.{IsOn}
-use Rattle.street_tile.specs.Prelude.{Part, IsTileOf, is_own, own_places, HaveAtMostOne}
+use Rattle.street_tile.specs.Prelude.{TileView, IsTileOf, is_own, own_places, HaveAtMostOne}
 use Rattle.street_base.proofs.PlaceOnceLemmas.{one_if-le}
 use Rattle.street_tile.proofs.PublishedView.{any-at}
 use Rattle.street_tile.proofs.NumberOnce.{sum-at, sum-both}
@@ -47,7 +47,7 @@ filter-le f own (p ∷ ps) = elim (cases_Bool (own p)) as (λ _. sum_by f (filte
 ]
 
 -- a number stands on them at most once
-pub have-one : (net : NetSpec) (x : Part) (number : ℕ) (m : Traffic) → IsTileOf net x → IsOn net m → IsWhole m → HaveAtMostOne x.own.places m number
+pub have-one : (net : NetSpec) (x : TileView) (number : ℕ) (m : Traffic) → IsTileOf net x → IsOn net m → IsWhole m → HaveAtMostOne x.own.places m number
 have-one net x number m tile on whole =
     let f : Place → ℕ = λ p. in_lane number (lane_at m p) in
     let part = filter-le f (is_own net x.low x.high) (places net) in

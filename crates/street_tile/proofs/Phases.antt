@@ -4,7 +4,7 @@ use Rattle.street_base.specs.declared.net.NetSpec.{NetSpec}
 use Rattle.street_base.specs.declared.names.Place.{Place}
 use Rattle.street_base.specs.Prelude.{Vehicle, is_free, Traffic, lane_at, departed, departed_lane, changed, driven, arrival, leaver_of}
 use Rattle.street_lanes.specs.Prelude.{LaneStands, Lanes, AllLanes, Same, place_at, IsOn, LanesStand, LanesGo, AllFree, Detectors}
-use Rattle.street_tile.specs.Prelude.{Transfer, vehicle_in, crossing, let_go, placed, placed_lane, Part, IsTileOf, StandsFor, Shows, ShowSignals, ArePairs, nobody, is_own, KeepMeters, HaveWatched, LanePhase, MotionPhase, ReleasePhase, EnterPhase, IsReleasing}
+use Rattle.street_tile.specs.Prelude.{Transfer, vehicle_in, crossing, let_go, placed, placed_lane, TileView, IsTileOf, StandsFor, Shows, ShowSignals, ArePairs, nobody, is_own, KeepMeters, HaveWatched, LanePhase, MotionPhase, ReleasePhase, EnterPhase, IsReleasing}
 use Rattle.street_net.specs.Prelude.{mouth}
 use Rattle.street_node.specs.Prelude.{IsWalk}
 use Rattle.street_tile.proofs.SameLanes.{place-is}
@@ -21,7 +21,7 @@ nobody-in [] (p ∷ ps) e = absurd (omega arith)
 nobody-in (o ∷ os) [] e = absurd (omega arith)
 nobody-in (o ∷ os) (p ∷ ps) e = ap (λ (vs : List (Option Vehicle)). None ∷ vs) (nobody-in os ps (omega arith))
 
-module _ (net : NetSpec) (x : Part) (tile : IsTileOf net x) where
+module _ (net : NetSpec) (x : TileView) (tile : IsTileOf net x) where
   pub tile-pairs : ArePairs net x.own.places
   tile-pairs = subst (ArePairs net) (sym tile.places) (own-pairs net x.low x.high tile.roads.two)
 

@@ -10,7 +10,7 @@ use Rattle.street_base.specs.declared.names.Place.{Place}
 use Rattle.street_base.proofs.ReleaseLemmas.{is_place-same, is_place-refl}
 use Rattle.street_meter.specs.Meter.{Meter, next_step}
 use Rattle.street_lanes.specs.Prelude.{Detectors, MeterStands, MetersStandFor, Placed}
-use Rattle.street_tile.specs.Prelude.{Part, IsTileOf, StandsFor, AreDue, sizes_of, detectors_at, no_detectors, detectors_on, MetersStand, PlacesMeter}
+use Rattle.street_tile.specs.Prelude.{TileView, IsTileOf, StandsFor, AreDue, sizes_of, detectors_at, no_detectors, detectors_on, MetersStand, PlacesMeter}
 use Rattle.street_tile.proofs.SameLanes.{same-none}
 use Rattle.street_tile.proofs.SameTile.{tile-seen, place-seen, at-view}
 use Rattle.street_tile.proofs.Numbers.{apart-at}
@@ -40,14 +40,14 @@ stand-more xs ds x d stand one =
     }
 
 -- a detector elsewhere
-pub meters-elsewhere : (x : Part) (p : Place) (cell period : ℕ) → ((k : ℕ) → slice_get x.own.places k ≡ Some p → ⊥) → (m : Traffic) → MetersStand x m → MetersStand x (metered m p cell period)
+pub meters-elsewhere : (x : TileView) (p : Place) (cell period : ℕ) → ((k : ℕ) → slice_get x.own.places k ≡ Some p → ⊥) → (m : Traffic) → MetersStand x m → MetersStand x (metered m p cell period)
 unfolding metered
 meters-elsewhere x p cell period away m stand k q at =
     let other : is_place q p ≡ false = false_from_ne_true (is_place q p) (λ here. absurd (away k (at ∙ ap (λ (r : Place). Some r) (is_place-same q p here)))) in
     subst (MetersStandFor (detectors_at x.detectors k).meters) (sym (more-away q m.detectors _ other)) (stand k q at)
 
 -- a detector is no part of what a tile shows of lanes and signals
-pub stands-metered : (x : Part) (p : Place) (cell period : ℕ) (m : Traffic) → StandsFor x m → StandsFor x (metered m p cell period)
+pub stands-metered : (x : TileView) (p : Place) (cell period : ℕ) (m : Traffic) → StandsFor x m → StandsFor x (metered m p cell period)
 unfolding metered
 stands-metered x p cell period m s = record { clock = s.clock; lanes = s.lanes; none_loose = s.none_loose; signals = s.signals }
 
@@ -75,7 +75,7 @@ pub placed-or-not : {A B : Type 0} (clock : ℕ) (olds : List Detectors) (n : �
 placed-or-not clock olds n p cell period d after h (Ok a) ok err due = placed-due clock olds n p cell period d after h ok due
 placed-or-not clock olds n p cell period d after h (Err b) ok err due = subst (AreDue clock) (sym (ap (set olds n) err ∙ set-get_or olds n d)) due
 
-module _ (net : NetSpec) (x : Part) (tile : IsTileOf net x) (n : ℕ) (p : Place) (at : slice_get x.own.places n ≡ Some p) where
+module _ (net : NetSpec) (x : TileView) (tile : IsTileOf net x) (n : ℕ) (p : Place) (at : slice_get x.own.places n ≡ Some p) where
   pub there : n < length x.detectors
   there = let even = detectors-even net x.own tile.own x.detectors tile.sized in let h = slice_get_within x.own.places n p at in omega arith
 
@@ -128,7 +128,7 @@ module _ (net : NetSpec) (x : Part) (tile : IsTileOf net x) (n : ℕ) (p : Place
     }
 
 -- of what the fields of a tile show
-module _ (net : NetSpec) {x v : Part} (is : x ≡ v) (tile : IsTileOf net v) (n : ℕ) (p : Place) (at : slice_get v.own.places n ≡ Some p) where
+module _ (net : NetSpec) {x v : TileView} (is : x ≡ v) (tile : IsTileOf net v) (n : ℕ) (p : Place) (at : slice_get v.own.places n ≡ Some p) where
   pub seen-there : n < length x.detectors
   seen-there = there net x (tile-seen is tile) n p (place-seen n p is at)
 
@@ -137,7 +137,7 @@ module _ (net : NetSpec) {x v : Part} (is : x ≡ v) (tile : IsTileOf net v) (n 
 
   pub seen-meters : (d : Detectors) (m : Traffic) → MetersStand v m → MetersStandFor (get_or x.detectors n d).meters (detectors_on p m.detectors)
   seen-meters d m stand =
-      let same : detectors_at v.detectors n ≡ get_or x.detectors n d = ap (λ (t : Part). detectors_at t.detectors n) (sym is) ∙ sym (get_or_default x.detectors n d no_detectors seen-there) in
+      let same : detectors_at v.detectors n ≡ get_or x.detectors n d = ap (λ (t : TileView). detectors_at t.detectors n) (sym is) ∙ sym (get_or_default x.detectors n d no_detectors seen-there) in
       subst (λ (g : Detectors). MetersStandFor g.meters (detectors_on p m.detectors)) same (stand n p at)
 
   pub seen-placed : (cell period : ℕ) (d after : Detectors) → Placed p cell period x.clock (get_or x.detectors n d) after → PlacesMeter p cell period v (record x { detectors = set x.detectors n after })

@@ -10,7 +10,7 @@ use Rattle.street_base.specs.declared.names.Place.{Place}
 use Rattle.street_base.specs.Prelude.{is_place, places, Vehicle, Traffic, LaneState, Queued, Waiting, lane_at, weight, in_lane, IsSound, is_number, seen_in, seen}
 use Rattle.street_base.proofs.ReleaseLemmas.{is_place-same, is_place-refl}
 use Rattle.street_lanes.specs.Prelude.{IsLane}
-use Rattle.street_tile.specs.Prelude.{Part, IsTileOf, AreTiles, AllStand, HaveNot, HaveAtMostOne, Finds, WhereOnce, all_places, TilesView, TilesStandFor, OwnsLink, TileHasNot}
+use Rattle.street_tile.specs.Prelude.{TileView, IsTileOf, AreTiles, AllStand, HaveNot, HaveAtMostOne, Finds, WhereOnce, all_places, TilesView, TilesStandFor, OwnsLink, TileHasNot}
 use Rattle.street_tile.proofs.OwnLanes.{lane-of}
 use Rattle.street_tile.proofs.Rows.{in-row, roads-of}
 use Rattle.street_tile.proofs.PublishedView.{any-at, some-tile}
@@ -85,15 +85,15 @@ all-none h (r ∷ ps) none =
 -- ---- asked tile by tile
 
 -- a lane of one of the tiles
-tile-with : (p : Place) (xs : List Part) → list_any (is_place p) (all_places xs) ≡ true → (k : ℕ) × (k < length xs) × ((d : Part) → list_any (is_place p) (get_or xs k d).own.places ≡ true)
+tile-with : (p : Place) (xs : List TileView) → list_any (is_place p) (all_places xs) ≡ true → (k : ℕ) × (k < length xs) × ((d : TileView) → list_any (is_place p) (get_or xs k d).own.places ≡ true)
 tile-with p [] e = cc
-tile-with p (x ∷ xs) e = elim (or_cases (list_any (is_place p) (all_places xs)) (list_any (is_place p) x.own.places) (sym (list_any-append (is_place p) (all_places xs) x.own.places) ∙ e)) as (λ _. (k : ℕ) × (k < length (x ∷ xs)) × ((d : Part) → list_any (is_place p) (get_or (x ∷ xs) k d).own.places ≡ true)) [
+tile-with p (x ∷ xs) e = elim (or_cases (list_any (is_place p) (all_places xs)) (list_any (is_place p) x.own.places) (sym (list_any-append (is_place p) (all_places xs) x.own.places) ∙ e)) as (λ _. (k : ℕ) × (k < length (x ∷ xs)) × ((d : TileView) → list_any (is_place p) (get_or (x ∷ xs) k d).own.places ≡ true)) [
   | inl later ↦ (let r = tile-with p xs later in let h = r.1 in (suc r.0, omega arith, r.2))
   | inr here ↦ (0, omega arith, λ d. here)
 ]
 
-module _ (net : NetSpec) (xs : List Part) (tiles : AreTiles net xs) (number : ℕ) where
-  module _ {here : NetSpec} {v : TilesView} {i : ℕ} {x : Part} (t : IsTileAt net here xs v i x) where
+module _ (net : NetSpec) (xs : List TileView) (tiles : AreTiles net xs) (number : ℕ) where
+  module _ {here : NetSpec} {v : TilesView} {i : ℕ} {x : TileView} (t : IsTileAt net here xs v i x) where
     tile : IsTileOf net (get_or xs i x)
     tile = tiles-of net 0 (length net.nodes) xs (in-row net xs tiles) i x t.within
 
@@ -134,11 +134,11 @@ module _ (net : NetSpec) (xs : List Part) (tiles : AreTiles net xs) (number : �
         ])
 
   -- no tile has it
-  pub nowhere-seen : (m : Traffic) → AllStand net xs m → ((k : ℕ) (d : Part) → k < length xs → HaveNot (get_or xs k d).own.places m number) → seen m number ≡ None
+  pub nowhere-seen : (m : Traffic) → AllStand net xs m → ((k : ℕ) (d : TileView) → k < length xs → HaveNot (get_or xs k d).own.places m number) → seen m number ≡ None
   unfolding seen
   nowhere-seen m s none = all-none (λ q. seen_in m.network q number (lane_at m q)) (places m.network) unseen
     where
-      first-part : (ys : List Part) → 0 < length ys → Part
+      first-part : (ys : List TileView) → 0 < length ys → TileView
       first-part [] h = absurd (omega arith)
       first-part (y ∷ ys) h = y
 
@@ -146,6 +146,6 @@ module _ (net : NetSpec) (xs : List Part) (tiles : AreTiles net xs) (number : �
       unseen q a =
           let there : list_any (is_place q) (places net) ≡ true = subst (λ (n : NetSpec). list_any (is_place q) (places n) ≡ true) s.on.network a in
           let tile = tile-with q xs (some-tile net (roads-of net xs tiles) xs (in-row net xs tiles) q (lane-of net q there)) in
-          let d : Part = first-part xs tiles.some in
+          let d : TileView = first-part xs tiles.some in
           let at = any-at q (get_or xs tile.0 d).own.places (tile.2 d) in
           zero-unseen m.network q number (lane_at m q) (none tile.0 d tile.1 at.0 q at.1)

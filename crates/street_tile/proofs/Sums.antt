@@ -13,7 +13,7 @@ use Rattle.street_base.proofs.ReleaseLemmas.{sums-same, sums-zero, sums-add}
 use Rattle.street_base.proofs.ReleaseCountLemmas.{sums-among}
 use Rattle.street_base.proofs.CensusLemmas.{HasShape, over_lanes-places}
 use Rattle.street_lanes.specs.Prelude.{IsLane}
-use Rattle.street_tile.specs.Prelude.{Part, IsRoads, is_own, all_places}
+use Rattle.street_tile.specs.Prelude.{TileView, IsRoads, is_own, all_places}
 use Rattle.street_tile.proofs.Rows.{InRow, AreInRow}
 use Rattle.street_tile.proofs.OwnLanes.{lane-of}
 use Rattle.street_node.proofs.LaneWalk.{gated}
@@ -56,11 +56,11 @@ gate-none net a n q = by_node (node_of net (link_at net q.link).to)
       | inr above ↦ rw (le-leb a node above, le-ltb node a above) refl
     ]
 
-row-le : (net : NetSpec) (low high : ℕ) (xs : List Part) → InRow net low high xs → low ≤ high
+row-le : (net : NetSpec) (low high : ℕ) (xs : List TileView) → InRow net low high xs → low ≤ high
 row-le net low high [] e = omega arith
 row-le net low high (x ∷ xs) r = let rest = row-le net x.high high xs r.3 in let le = r.2 in omega arith
 
-row-sums : (net : NetSpec) (f : Place → ℕ) (low high : ℕ) (xs : List Part) → InRow net low high xs → sum_by f (all_places xs) ≡ sum_by (λ p. gated (is_own net low high p) (f p)) (places net)
+row-sums : (net : NetSpec) (f : Place → ℕ) (low high : ℕ) (xs : List TileView) → InRow net low high xs → sum_by f (all_places xs) ≡ sum_by (λ p. gated (is_own net low high p) (f p)) (places net)
 row-sums net f low high [] e =
     let same : low ≡ high = e in
     sym (subst (λ (n : ℕ). sum_by (λ p. gated (is_own net low n p) (f p)) (places net) ≡ 0) same (sums-zero (λ p. gated (is_own net low low p) (f p)) (places net) (λ p. gate-none net low (f p) p)))
@@ -86,7 +86,7 @@ all-own net roads p there = whole (node_of net (link_at net p.link).to) refl (ro
     whole (Some node) e some = rw (le-leb 0 node (omega arith)) (lt-ltb node (length net.nodes) (position-Some (λ (n : NodeSpec). n.id == (link_at net p.link).to) net.nodes node nowhere e).0)
 
 -- over the lanes of all tiles of a network
-pub tiles-sums : (net : NetSpec) → IsRoads net → (f : Place → ℕ) (xs : List Part) → AreInRow net xs → sum_by f (all_places xs) ≡ sum_by f (places net)
+pub tiles-sums : (net : NetSpec) → IsRoads net → (f : Place → ℕ) (xs : List TileView) → AreInRow net xs → sum_by f (all_places xs) ≡ sum_by f (places net)
 tiles-sums net roads f xs row =
     row-sums net f 0 (length net.nodes) xs row
     ∙ sums-among (λ p. gated (is_own net 0 (length net.nodes) p) (f p)) f (places net) (λ p among. ap (λ (b : Bool). gated b (f p)) (all-own net roads p (lane-of net p among)))

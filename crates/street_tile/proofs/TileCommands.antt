@@ -11,7 +11,7 @@ use Rattle.street_base.proofs.ReleaseLemmas.{is_place-same}
 use Rattle.street_base.proofs.PlaceLemmas.{places-listed}
 use Rattle.street_base.proofs.FormLemmas.{each_lane-sizes}
 use Rattle.street_lanes.specs.Prelude.{LaneStands, IsLane, AllLanes, IsOn}
-use Rattle.street_tile.specs.Prelude.{Part, IsTileOf, AreTiles, AllStand, StandsFor, is_own, own_places, without, DoesIf, HaveNot, Have, HaveAtMostOne, WhereOnce, at_place, planned, TilesView, tiles_of, TilesStandFor, TilesGo, OwnsLink, AreKept, PlacesMeter}
+use Rattle.street_tile.specs.Prelude.{TileView, IsTileOf, AreTiles, AllStand, StandsFor, is_own, own_places, without, DoesIf, HaveNot, Have, HaveAtMostOne, WhereOnce, at_place, planned, TilesView, tiles_of, TilesStandFor, TilesGo, OwnsLink, AreKept, PlacesMeter}
 use Rattle.street_tile.proofs.NumberOnce.{lane-same, lane_at-without}
 use Rattle.street_tile.proofs.Numbers.{own-number}
 use Rattle.street_node.proofs.LaneWalk.{filter-holds}
@@ -42,20 +42,20 @@ some-or (Some x) some none = some refl
 -- ---- lanes of tiles
 
 -- an own lane is the network's, and the tile owns it
-pub own-at : (net : NetSpec) (x : Part) → IsTileOf net x → (k : ℕ) (p : Place) → slice_get x.own.places k ≡ Some p → (list_any (is_place p) (places net) ≡ true) × (is_own net x.low x.high p ≡ true)
+pub own-at : (net : NetSpec) (x : TileView) → IsTileOf net x → (k : ℕ) (p : Place) → slice_get x.own.places k ≡ Some p → (list_any (is_place p) (places net) ≡ true) × (is_own net x.low x.high p ≡ true)
 own-at net x tile k p at =
     let own : slice_get (own_places net x.low x.high) k ≡ Some p = ap (λ (ps : List Place). slice_get ps k) (sym tile.places) ∙ at in
     (places-listed net p (own-lanes net x.low x.high k p own).1, filter-holds (is_own net x.low x.high) (places net) k p own)
 
 -- two tiles have no lane in common
-pub apart : (net : NetSpec) (xs : List Part) → AreTiles net xs → (i k : ℕ) (d e : Part) → i < length xs → k < length xs → (k ≡ i → ⊥) → (j l : ℕ) (p q : Place) → slice_get (get_or xs i d).own.places j ≡ Some p → slice_get (get_or xs k e).own.places l ≡ Some q → is_place p q ≡ false
+pub apart : (net : NetSpec) (xs : List TileView) → AreTiles net xs → (i k : ℕ) (d e : TileView) → i < length xs → k < length xs → (k ≡ i → ⊥) → (j l : ℕ) (p q : Place) → slice_get (get_or xs i d).own.places j ≡ Some p → slice_get (get_or xs k e).own.places l ≡ Some q → is_place p q ≡ false
 apart net xs tiles i k d e h hk other j l p q at_p at_q =
     let row = in-row net xs tiles in
     let of_p = own-at net (get_or xs i d) (tiles-of net 0 (length net.nodes) xs row i d h) j p at_p in
     let of_q = own-at net (get_or xs k e) (tiles-of net 0 (length net.nodes) xs row k e hk) l q at_q in
     false_from_ne_true (is_place p q) (λ here.
     let same : p ≡ q = is_place-same p q here in
-    let owns : is_own net (get_or xs i e).low (get_or xs i e).high q ≡ true = subst (λ (r : Place). is_own net (get_or xs i e).low (get_or xs i e).high r ≡ true) same (subst (λ (t : Part). is_own net t.low t.high p ≡ true) (get_or_default xs i d e h) of_p.1) in
+    let owns : is_own net (get_or xs i e).low (get_or xs i e).high q ≡ true = subst (λ (r : Place). is_own net (get_or xs i e).low (get_or xs i e).high r ≡ true) same (subst (λ (t : TileView). is_own net t.low t.high p ≡ true) (get_or_default xs i d e h) of_p.1) in
     both_ways (is_own net (get_or xs k e).low (get_or xs k e).high q) (row-alone net 0 (length net.nodes) xs row i k e q other h hk owns) of_q.1)
 
 module _ (net : NetSpec) (number : ℕ) where
@@ -71,7 +71,7 @@ module _ (net : NetSpec) (number : ℕ) where
   }
 
   -- a tile that has it not stands as it did
-  not-there : (m : Traffic) → IsOn net m → (x : Part) → IsTileOf net x → HaveNot x.own.places m number → StandsFor x m → StandsFor x (without number m)
+  not-there : (m : Traffic) → IsOn net m → (x : TileView) → IsTileOf net x → HaveNot x.own.places m number → StandsFor x m → StandsFor x (without number m)
   unfolding without
   not-there m on x tile none s = record {
     clock = s.clock;
@@ -83,7 +83,7 @@ module _ (net : NetSpec) (number : ℕ) where
   }
 
   -- where one tile has it, another has it not
-  pub had-elsewhere : (m : Traffic) → IsWhole m → (xs : List Part) → AreTiles net xs → AllStand net xs m → (i k : ℕ) (d e : Part) → i < length xs → k < length xs → (k ≡ i → ⊥) → Have (get_or xs i d).own.places m number → HaveNot (get_or xs k e).own.places m number
+  pub had-elsewhere : (m : Traffic) → IsWhole m → (xs : List TileView) → AreTiles net xs → AllStand net xs m → (i k : ℕ) (d e : TileView) → i < length xs → k < length xs → (k ≡ i → ⊥) → Have (get_or xs i d).own.places m number → HaveNot (get_or xs k e).own.places m number
   had-elsewhere m whole xs tiles s i k d e h hk other have l q at =
       let row = in-row net xs tiles in
       let p = have.1 in
@@ -96,7 +96,7 @@ module _ (net : NetSpec) (number : ℕ) where
   unfolding without
   detectors m = refl
 
-  module _ {here : NetSpec} {xs : List Part} {v : TilesView} {i : ℕ} {x : Part} (t : IsTileAt net here xs v i x) (tiles : AreTiles net xs) (y : Part)
+  module _ {here : NetSpec} {xs : List TileView} {v : TilesView} {i : ℕ} {x : TileView} (t : IsTileAt net here xs v i x) (tiles : AreTiles net xs) (y : TileView)
       (does : DoesIf here (λ m. HaveAtMostOne x.own.places m number) (without number) x y) where
     pub take-does : WhereOnce here x number (λ m. Have x.own.places m number) → TilesGo IsWhole (without number) v (tiles_of net (set xs i y))
     take-does had_here =
@@ -120,15 +120,15 @@ module _ (net : NetSpec) (number : ℕ) where
         take-does (λ m on s most. (at.0, p, listed, had m on s most))
 
   -- where a tile has it not
-  pub not-at : (xs : List Part) (i : ℕ) (d : Part) → AreTiles net xs → i < length xs
+  pub not-at : (xs : List TileView) (i : ℕ) (d : TileView) → AreTiles net xs → i < length xs
       → ((m : Traffic) → IsOn net m → StandsFor (get_or xs i d) m → HaveAtMostOne (get_or xs i d).own.places m number → HaveNot (get_or xs i d).own.places m number)
-      → (m : Traffic) → IsWhole m → TilesStandFor (tiles_of net xs) m → (e : Part) → HaveNot (get_or xs i e).own.places m number
+      → (m : Traffic) → IsWhole m → TilesStandFor (tiles_of net xs) m → (e : TileView) → HaveNot (get_or xs i e).own.places m number
   not-at xs i d tiles h none m whole s e =
       let most = have-one net (get_or xs i d) number m (tiles-of net 0 (length net.nodes) xs (in-row net xs tiles) i d h) s.lanes.on whole in
-      subst (λ (t : Part). HaveNot t.own.places m number) (get_or_default xs i d e h) (none m s.lanes.on (s.lanes.each i d h) most)
+      subst (λ (t : TileView). HaveNot t.own.places m number) (get_or_default xs i d e h) (none m s.lanes.on (s.lanes.each i d h) most)
 
   -- where no tile has it nothing changes
-  pub nowhere-does : (xs : List Part) → AreTiles net xs → ((k : ℕ) (d : Part) → k < length xs → (m : Traffic) → IsWhole m → TilesStandFor (tiles_of net xs) m → HaveNot (get_or xs k d).own.places m number) → TilesGo IsWhole (without number) (tiles_of net xs) (tiles_of net xs)
+  pub nowhere-does : (xs : List TileView) → AreTiles net xs → ((k : ℕ) (d : TileView) → k < length xs → (m : Traffic) → IsWhole m → TilesStandFor (tiles_of net xs) m → HaveNot (get_or xs k d).own.places m number) → TilesGo IsWhole (without number) (tiles_of net xs) (tiles_of net xs)
   nowhere-does xs tiles none = record {
     network = refl;
     long = refl;
@@ -164,7 +164,7 @@ module _ (net : NetSpec) (p : Place) (rule : LaneState → LaneState) where
   }
 
   -- a tile without that lane stands as it did
-  lane-elsewhere : (m : Traffic) → IsOn net m → (x : Part) → IsTileOf net x → is_own net x.low x.high p ≡ false → StandsFor x m → StandsFor x (at_place p rule m)
+  lane-elsewhere : (m : Traffic) → IsOn net m → (x : TileView) → IsTileOf net x → is_own net x.low x.high p ≡ false → StandsFor x m → StandsFor x (at_place p rule m)
   unfolding at_place
   lane-elsewhere m on x tile other s = record {
     clock = s.clock;
@@ -184,8 +184,8 @@ module _ (net : NetSpec) (p : Place) (rule : LaneState → LaneState) where
   lane-detectors m = refl
 
   -- the tiles with that one changed stand for the traffic with that lane changed
-  pub place-does : {here : NetSpec} {xs : List Part} {v : TilesView} {i : ℕ} {x : Part} → IsTileAt net here xs v i x → AreTiles net xs → OwnsLink v i p.link → KeepsLength rule
-      → (P : Traffic → Type 0) (y : Part) → DoesIf here P (at_place p rule) x y → TilesGo P (at_place p rule) v (tiles_of net (set xs i y))
+  pub place-does : {here : NetSpec} {xs : List TileView} {v : TilesView} {i : ℕ} {x : TileView} → IsTileAt net here xs v i x → AreTiles net xs → OwnsLink v i p.link → KeepsLength rule
+      → (P : Traffic → Type 0) (y : TileView) → DoesIf here P (at_place p rule) x y → TilesGo P (at_place p rule) v (tiles_of net (set xs i y))
   place-does {here} {xs} {v} {i} {x} t tiles own same P y does =
       let row = in-row net xs tiles in
       goes-seen P (at_place p rule) (tiles_of net xs) v (tiles_of net (set xs i y)) t.seen
@@ -200,7 +200,7 @@ module _ (net : NetSpec) (node : ℕ) (plan : SignalPlan) where
   on-planned m on = record { network = on.network; formed = record { lanes = on.formed.lanes; cells = on.formed.cells; turns = on.formed.turns } }
 
   -- a tile of other nodes stands as it did
-  plan-elsewhere : (m : Traffic) (x : Part) → ((at : ℕ) → x.low ≤ at → at < x.high → at ≡ node → ⊥) → StandsFor x m → StandsFor x (planned node plan m)
+  plan-elsewhere : (m : Traffic) (x : TileView) → ((at : ℕ) → x.low ≤ at → at < x.high → at ≡ node → ⊥) → StandsFor x m → StandsFor x (planned node plan m)
   unfolding planned
   plan-elsewhere m x other s = record {
     clock = s.clock;
@@ -215,8 +215,8 @@ module _ (net : NetSpec) (node : ℕ) (plan : SignalPlan) where
   unfolding planned
   plan-detectors m = refl
 
-  pub plan-does : {here : NetSpec} {xs : List Part} {v : TilesView} {i : ℕ} {x : Part} → IsTileAt net here xs v i x → AreTiles net xs → ((e : Part) → (get_or xs i e).low ≤ node) → ((e : Part) → node < (get_or xs i e).high)
-      → (P : Traffic → Type 0) (y : Part) → DoesIf here P (planned node plan) x y → TilesGo P (planned node plan) v (tiles_of net (set xs i y))
+  pub plan-does : {here : NetSpec} {xs : List TileView} {v : TilesView} {i : ℕ} {x : TileView} → IsTileAt net here xs v i x → AreTiles net xs → ((e : TileView) → (get_or xs i e).low ≤ node) → ((e : TileView) → node < (get_or xs i e).high)
+      → (P : Traffic → Type 0) (y : TileView) → DoesIf here P (planned node plan) x y → TilesGo P (planned node plan) v (tiles_of net (set xs i y))
   plan-does {here} {xs} {v} {i} {x} t tiles low high P y does =
       let row = in-row net xs tiles in
       goes-seen P (planned node plan) (tiles_of net xs) v (tiles_of net (set xs i y)) t.seen
@@ -233,12 +233,12 @@ module _ (net : NetSpec) (p : Place) (cell period : ℕ) where
   unfolding metered
   on-metered m on = record { network = on.network; formed = record { lanes = on.formed.lanes; cells = on.formed.cells; turns = on.formed.turns } }
 
-  module _ {here : NetSpec} {xs : List Part} {v : TilesView} {i : ℕ} {x : Part} (t : IsTileAt net here xs v i x) (y : Part) (does : PlacesMeter p cell period x y) where
+  module _ {here : NetSpec} {xs : List TileView} {v : TilesView} {i : ℕ} {x : TileView} (t : IsTileAt net here xs v i x) (y : TileView) (does : PlacesMeter p cell period x y) where
     placed : PlacesMeter p cell period (get_or xs i x) y
     placed = at-list t (λ n u. PlacesMeter p cell period u y) does
 
     pub kept-meter : {mouths : ℕ} → AreKept net xs mouths → AreKept net (set xs i y) mouths
-    kept-meter {mouths} kept = kept-set net xs i y x mouths kept t.within placed.same (ap (λ (u : Part). u.handed) placed.rest) (ap (λ (u : Part). u.coming) placed.rest)
+    kept-meter {mouths} kept = kept-set net xs i y x mouths kept t.within placed.same (ap (λ (u : TileView). u.handed) placed.rest) (ap (λ (u : TileView). u.coming) placed.rest)
 
     pub meter-does : AreTiles net xs → OwnsLink v i p.link → TilesGo (λ m. Unit {0}) (λ m. metered m p cell period) v (tiles_of net (set xs i y))
     meter-does tiles own =
@@ -246,7 +246,7 @@ module _ (net : NetSpec) (p : Place) (cell period : ℕ) where
         goes-seen (λ m. Unit {0}) (λ m. metered m p cell period) (tiles_of net xs) v (tiles_of net (set xs i y)) t.seen
         (one-goes net (λ m. Unit {0}) (λ m. metered m p cell period) xs i y x t.within (λ m holds on. on-metered m on)
         (λ k e m other l holds s. stands-metered (get_or xs k e) p cell period m (s.each k e l))
-        (ap (λ (u : Part). u.arrived) placed.rest)
+        (ap (λ (u : TileView). u.arrived) placed.rest)
         (λ m holds s. placed.stands m (s.each i x t.within))
         (λ m holds s kept. placed.meters m (s.each i x t.within) kept)
         (λ k e m other l kept. meters-elsewhere (get_or xs k e) p cell period

@@ -6,7 +6,7 @@ use Rattle.street_base.specs.declared.reply.Whereabouts.{Whereabouts}
 use Rattle.street_base.specs.Prelude.{Vehicle, is_place, SignalPlan, Traffic, LaneState, lane_at, each_lane, in_lane, lane_without, seen_in}
 use Rattle.street_base.specs.declared.names.Place.{Place}
 use Rattle.street_lanes.specs.Prelude.{vehicle_on, place_at, IsOn}
-use Rattle.street_tile.specs.Tiles.{Part, StandsFor, SameTile}
+use Rattle.street_tile.specs.Tiles.{TileView, StandsFor, SameTile}
 
 -- ---- what is done
 
@@ -25,7 +25,7 @@ planned node plan m = record m { signals = slice_set m.signals node (Some plan) 
 -- ---- a tile before and after
 
 -- whatever the tile stood for, if P held of that, it then stands for f of it; nobody is on the way who was not
-pub record DoesIf (net : NetSpec) (P : Traffic → Type 0) (f : Traffic → Traffic) (x y : Part) : Type 0 where
+pub record DoesIf (net : NetSpec) (P : Traffic → Type 0) (f : Traffic → Traffic) (x y : TileView) : Type 0 where
   pub same : SameTile x y
   pub handed : y.handed ≡ x.handed
   pub coming : y.coming ≡ x.coming
@@ -33,11 +33,11 @@ pub record DoesIf (net : NetSpec) (P : Traffic → Type 0) (f : Traffic → Traf
   pub detectors : y.detectors ≡ x.detectors
   pub stands : (m : Traffic) → IsOn net m → P m → StandsFor x m → StandsFor y (f m)
 
-abbrev pub Does : NetSpec → (Traffic → Traffic) → Part → Part → Type 0
+abbrev pub Does : NetSpec → (Traffic → Traffic) → TileView → TileView → Type 0
 Does net f x y = DoesIf net (λ m. Unit {0}) f x y
 
 -- the tile is as it was, reserved room apart
-abbrev pub KeepsAll : Part → Part → Type 0
+abbrev pub KeepsAll : TileView → TileView → Type 0
 KeepsAll x y = y ≡ record x { own = record x.own { room = y.own.room } }
 
 -- ---- what is found on some lanes
@@ -68,9 +68,9 @@ abbrev pub HaveAtMostOne : List Place → Traffic → ℕ → Type 0
 HaveAtMostOne ps m number = over ps (in_lane number) m ≤ 1
 
 -- of whatever traffic the tile stands for, with at most one vehicle of this number on its lanes, P holds
-abbrev pub WhereOnce : NetSpec → Part → ℕ → (Traffic → Type 0) → Type 0
+abbrev pub WhereOnce : NetSpec → TileView → ℕ → (Traffic → Type 0) → Type 0
 WhereOnce net x number P = (m : Traffic) → IsOn net m → StandsFor x m → HaveAtMostOne x.own.places m number → P m
 
 -- this is where that vehicle is on the tile's lane n
-abbrev pub FindsAt : NetSpec → Part → ℕ → ℕ → Option Whereabouts → Type 0
+abbrev pub FindsAt : NetSpec → TileView → ℕ → ℕ → Option Whereabouts → Type 0
 FindsAt net x n number found = WhereOnce net x number (λ m. found ≡ seen_in net (place_at x.own n) number (lane_at m (place_at x.own n)))

@@ -13,5 +13,6 @@ EntersAt clock n coming old new = (s : LaneState) → LaneStands (lane_of old n)
 
 -- the same of all lanes
 abbrev pub EnterAll : ℕ → List (Option Transfer) → Lanes → Lanes → Type 0
-EnterAll clock coming old new = (m : Traffic) (entry : Place → Option Vehicle) → LanesStand old.places old.lanes m → map vehicle_in coming ≡ map entry old.places
+EnterAll clock coming old new =
+    (m : Traffic) (entry : Place → Option Vehicle) → LanesStand old.places old.lanes m → map vehicle_in coming ≡ map entry old.places
     → AllFree old.places m entry → LanesGo (λ p s. departed_lane clock (placed_lane entry p s)) m new.places new.lanes

@@ -2,9 +2,9 @@
 use Rattle.std.specs.Prelude.{◌≡◌, ◌+◌, ◌*◌, ◌≤◌, map, length, false, vec_capacity}
 use Rattle.street_tile.specs.declared.tile.Tile.TheInside.{Inside}
 use Rattle.street_tile.specs.Halves.{vehicle_in}
-use Rattle.street_tile.specs.Tiles.{Part, AreNumbers, AreBare, AreDue}
+use Rattle.street_tile.specs.Tiles.{TileView, AreNumbers, AreBare, AreDue}
 
-abbrev pub seen : Inside → Part
+abbrev pub seen : Inside → TileView
 seen t = record {
   low = t.low;
   high = t.high;

@@ -35,7 +35,8 @@ pub record DrivesLane (step : MotionStep) (n : ℕ) (old new : Lanes) (told : Op
 pub record WatchesLane (step : MotionStep) (n : ℕ) (own : Lanes) (old new : Detectors) : Type 0 where
   pub meters : new ≡ record old { watches = new.watches }
   pub bare : step.has_meters ≡ false → new ≡ old
-  pub watched : (m : Traffic) → IsOfStep step m → LaneStands (lane_of own n) (lane_at m (place_at own n)) → new.watches ≡ map (watch_of m (place_at own n)) old.meters
+  pub watched : (m : Traffic) → IsOfStep step m → LaneStands (lane_of own n) (lane_at m (place_at own n))
+      → new.watches ≡ map (watch_of m (place_at own n)) old.meters
 
 -- ---- all lanes of a tile
 
@@ -63,4 +64,5 @@ pub record WatchLanes (step : MotionStep) (own : Lanes) (old new : List Detector
 
 -- the mouths of these lanes tell whether their cells 0 are free
 abbrev pub ShowLanes : Lanes → List Bool → Type 0
-ShowLanes own mouths = (m : Traffic) → LanesStand own.places own.lanes m → (j : ℕ) (p : Place) → slice_get own.places j ≡ Some p → mouth mouths p ≡ is_free (lane_at m p).track 0
+ShowLanes own mouths =
+    (m : Traffic) → LanesStand own.places own.lanes m → (j : ℕ) (p : Place) → slice_get own.places j ≡ Some p → mouth mouths p ≡ is_free (lane_at m p).track 0

@@ -1,20 +1,41 @@
--- The parts of a step as workers make them, by their numbers: 0 lane changes and motion, 1 releases, others entries, departures
--- and detectors. Shown are the mouths, by which releases go.
-use Rattle.std.specs.Prelude.{ℕ, ◌≡◌, ◌*◌, ◌<◌, List, Bool, [], length}
+-- The parts of a step as workers make them, by their numbers: 0 lane changes and motion, 1 releases, 3 to 6 one phase each of the
+-- others, and any other entries, departures and detectors. Shown are the mouths, by which releases go.
+use Rattle.std.specs.Prelude.{ℕ, ◌≡◌, ◌*◌, ◌<◌, ◌≤◌, List, Bool, [], length, All}
+use Rattle.std.specs.Fn.{Shared}
+use denote.Ref.{Bor, MutBor}
 use Rattle.std.proofs.Common.{zero, suc}
 use Rattle.street_base.specs.declared.net.NetSpec.{NetSpec}
-use Rattle.street_base.specs.Prelude.{last_clock}
-use Rattle.street_tile.specs.Tiles.{Part, IsTileOf, IsPrepared}
+use Rattle.street_base.specs.Prelude.{last_clock, most_workers}
+use Rattle.street_tile.specs.Tiles.{TileView, IsTileOf, IsPrepared, Each}
 use Rattle.street_tile.specs.Phases.{LanePhase, MotionPhase, ReleasePhase, EnterPhase, MeterPhase, Then}
 
 -- what a part asks of a tile, and of what is shown
-abbrev pub MayWork : NetSpec → ℕ → List Bool → Part → Type 0
+abbrev pub MayWork : NetSpec → ℕ → List Bool → TileView → Type 0
 MayWork net zero shown x = IsTileOf net x × (x.arrived ≡ []) × (x.clock < last_clock)
 MayWork net (suc zero) shown x = IsTileOf net x × (x.handed ≡ []) × (length shown ≡ 2 * length net.links)
-MayWork net (suc (suc part)) shown x = IsTileOf net x × IsPrepared x × (x.clock < last_clock)
+MayWork net (suc (suc (suc zero))) shown x = IsTileOf net x
+MayWork net (suc (suc (suc (suc zero)))) shown x = IsTileOf net x × (x.arrived ≡ []) × (x.clock < last_clock)
+MayWork net (suc (suc (suc (suc (suc zero))))) shown x = IsTileOf net x × IsPrepared x
+MayWork net (suc (suc (suc (suc (suc (suc zero)))))) shown x = IsTileOf net x × (x.clock < last_clock)
+MayWork net part shown x = IsTileOf net x × IsPrepared x × (x.clock < last_clock)
 
 -- what a part does
-abbrev pub DoesWork : NetSpec → ℕ → List Bool → Part → Part → Type 0
+abbrev pub DoesWork : NetSpec → ℕ → List Bool → TileView → TileView → Type 0
 DoesWork net zero shown x y = Then (LanePhase net) (MotionPhase net) x y
 DoesWork net (suc zero) shown x y = ReleasePhase net shown x y
-DoesWork net (suc (suc part)) shown x y = Then (EnterPhase net) (MeterPhase net) x y
+DoesWork net (suc (suc (suc zero))) shown x y = LanePhase net x y
+DoesWork net (suc (suc (suc (suc zero)))) shown x y = MotionPhase net x y
+DoesWork net (suc (suc (suc (suc (suc zero))))) shown x y = EnterPhase net x y
+DoesWork net (suc (suc (suc (suc (suc (suc zero)))))) shown x y = MeterPhase net x y
+DoesWork net part shown x y = Then (EnterPhase net) (MeterPhase net) x y
+
+-- each call of f may be made of few tiles, and makes a part of a step of each of them
+pub record MakesParts {F : Type 0}
+    (g : Shared F (Bor NetSpec × (ℕ × (Bor (List Bool) × (MutBor (List TileView) × Unit {0})))) (Unit {0} × (MutBor (List TileView) × Unit {0})))
+    (f : F) : Type 0 where
+  pub may : (net : Bor NetSpec) (part : ℕ) (shown : Bor (List Bool)) (tiles : MutBor (List TileView)) → length tiles.now ≤ most_workers
+      → All (MayWork net.now part shown.now) tiles.now
+      → g.pre f (net, (part, (shown, (tiles, tt))))
+  pub does : (net : Bor NetSpec) (part : ℕ) (shown : Bor (List Bool)) (tiles left : MutBor (List TileView))
+      → g.post f (net, (part, (shown, (tiles, tt)))) (tt, (left, tt))
+      → (length left.now ≡ length tiles.now) × Each (DoesWork net.now part shown.now) tiles.now left.now

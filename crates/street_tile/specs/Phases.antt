@@ -6,11 +6,11 @@ use Rattle.street_base.specs.Prelude.{Vehicle, Traffic, departed, arrival, leave
 use Rattle.street_base.specs.declared.names.Place.{Place}
 use Rattle.street_lanes.specs.Prelude.{Lanes, AllFree, IsOn, LanesStand}
 use Rattle.street_tile.specs.Halves.{crossing, let_go, placed}
-use Rattle.street_tile.specs.Tiles.{Part, StandsFor, SameTile, Shows, ShowsOwn, nobody}
+use Rattle.street_tile.specs.Tiles.{TileView, StandsFor, SameTile, Shows, ShowsOwn, nobody}
 use Rattle.street_tile.specs.TileDetectors.{KeepMeters, HaveWatched, MetersStand, noted_by}
 
 -- whatever the tile stood for, it then stands for f of that
-pub record GoesBy (net : NetSpec) (f : Traffic → Traffic) (x y : Part) : Type 0 where
+pub record GoesBy (net : NetSpec) (f : Traffic → Traffic) (x y : TileView) : Type 0 where
   pub same : SameTile x y
   pub handed : y.handed ≡ x.handed
   pub coming : y.coming ≡ x.coming
@@ -23,14 +23,14 @@ ChangeLanes net clock old new = (m : Traffic) → IsOn net m → m.clock ≡ clo
     → LanesStand old.places old.lanes m → LanesStand new.places new.lanes (changed m)
 
 -- lane changes
-pub record LanePhase (net : NetSpec) (x y : Part) : Type 0 where
+pub record LanePhase (net : NetSpec) (x y : TileView) : Type 0 where
   pub goes : GoesBy net changed x y
   pub clock : y.clock ≡ x.clock
   pub arrived : y.arrived ≡ x.arrived
   pub detectors : y.detectors ≡ x.detectors
 
 -- motion: also the numbers that arrived, lane by lane; the watches have seen it; and the tile holds the mouths after it
-pub record MotionPhase (net : NetSpec) (x y : Part) : Type 0 where
+pub record MotionPhase (net : NetSpec) (x y : TileView) : Type 0 where
   pub goes : GoesBy net driven x y
   pub arrived : (m : Traffic) → IsOn net m → StandsFor x m → y.arrived ≡ filter_map (λ p. arrival (leaver_of m p)) x.own.places
   pub detectors : KeepMeters x.detectors y.detectors
@@ -38,7 +38,7 @@ pub record MotionPhase (net : NetSpec) (x y : Part) : Type 0 where
   pub shown : ShowsOwn y
 
 -- releases, by the view: the fronts that go are out of the buffers and handed over, buffer by buffer
-pub record ReleasePhase (net : NetSpec) (view : List Bool) (x y : Part) : Type 0 where
+pub record ReleasePhase (net : NetSpec) (view : List Bool) (x y : TileView) : Type 0 where
   pub same : SameTile x y
   pub arrived : y.arrived ≡ x.arrived
   pub coming : y.coming ≡ x.coming
@@ -48,7 +48,7 @@ pub record ReleasePhase (net : NetSpec) (view : List Bool) (x y : Part) : Type 0
   pub handed : (m : Traffic) → IsOn net m → Shows net view m → StandsFor x m → y.handed ≡ filter_map (crossing m) x.own.places
 
 -- entries and departures
-pub record EnterPhase (net : NetSpec) (x y : Part) : Type 0 where
+pub record EnterPhase (net : NetSpec) (x y : TileView) : Type 0 where
   pub same : SameTile x y
   pub clock : y.clock ≡ x.clock
   pub handed : y.handed ≡ x.handed
@@ -63,14 +63,14 @@ unfoldable pub ticked : Traffic → Traffic
 ticked m = record m { clock = m.clock + 1 }
 
 -- the detectors note the step, of whose motion their watches have seen what it was from the traffic `before`, and the clock goes on
-pub record MeterPhase (net : NetSpec) (x y : Part) : Type 0 where
+pub record MeterPhase (net : NetSpec) (x y : TileView) : Type 0 where
   pub goes : GoesBy net ticked x y
   pub arrived : y.arrived ≡ x.arrived
   pub noted : (before m : Traffic) → IsOn net m → StandsFor x m → HaveWatched before x.own.places x.detectors
       → MetersStand x m → MetersStand y (noted_by before m)
 
 -- one phase, and then another
-pub record Then (P Q : Part → Part → Type 0) (x z : Part) : Type 0 where
-  pub between : Part
+pub record Then (P Q : TileView → TileView → Type 0) (x z : TileView) : Type 0 where
+  pub between : TileView
   pub first : P x between
   pub second : Q between z

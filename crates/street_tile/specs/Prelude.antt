@@ -7,12 +7,16 @@ unfoldable pub use Rattle.street_tile.specs.Halves.{let_go, placed}
 pub use Rattle.street_tile.specs.HandOvers.{Awaits, IsMoved, MovesLast, all_handed, all_places, moved_at, received}
 pub use Rattle.street_tile.specs.Hinted.{Hinted, KeepsHints}
 pub use Rattle.street_tile.specs.Motion.{DrivesLane, DrivesLanes, HasPlanFor, IsOfStep, MayDrive, ShowLanes, WatchLanes, WatchesLane}
-pub use Rattle.street_tile.specs.Parts.{DoesWork, MayWork}
+pub use Rattle.street_tile.specs.Parts.{DoesWork, MakesParts, MayWork}
 pub use Rattle.street_tile.specs.Phases.{ChangeLanes, EnterPhase, GoesBy, LanePhase, MeterPhase, MotionPhase, ReleasePhase, Then}
 unfoldable pub use Rattle.street_tile.specs.Phases.{ticked}
 pub use Rattle.street_tile.specs.Steps.{MayStep, Steps}
-pub use Rattle.street_tile.specs.TileDetectors.{AllMetersStand, HaveNoted, HaveWatched, KeepMeters, MetersStand, PlacesMeter, bare, detectors_at, detectors_on, no_detectors}
+pub use Rattle.street_tile.specs.TileDetectors.{AllMetersStand, HaveNoted, HaveWatched, KeepMeters, MetersStand, PlacesMeter, bare, detectors_at}
+pub use Rattle.street_tile.specs.TileDetectors.{detectors_on, no_detectors}
 unfoldable pub use Rattle.street_tile.specs.TileDetectors.{noted_by}
-pub use Rattle.street_tile.specs.Tiles.{AllStand, AreBare, AreDue, AreNumbers, ArePairs, AreTiles, Each, IsBare, IsIdle, IsPrepared, IsRoads, IsShare, IsStill, IsTileOf, Part, SameTile, ShowSignals, Shows, ShowsOwn, StandsFor, beside, is_own, lanes_beside, nobody, nth, own_places, sizes_of}
-pub use Rattle.street_tile.specs.Together.{AreKept, NobodyArrived, OwnsLink, PreparesOne, SameButArrived, TakesArrival, TakesArrivalOf, TileHasNot, TilesGo, TilesKeep, TilesStandFor, TilesView, all_arrived, tiles_of}
+pub use Rattle.street_tile.specs.Tiles.{AllStand, AreBare, AreDue, AreNumbers, ArePairs, AreTiles, Each, IsBare, IsIdle, IsPrepared, IsRoads, IsShare}
+pub use Rattle.street_tile.specs.Tiles.{IsStill, IsTileOf, TileView, SameTile, ShowSignals, Shows, ShowsOwn, StandsFor, beside, is_own, lanes_beside}
+pub use Rattle.street_tile.specs.Tiles.{no_network, nobody, nth, own_places, sizes_of}
+pub use Rattle.street_tile.specs.Together.{AreKept, NobodyArrived, OwnsLink, PreparesOne, SameButArrived, TakesArrival, TakesArrivalOf, TileHasNot}
+pub use Rattle.street_tile.specs.Together.{TilesGo, TilesKeep, TilesStandFor, TilesView, all_arrived, tiles_of}
 pub use Rattle.street_tile.specs.Walks.{HandsOver, HasFront, IsReleasing, ReleasesFront, Targets}

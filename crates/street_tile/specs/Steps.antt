@@ -2,21 +2,21 @@
 -- Source: this profile.
 use Rattle.std.specs.Prelude.{◌≡◌, ◌<◌, ◌≤◌, List, [], length, filter_map, All}
 use Rattle.street_base.specs.declared.net.NetSpec.{NetSpec}
-use Rattle.street_base.specs.Prelude.{last_clock, Traffic, changed, step, arrival, leaver_of}
-use Rattle.street_tile.specs.Tiles.{Part, IsIdle, IsPrepared, Each, AreTiles, AllStand, nobody}
+use Rattle.street_base.specs.Prelude.{last_clock, most_workers, Traffic, changed, step, arrival, leaver_of}
+use Rattle.street_tile.specs.Tiles.{TileView, IsIdle, IsPrepared, Each, AreTiles, AllStand, nobody}
 use Rattle.street_tile.specs.TileDetectors.{AllMetersStand}
 
 -- the tiles of a network, few enough, with nobody on the way and room for a step, which stand for traffic before the last clock
-pub record MayStep (net : NetSpec) (xs : List Part) : Type 0 where
+pub record MayStep (net : NetSpec) (xs : List TileView) : Type 0 where
   pub tiles : AreTiles net xs
-  pub few : length xs ≤ 64
+  pub few : length xs ≤ most_workers
   pub idle : All IsIdle xs
   pub prepared : All IsPrepared xs
   pub stand : (m : Traffic) × AllStand net xs m × (m.clock < last_clock)
 
 -- whatever traffic the tiles stood for, they then stand for the next state, hold the numbers of those who arrived, and their
 -- detectors have noted the step; they are tiles of the network, and nobody is on the way
-pub record Steps (net : NetSpec) (xs ys : List Part) : Type 0 where
+pub record Steps (net : NetSpec) (xs ys : List TileView) : Type 0 where
   pub machine : (m : Traffic) → AllStand net xs m → AllStand net ys (step m)
   pub arrived : (m : Traffic) → AllStand net xs m → Each (λ x y. y.arrived ≡ filter_map (λ p. arrival (leaver_of (changed m) p)) x.own.places) xs ys
   pub meters : (m : Traffic) → AllStand net xs m → AllMetersStand xs m → AllMetersStand ys (step m)

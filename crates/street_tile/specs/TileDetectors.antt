@@ -5,7 +5,7 @@ use Rattle.street_base.specs.declared.net.NetSpec.{NetSpec}
 use Rattle.street_base.specs.declared.names.Place.{Place}
 use Rattle.street_base.specs.Prelude.{metered, is_place, link_at, Traffic, LaneState, Detector, noted}
 use Rattle.street_lanes.specs.Prelude.{LaneStands, Lanes, lane_of, Detectors, watch_of, AllGoOn, AllNote, MetersStandFor}
-use Rattle.street_tile.specs.Tiles.{Part, StandsFor, SameTile}
+use Rattle.street_tile.specs.Tiles.{TileView, StandsFor, SameTile}
 
 -- what stands for a lane's detectors where there are none
 abbrev pub no_detectors : Detectors
@@ -49,16 +49,16 @@ abbrev pub detectors_on : Place → List Detector → List Detector
 detectors_on p ds = filter (λ d. is_place p d.place) ds
 
 -- the meters of each own lane stand for the detectors of that lane, one by one
-abbrev pub MetersStand : Part → Traffic → Type 0
+abbrev pub MetersStand : TileView → Traffic → Type 0
 MetersStand x m = (k : ℕ) (p : Place) → slice_get x.own.places k ≡ Some p → MetersStandFor (detectors_at x.detectors k).meters (detectors_on p m.detectors)
 
-abbrev pub AllMetersStand : List Part → Traffic → Type 0
+abbrev pub AllMetersStand : List TileView → Traffic → Type 0
 AllMetersStand xs m = All (λ x. MetersStand x m) xs
 
 -- ---- a detector more
 
 -- a detector more, which has noted nothing, stands in a cell of the lane at a place; all else is as it was
-pub record PlacesMeter (p : Place) (cell period : ℕ) (x y : Part) : Type 0 where
+pub record PlacesMeter (p : Place) (cell period : ℕ) (x y : TileView) : Type 0 where
   pub same : SameTile x y
   pub rest : y ≡ record x { detectors = y.detectors }
   pub stands : (m : Traffic) → StandsFor x m → StandsFor y (metered m p cell period)

@@ -1,11 +1,13 @@
 -- A tile, and what it stands for of the machine.
 -- Source: blocks of nodes with the links that run to them are this profile.
-use Rattle.std.specs.Prelude.{◌≡◌, ℕ, ◌+◌, ◌-◌, ◌*◌, ◌/◌, ◌<◌, ◌≤◌, nat_le, nat_lt, List, [], map, length, filter, Bool, false, ◌&&◌, Option, Some, None, IsSome, slice_get, slice_index_or, All}
+use Rattle.std.specs.Prelude.{◌≡◌, ℕ, ◌+◌, ◌-◌, ◌*◌, ◌/◌, ◌<◌, ◌≤◌, nat_le, nat_lt, List, [], map, length, filter, Bool, false, ◌&&◌, Option, Some}
+use Rattle.std.specs.Prelude.{None, IsSome, slice_get, slice_index_or, All}
 use Rattle.std.proofs.Common.{suc}
 use Rattle.std.specs.Option.{option_map_or}
 use Rattle.street_base.specs.declared.net.NetSpec.{NetSpec}
 use Rattle.street_base.specs.declared.net.TurnSpec.{TurnSpec}
 use Rattle.street_base.specs.Prelude.{Vehicle, is_free, link_at, node_of, turn, places, SignalPlan, Traffic, lane_at}
+use Rattle.street_base.specs.Limits.{most_nodes, most_links}
 use Rattle.street_base.specs.declared.names.Place.{Place}
 use Rattle.street_net.specs.Prelude.{slot_of, mouth}
 use Rattle.street_lanes.specs.Prelude.{Lanes, Same, no_place, IsOn, LanesStand, PlanStands, cells_on, Detectors}
@@ -17,12 +19,16 @@ use Rattle.street_tile.specs.Halves.{Transfer}
 
 -- what a network without a fault gives a tile: a turn leads to a lane that is there, of a link that begins where the first ends
 pub record IsRoads (net : NetSpec) : Type 0 where
-  pub nodes : (0 < length net.nodes) × (length net.nodes ≤ 4096)
-  pub few : length net.links ≤ 4096
+  pub nodes : (0 < length net.nodes) × (length net.nodes ≤ most_nodes)
+  pub few : length net.links ≤ most_links
   pub two : (link : ℕ) → (link_at net link).lanes ≤ 2
   pub inside : (from : Place) (next : ℕ) (t : TurnSpec) → turn net from next ≡ Some t → (next < length net.links) × (t.next_lane < (link_at net next).lanes)
   pub ends : (link : ℕ) → link < length net.links → IsSome (node_of net (link_at net link).to)
   pub joined : (from : Place) (next : ℕ) (t : TurnSpec) → turn net from next ≡ Some t → (link_at net from.link).to ≡ (link_at net next).from
+
+-- no network, where a contract needs one that nobody has
+abbrev pub no_network : NetSpec
+no_network = record { nodes = []; links = []; turns = []; zone = 0; change = 0; dawdle = 0; seed = 0; start = 0 }
 
 -- ---- the view
 
@@ -42,7 +48,7 @@ ShowSignals low high signals m = (node : ℕ) → low ≤ node → node < high
 -- what contracts see of a tile: its nodes from low up to high, how many links the network has, its own lanes, the clock and
 -- the signal plans of its nodes; what it holds of mouths, as a view has them; who was let go and not yet moved, who comes to
 -- each of its lanes, and who arrived; and the detectors of each own lane
-pub record Part : Type 0 where
+pub record TileView : Type 0 where
   pub low : ℕ
   pub high : ℕ
   pub links : ℕ
@@ -67,7 +73,7 @@ abbrev pub sizes_of : List Detectors → List ℕ
 sizes_of detectors = map (λ g. g.size) detectors
 
 -- a tile of this network
-pub record IsTileOf (net : NetSpec) (x : Part) : Type 0 where
+pub record IsTileOf (net : NetSpec) (x : TileView) : Type 0 where
   pub roads : IsRoads net
   pub links : x.links ≡ length net.links
   pub within : x.high ≤ length net.nodes
@@ -94,14 +100,14 @@ pub record ArePairs (net : NetSpec) (ps : List Place) : Type 0 where
   pub before : (n : ℕ) → suc n < length ps → ((nth ps (suc n)).lane ≡ 0 → ⊥) → nth ps n ≡ beside (nth ps (suc n)) 0
 
 -- the tile stands for the machine at its own lanes and nodes, and each vehicle in its arena is on one of its lanes
-pub record StandsFor (x : Part) (m : Traffic) : Type 0 where
+pub record StandsFor (x : TileView) (m : Traffic) : Type 0 where
   pub clock : x.clock ≡ m.clock
   pub lanes : LanesStand x.own.places x.own.lanes m
   pub none_loose : x.own.loose ≡ []
   pub signals : ShowSignals x.low x.high x.signals m
 
 -- whatever the tile stands for, it holds of each own lane whether its cell 0 is free
-abbrev pub ShowsOwn : Part → Type 0
+abbrev pub ShowsOwn : TileView → Type 0
 ShowsOwn x = (m : Traffic) → StandsFor x m → (j : ℕ) (p : Place) → slice_get x.own.places j ≡ Some p → mouth x.mouths p ≡ is_free (lane_at m p).track 0
 
 -- for each own lane its number among them, by the lane's slot
@@ -122,25 +128,25 @@ abbrev pub AreBare : List Detectors → Type 0
 AreBare detectors = All IsBare detectors
 
 -- nobody is on the way to a tile
-abbrev pub nobody : Part → List (Option Vehicle)
+abbrev pub nobody : TileView → List (Option Vehicle)
 nobody x = map (λ p. None) x.own.places
 
 -- nobody is on the way from it or to it
-abbrev pub IsStill : Part → Type 0
+abbrev pub IsStill : TileView → Type 0
 IsStill x = (x.handed ≡ []) × (x.coming ≡ nobody x)
 
 -- between steps nobody is on the way, and who arrived was taken note of
-pub record IsIdle (x : Part) : Type 0 where
+pub record IsIdle (x : TileView) : Type 0 where
   pub handed : x.handed ≡ []
   pub coming : x.coming ≡ nobody x
   pub arrived : x.arrived ≡ []
 
 -- for a step, each own lane has room for one more vehicle
-abbrev pub IsPrepared : Part → Type 0
+abbrev pub IsPrepared : TileView → Type 0
 IsPrepared x = length x.own.places ≤ x.own.room
 
 -- no phase changes which tile it is
-pub record SameTile (x y : Part) : Type 0 where
+pub record SameTile (x y : TileView) : Type 0 where
   pub low : y.low ≡ x.low
   pub high : y.high ≡ x.high
   pub links : y.links ≡ x.links
@@ -150,22 +156,22 @@ pub record SameTile (x y : Part) : Type 0 where
 -- ---- all tiles
 
 -- at each place, R of the old and the new tile
-abbrev pub Each : (Part → Part → Type 0) → List Part → List Part → Type 0
-Each R xs ys = (i : ℕ) (d : Part) → i < length xs → R (slice_index_or xs i d) (slice_index_or ys i d)
+abbrev pub Each : (TileView → TileView → Type 0) → List TileView → List TileView → Type 0
+Each R xs ys = (i : ℕ) (d : TileView) → i < length xs → R (slice_index_or xs i d) (slice_index_or ys i d)
 
 -- tile i of k has its share of the nodes
-pub record IsShare (net : NetSpec) (k i : ℕ) (x : Part) : Type 0 where
+pub record IsShare (net : NetSpec) (k i : ℕ) (x : TileView) : Type 0 where
   pub tile : IsTileOf net x
   pub low : x.low ≡ i * length net.nodes / k
   pub high : x.high ≡ (i + 1) * length net.nodes / k
 
 -- the tiles of a network, at most one a node
-pub record AreTiles (net : NetSpec) (xs : List Part) : Type 0 where
+pub record AreTiles (net : NetSpec) (xs : List TileView) : Type 0 where
   pub some : 0 < length xs
   pub few : length xs ≤ length net.nodes
-  pub shares : (i : ℕ) (d : Part) → i < length xs → IsShare net (length xs) i (slice_index_or xs i d)
+  pub shares : (i : ℕ) (d : TileView) → i < length xs → IsShare net (length xs) i (slice_index_or xs i d)
 
 -- all tiles stand for the machine, each at its own lanes and nodes
-pub record AllStand (net : NetSpec) (xs : List Part) (m : Traffic) : Type 0 where
+pub record AllStand (net : NetSpec) (xs : List TileView) (m : Traffic) : Type 0 where
   pub on : IsOn net m
   pub each : All (λ x. StandsFor x m) xs

@@ -3,24 +3,24 @@
 use Rattle.std.specs.Prelude.{◌≡◌, ◌*◌, ◌≤◌, ◌++◌, ◌∷◌, ℕ, List, [], length, true, slice_index_or, slice_set, All}
 use Rattle.street_base.specs.declared.net.NetSpec.{NetSpec}
 use Rattle.street_base.specs.declared.names.Place.{Place}
-use Rattle.street_base.specs.Prelude.{Traffic, IsWhole}
+use Rattle.street_base.specs.Prelude.{most_workers, Traffic, IsWhole}
 use Rattle.street_tile.specs.Commands.{HaveNot}
-use Rattle.street_tile.specs.Tiles.{Part, IsStill, IsPrepared, Each, AreTiles, AllStand, is_own}
+use Rattle.street_tile.specs.Tiles.{TileView, IsStill, IsPrepared, Each, AreTiles, AllStand, is_own}
 use Rattle.street_tile.specs.TileDetectors.{AllMetersStand}
 
 -- what contracts see: the network, and its tiles
 pub record TilesView : Type 0 where
   pub network : NetSpec
-  pub tiles : List Part
+  pub tiles : List TileView
 
-abbrev pub tiles_of : NetSpec → List Part → TilesView
+abbrev pub tiles_of : NetSpec → List TileView → TilesView
 tiles_of net xs = record { network = net; tiles = xs }
 
 -- what is kept between calls: the tiles are the network's, at most one a worker, nobody is on the way between them, and there is a
 -- view of its lanes
-pub record AreKept (net : NetSpec) (xs : List Part) (mouths : ℕ) : Type 0 where
+pub record AreKept (net : NetSpec) (xs : List TileView) (mouths : ℕ) : Type 0 where
   pub tiles : AreTiles net xs
-  pub few : length xs ≤ 64
+  pub few : length xs ≤ most_workers
   pub still : All IsStill xs
   pub wide : mouths ≡ 2 * length net.links
 
@@ -46,24 +46,24 @@ TilesKeep x y = TilesGo (λ m. Unit {0}) (λ m. m) x y
 
 -- tile i owns the lanes of a link
 abbrev pub OwnsLink : TilesView → ℕ → ℕ → Type 0
-OwnsLink x i link = (d : Part) (p : Place) → p.link ≡ link → is_own x.network (slice_index_or x.tiles i d).low (slice_index_or x.tiles i d).high p ≡ true
+OwnsLink x i link = (d : TileView) (p : Place) → p.link ≡ link → is_own x.network (slice_index_or x.tiles i d).low (slice_index_or x.tiles i d).high p ≡ true
 
 -- nobody of this number is on the lanes of tile i, in whatever traffic the tiles stand for
 abbrev pub TileHasNot : TilesView → ℕ → ℕ → Type 0
-TileHasNot x i number = (m : Traffic) → IsWhole m → TilesStandFor x m → (d : Part) → HaveNot (slice_index_or x.tiles i d).own.places m number
+TileHasNot x i number = (m : Traffic) → IsWhole m → TilesStandFor x m → (d : TileView) → HaveNot (slice_index_or x.tiles i d).own.places m number
 
 -- tile i has room for a step, and the others are as they were
-pub record PreparesOne (i : ℕ) (xs ys : List Part) : Type 0 where
-  pub here : (d : Part) → IsPrepared (slice_index_or ys i d)
-  pub others : (k : ℕ) (d : Part) → (k ≡ i → ⊥) → slice_index_or ys k d ≡ slice_index_or xs k d
+pub record PreparesOne (i : ℕ) (xs ys : List TileView) : Type 0 where
+  pub here : (d : TileView) → IsPrepared (slice_index_or ys i d)
+  pub others : (k : ℕ) (d : TileView) → (k ≡ i → ⊥) → slice_index_or ys k d ≡ slice_index_or xs k d
 
 -- the numbers of those who arrived that tiles hold, those of the last tile first
-abbrev pub all_arrived : List Part → List ℕ
+abbrev pub all_arrived : List TileView → List ℕ
 all_arrived [] = []
 all_arrived (x ∷ xs) = all_arrived xs ++ x.arrived
 
 -- only who arrived on a tile is another
-abbrev pub SameButArrived : Part → Part → Type 0
+abbrev pub SameButArrived : TileView → TileView → Type 0
 SameButArrived x y = y ≡ record x { arrived = y.arrived }
 
 -- the last number of those who arrived is taken
@@ -76,9 +76,9 @@ pub record TakesArrival (number : ℕ) (x y : TilesView) : Type 0 where
 -- the last number of those who arrived on tile i is taken
 pub record TakesArrivalOf (i number : ℕ) (x y : TilesView) : Type 0 where
   pub network : y.network ≡ x.network
-  pub old : Part
-  pub new : Part
-  pub at : (d : Part) → slice_index_or x.tiles i d ≡ old
+  pub old : TileView
+  pub new : TileView
+  pub at : (d : TileView) → slice_index_or x.tiles i d ≡ old
   pub tiles : y.tiles ≡ slice_set x.tiles i new
   pub same : SameButArrived old new
   pub rest : old.arrived ≡ new.arrived ++ number ∷ []

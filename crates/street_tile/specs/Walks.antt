@@ -25,7 +25,8 @@ HandsOver net clock own mouths before after = (m : Traffic) → IsReleasing net 
 
 -- in traffic of the network at this clock the front of buffer n may go there
 abbrev pub Targets : NetSpec → ℕ → Lanes → ℕ → Option Place → Type 0
-Targets net clock own n to = (m : Traffic) → m.network ≡ net → m.clock ≡ clock → LaneStands (lane_of own n) (lane_at m (place_at own n)) → to ≡ target m (place_at own n)
+Targets net clock own n to =
+    (m : Traffic) → m.network ≡ net → m.clock ≡ clock → LaneStands (lane_of own n) (lane_at m (place_at own n)) → to ≡ target m (place_at own n)
 
 -- buffer n stands for a queue with this front
 pub record HasFront (own : Lanes) (n : ℕ) (q : Queued) : Type 0 where

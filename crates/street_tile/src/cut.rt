@@ -3,7 +3,7 @@
 //! Source: this profile.
 ghost use Rattle.std.specs.Prelude.{◌≡◌, ◌+◌, ◌*◌, ◌/◌, ◌<◌, ◌≤◌, ◌++◌, [], length, map, replicate, min, vec_capacity, None, IfOk, OnOk, All};
 ghost use Rattle.std.specs.List.{range_with_len};
-ghost use Rattle.street_base.specs.Prelude.{most_links, loaded};
+ghost use Rattle.street_base.specs.Prelude.{most_workers, most_links, loaded};
 ghost use Rattle.street_lanes.specs.Prelude.{AllLanes, fresh};
 ghost use Rattle.street_lanes.specs.Lanes.{IsOf};
 ghost use Rattle.street_tile.specs.Prelude.{IsTileOf, IsIdle, StandsFor, AreTiles, AreNumbers, own_places, bare, MetersStand, AllMetersStand};
@@ -244,7 +244,7 @@ impl Tile {
     /// Memory was refused.
     pub fn cut(alloc: Global, net: &Network, workers: usize) -> Result<Vec<Tile>, Starved>
         requires some { 1 ≤ workers }
-        requires few { workers ≤ 64 }
+        requires few { workers ≤ most_workers }
         ensures tiles { IfOk result (λ tiles. AreTiles net.now tiles.items) }
         ensures count { IfOk result (λ tiles. length tiles.items ≡ min workers (length net.now.nodes)) }
         ensures idle { IfOk result (λ tiles. All IsIdle tiles.items) }

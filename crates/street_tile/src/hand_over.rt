@@ -8,7 +8,7 @@ ghost use Rattle.std.specs.Prelude.{option_to_list, map, replicate, true, slice_
 ghost use Rattle.street_base.specs.Prelude.{vehicle_of, most_plan};
 ghost use Rattle.street_lanes.specs.Prelude.{IsLane};
 ghost use Rattle.street_tile.specs.Prelude.{Transfer, entry_in, Awaits, IsMoved, MovesLast, all_handed, received};
-ghost use Rattle.street_tile.specs.Prelude.{KeepsHints, Part, IsTileOf, Each, AreTiles, is_own, nobody};
+ghost use Rattle.street_tile.specs.Prelude.{KeepsHints, TileView, IsTileOf, Each, AreTiles, is_own, nobody};
 
 use crate::cut::{nones, owner};
 use crate::{Hints, Tile};
@@ -161,7 +161,7 @@ fn tile_of(net: &Network, tiles: &[Tile], to: Place) -> usize
     requires tiles { AreTiles net.now tiles.now }
     requires lane { IsLane net.now to }
     ensures inside { result < length tiles.now }
-    ensures own { (d : Part) → is_own net.now (slice_index_or tiles.now result d).low
+    ensures own { (d : TileView) → is_own net.now (slice_index_or tiles.now result d).low
         (slice_index_or tiles.now result d).high to ≡ true }
 {
     if tiles.len() == 1 {
@@ -193,7 +193,7 @@ fn move_from(net: &Network, tiles: &mut [Tile], hints: &mut Hints, i: usize)
     requires tiles { AreTiles net.now tiles.old }
     requires lanes { All (λ x. All (λ e. IsLane net.now e.to) x.handed) tiles.old }
     requires awaits { (es : List Transfer) × All (Awaits es) tiles.old }
-    ensures moved { (es : List Transfer) → (d : Part) → All (Awaits es) tiles.old
+    ensures moved { (es : List Transfer) → (d : TileView) → All (Awaits es) tiles.old
         → IsMoved i [] ((slice_index_or tiles.old i d).handed ++ es) tiles.old tiles.new }
     ensures hints { KeepsHints hints.old hints.new }
 {

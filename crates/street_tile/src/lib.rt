@@ -3,12 +3,11 @@
 //! A [`Tile`] answers for its own lanes and nodes. [`Tiles`] has all tiles of a network between two steps: it gives a command to the
 //! tile that owns the lane or node, and promises what becomes of the network's traffic.
 //!
-//! Each phase of a tile reads and writes its own lanes alone, so the tiles of a network run a phase side by side. [`step_by`] makes
-//! a step with so many threads at most: it lends them the tiles three times, since phases between which no tile needs another's
+//! Each phase of a tile reads and writes its own lanes alone, so the tiles of a network run a phase side by side. [`step_by`] lends
+//! the tiles three times to a [`Lender`], as threads ([`share`]) or a team, since phases between which no tile needs another's
 //! are one part. Between the parts the thread that calls for the step publishes which lanes are open ([`View`]), and moves
 //! vehicles from the tile that let them go to the tile that owns their next lane ([`HandOver`]). [`step_all`] is the same step
-//! phase by phase, for a caller that watches each, and [`Tiles::step_by_team`] by threads that stay ([`TileWork`]); all promise
-//! `Steps`.
+//! phase by phase, for a caller that watches each; both promise `Steps`.
 #![tactic(auto)]
 
 mod change;
@@ -18,6 +17,7 @@ mod entries;
 mod gate;
 mod hand_over;
 mod hints;
+mod lender;
 mod meters;
 mod motion;
 mod phase_by_phase;
@@ -34,6 +34,7 @@ mod view;
 pub use gate::Gate;
 pub use hand_over::HandOver;
 pub use hints::Hints;
+pub use lender::{By, Lender, share};
 pub use phase_by_phase::step_all;
 pub use step::step_by;
 pub use tile::Tile;

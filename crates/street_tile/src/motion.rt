@@ -28,7 +28,7 @@ pub(crate) struct MotionStep<'a> {
 
 /// Motion on own lane `n`, by the signal plan of the node that its link runs to. The lane's detectors watch. Answers the number of
 /// the vehicle that arrived, if one did.
-fn drive_lane(
+fn move_lane(
     own: &mut Lanes,
     detectors: &mut Detectors,
     step: &MotionStep<'_>,
@@ -54,7 +54,7 @@ fn drive_lane(
 
 /// Motion on each of these lanes, which their detectors watch. The numbers of those who arrived are added to `arrived`, and
 /// of each lane, while it is at hand, `mouths` gets at its `slot` whether its cell 0 is free.
-fn drive_lanes(
+fn move_lanes(
     own: &mut Lanes,
     detectors: &mut [Detectors],
     step: &MotionStep<'_>,
@@ -71,7 +71,7 @@ fn drive_lanes(
 {
     for n in 0..own.len() {
         let at = own.at(n);
-        if let Some(number) = drive_lane(own, &mut detectors[n], step, n) {
+        if let Some(number) = move_lane(own, &mut detectors[n], step, n) {
             arrived.push_reserved(number);
         }
         mouths[slot(at.link, at.lane)] = own.is_open(n);
@@ -94,7 +94,7 @@ impl Tile {
             low: self.low,
             signals: &self.signals,
         };
-        drive_lanes(
+        move_lanes(
             &mut self.own,
             &mut self.detectors,
             &step,

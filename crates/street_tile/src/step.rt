@@ -5,41 +5,75 @@
 //!
 //! Source: this profile, whose five phases a step has in this order.
 ghost use Rattle.std.specs.Prelude.{◌≡◌, ◌*◌, ◌<◌, ◌≤◌, length, [], All};
+ghost use Rattle.street_base.specs.Prelude.{Traffic};
+ghost use Rattle.street_lanes.specs.Prelude.{IsLane};
 ghost use Rattle.street_base.specs.Prelude.{last_clock};
 ghost use Rattle.street_tile.specs.Prelude.{IsTileOf, IsPrepared, Each, LanePhase, MotionPhase, ReleasePhase};
-ghost use Rattle.street_tile.specs.Prelude.{EnterPhase, MeterPhase, Then, KeepsHints, MayStep, Steps};
+ghost use Rattle.street_tile.specs.Prelude.{EnterPhase, MeterPhase, Then, KeepsHints, MayStep, Steps, MayWork, DoesWork};
+ghost use Rattle.street_tile.specs.Prelude.{AreTiles, AllStand, Shows, ShowsOwn, nobody, all_handed, received};
 
 use crate::gate::{DETECTORS, ENTRIES, LANE_CHANGES, MOTION, RELEASES};
 use crate::hand_over::move_all;
 use crate::view::publish;
-use crate::{Gate, Hints, Tile, View};
-use std::thread;
-use std::thread::Threads;
+use crate::{Gate, Hints, Lender, Tile, View};
 use street_net::Network;
 
-/// Lane changes and motion of a tile by the worker of this number; the gate sees it come to each phase and leave it.
-pub(crate) fn drive<G: Gate>(net: &Network, worker: u32, tile: &mut Tile, gate: &G)
-    requires tile { IsTileOf net.now tile.old }
-    requires none { tile.old.arrived ≡ [] }
-    requires in_time { tile.old.clock < last_clock }
-    ensures { Then (LanePhase net.now) (MotionPhase net.now) tile.old tile.new }
+/// The part with lane changes and motion.
+const DRIVE: u32 = 0;
+
+/// The part with releases.
+pub(crate) const RELEASE: u32 = 1;
+
+/// The part with entries, departures and detectors, after which the tile's clock goes on.
+const SETTLE: u32 = 2;
+
+/// The part with lane changes alone.
+pub(crate) const CHANGE: u32 = 3;
+
+/// The part with motion alone.
+pub(crate) const MOVE: u32 = 4;
+
+/// The part with entries and departures alone.
+pub(crate) const ENTER: u32 = 5;
+
+/// The part with detectors alone, after which the tile's clock goes on.
+pub(crate) const METER: u32 = 6;
+
+/// Lane changes of a tile by the worker of this number; the gate sees it come and leave.
+fn change<G: Gate>(net: &Network, worker: u32, tile: &mut Tile, gate: &G)
+    requires { IsTileOf net.now tile.old }
+    ensures { LanePhase net.now tile.old tile.new }
 {
     gate.arrive(worker, LANE_CHANGES, tile);
     tile.phase_lanes(net);
     gate.leave(worker, LANE_CHANGES, tile);
+}
+
+/// Motion of a tile by the worker of this number; the gate sees it come and leave.
+fn go<G: Gate>(net: &Network, worker: u32, tile: &mut Tile, gate: &G)
+    requires tile { IsTileOf net.now tile.old }
+    requires none { tile.old.arrived ≡ [] }
+    requires in_time { tile.old.clock < last_clock }
+    ensures { MotionPhase net.now tile.old tile.new }
+{
     gate.arrive(worker, MOTION, tile);
     tile.phase_motion(net);
     gate.leave(worker, MOTION, tile);
 }
 
+/// Lane changes and motion of a tile by the worker of this number.
+fn drive<G: Gate>(net: &Network, worker: u32, tile: &mut Tile, gate: &G)
+    requires tile { IsTileOf net.now tile.old }
+    requires none { tile.old.arrived ≡ [] }
+    requires in_time { tile.old.clock < last_clock }
+    ensures { Then (LanePhase net.now) (MotionPhase net.now) tile.old tile.new }
+{
+    change(net, worker, tile, gate);
+    go(net, worker, tile, gate);
+}
+
 /// Releases of a tile by the worker of this number, into lanes whose mouths are open; the gate sees it come and leave.
-pub(crate) fn release<G: Gate>(
-    net: &Network,
-    worker: u32,
-    mouths: &[bool],
-    tile: &mut Tile,
-    gate: &G,
-)
+fn release<G: Gate>(net: &Network, worker: u32, mouths: &[bool], tile: &mut Tile, gate: &G)
     requires tile { IsTileOf net.now tile.old }
     requires empty { tile.old.handed ≡ [] }
     requires wide { length mouths.now ≡ 2 * length net.now.links }
@@ -50,130 +84,106 @@ pub(crate) fn release<G: Gate>(
     gate.leave(worker, RELEASES, tile);
 }
 
-/// Entries, departures and detectors of a tile, whose clock then goes on, by the worker of this number; the gate sees it come to
-/// each phase and leave it.
-pub(crate) fn settle<G: Gate>(net: &Network, worker: u32, tile: &mut Tile, gate: &G)
+/// Entries and departures of a tile by the worker of this number; the gate sees it come and leave.
+fn enter<G: Gate>(net: &Network, worker: u32, tile: &mut Tile, gate: &G)
     requires tile { IsTileOf net.now tile.old }
     requires prepared { IsPrepared tile.old }
-    requires in_time { tile.old.clock < last_clock }
-    ensures { Then (EnterPhase net.now) (MeterPhase net.now) tile.old tile.new }
+    ensures { EnterPhase net.now tile.old tile.new }
 {
     gate.arrive(worker, ENTRIES, tile);
     tile.phase_enter(net);
     gate.leave(worker, ENTRIES, tile);
+}
+
+/// Detectors of a tile, whose clock then goes on, by the worker of this number; the gate sees it come and leave.
+fn meter<G: Gate>(net: &Network, worker: u32, tile: &mut Tile, gate: &G)
+    requires tile { IsTileOf net.now tile.old }
+    requires in_time { tile.old.clock < last_clock }
+    ensures { MeterPhase net.now tile.old tile.new }
+{
     gate.arrive(worker, DETECTORS, tile);
     tile.phase_meter(net);
     gate.leave(worker, DETECTORS, tile);
 }
 
-/// Lane changes and motion of all tiles, by so many threads at most.
-fn all_drive<R: Threads + Sync, G: Gate + Sync>(
-    rt: &R,
-    net: &Network,
-    tiles: &mut [Tile],
-    gate: &G,
-    threads: usize,
-)
-    requires some { 0 < threads }
-    requires few { length tiles.old ≤ 64 }
-    requires tiles { All (IsTileOf net.now) tiles.old }
-    requires none { All (λ x. x.arrived ≡ []) tiles.old }
-    requires in_time { All (λ x. x.clock < last_clock) tiles.old }
-    ensures { Each (Then (LanePhase net.now) (MotionPhase net.now)) tiles.old tiles.new }
+/// Entries, departures and detectors of a tile, whose clock then goes on, by the worker of this number.
+fn settle<G: Gate>(net: &Network, worker: u32, tile: &mut Tile, gate: &G)
+    requires tile { IsTileOf net.now tile.old }
+    requires prepared { IsPrepared tile.old }
+    requires in_time { tile.old.clock < last_clock }
+    ensures { Then (EnterPhase net.now) (MeterPhase net.now) tile.old tile.new }
 {
-    thread::for_each_mut(
-        rt,
-        tiles,
-        threads,
-        &|i, tile: &mut Tile|
-            requires { (i < 64) × IsTileOf net.now tile.now × (tile.now.arrived ≡ []) × (tile.now.clock < last_clock) }
-            ensures { Then (LanePhase net.entry.now) (MotionPhase net.entry.now) tile.entry.now tile.exit.now }
-        {
-            drive(net, i as u32, tile, gate);
-        },
-    );
+    enter(net, worker, tile, gate);
+    meter(net, worker, tile, gate);
 }
 
-/// Releases of all tiles, into lanes that this view shows open, by so many threads at most.
-pub(crate) fn all_release<R: Threads + Sync, G: Gate + Sync>(
-    rt: &R,
+/// A part of a step of a tile, by the worker of this number; `shown` are the mouths, in `RELEASE`.
+pub(crate) fn work<G: Gate>(
     net: &Network,
-    tiles: &mut [Tile],
-    view: &View,
     gate: &G,
-    threads: usize,
+    part: u32,
+    worker: u32,
+    shown: &[bool],
+    tile: &mut Tile,
 )
-    requires some { 0 < threads }
-    requires few { length tiles.old ≤ 64 }
-    requires tiles { All (IsTileOf net.now) tiles.old }
-    requires empty { All (λ x. x.handed ≡ []) tiles.old }
-    requires view { length view.now ≡ 2 * length net.now.links }
-    ensures { Each (ReleasePhase net.now view.now) tiles.old tiles.new }
+    requires { MayWork net.now part shown.now tile.old }
+    ensures { DoesWork net.now part shown.now tile.old tile.new }
 {
-    thread::for_each_mut(
-        rt,
-        tiles,
-        threads,
-        &|i, tile: &mut Tile|
-            requires { (i < 64) × IsTileOf net.now tile.now × (tile.now.handed ≡ []) × (length view.now ≡ 2 * length net.now.links) }
-            ensures { ReleasePhase net.entry.now view.entry.now tile.entry.now tile.exit.now }
-        {
-            gate.arrive(i as u32, RELEASES, tile);
-            tile.phase_release(net, view);
-            gate.leave(i as u32, RELEASES, tile);
-        },
-    );
+    match part {
+        DRIVE => drive(net, worker, tile, gate),
+        RELEASE => release(net, worker, shown, tile, gate),
+        CHANGE => change(net, worker, tile, gate),
+        MOVE => go(net, worker, tile, gate),
+        ENTER => enter(net, worker, tile, gate),
+        METER => meter(net, worker, tile, gate),
+        _ => settle(net, worker, tile, gate),
+    }
 }
 
-/// Entries, departures and detectors of all tiles, whose clocks then go on, by so many threads at most.
-fn all_settle<R: Threads + Sync, G: Gate + Sync>(
-    rt: &R,
-    net: &Network,
-    tiles: &mut [Tile],
-    gate: &G,
-    threads: usize,
-)
-    requires some { 0 < threads }
-    requires few { length tiles.old ≤ 64 }
-    requires tiles { All (IsTileOf net.now) tiles.old }
-    requires prepared { All IsPrepared tiles.old }
-    requires in_time { All (λ x. x.clock < last_clock) tiles.old }
-    ensures { Each (Then (EnterPhase net.now) (MeterPhase net.now)) tiles.old tiles.new }
+/// As [`publish`], of a vector, of which the contract of a team's step speaks: no tile is lent.
+fn publish_vec(net: &Network, tiles: &Vec<Tile>, view: &mut View)
+    requires tiles { AreTiles net.now tiles.now.items }
+    requires shown { All ShowsOwn tiles.now.items }
+    requires view { length view.old ≡ 2 * length net.now.links }
+    ensures shows { (m : Traffic) → AllStand net.now tiles.now.items m → Shows net.now view.new m }
+    ensures wide { length view.new ≡ length view.old }
 {
-    thread::for_each_mut(
-        rt,
-        tiles,
-        threads,
-        &|i, tile: &mut Tile|
-            requires { (i < 64) × IsTileOf net.now tile.now × IsPrepared tile.now × (tile.now.clock < last_clock) }
-            ensures { Then (EnterPhase net.entry.now) (MeterPhase net.entry.now) tile.entry.now tile.exit.now }
-        {
-            settle(net, i as u32, tile, gate);
-        },
-    );
+    publish(net, tiles, view);
 }
 
-/// One step by so many threads at most, which the gate observes, of the same meaning as [`step_all`](crate::step_all)'s. With one
-/// thread the caller's runs all tiles in turn and starts none. The hints follow who enters another link. Takes no memory.
-pub fn step_by<R: Threads + Sync, G: Gate + Sync>(
-    rt: &R,
+/// As [`move_all`], of a vector, of which the contract of a team's step speaks: no tile is lent.
+fn move_vec(net: &Network, tiles: &mut Vec<Tile>, hints: &mut Hints)
+    requires tiles { AreTiles net.now tiles.old.items }
+    requires nobody { All (λ x. x.coming ≡ nobody x) tiles.old.items }
+    requires lanes { All (λ x. All (λ e. IsLane net.now e.to) x.handed) tiles.old.items }
+    ensures len { length tiles.new.items ≡ length tiles.old.items }
+    ensures moved { Each (λ x y. y ≡ received (all_handed tiles.old.items) x) tiles.old.items tiles.new.items }
+    ensures hints { KeepsHints hints.old hints.new }
+{
+    move_all(net, tiles, hints);
+}
+
+/// One step, whoever makes its parts, of the same meaning as [`step_all`](crate::step_all)'s. The hints follow who enters another link.
+/// Takes no memory.
+pub fn step_by<L: Lender>(
+    lender: &mut L,
     net: &Network,
-    tiles: &mut [Tile],
+    tiles: &mut Vec<Tile>,
     view: &mut View,
     hints: &mut Hints,
-    gate: &G,
-    threads: usize,
 )
-    requires some { 0 < threads }
-    requires ready { MayStep net.now tiles.old }
+    requires net { L.knows lender.old net.now }
+    requires ready { MayStep net.now tiles.old.items }
     requires view { length view.old ≡ 2 * length net.now.links }
-    ensures steps { Steps net.now tiles.old tiles.new }
+    ensures net { L.knows lender.new net.now }
+    ensures len { length tiles.new.items ≡ length tiles.old.items }
+    ensures steps { Steps net.now tiles.old.items tiles.new.items }
     ensures view { length view.new ≡ length view.old }
     ensures hints { KeepsHints hints.old hints.new }
 {
-    all_drive(rt, net, tiles, gate, threads);
-    publish(net, tiles, view);
-    all_release(rt, net, tiles, view, gate, threads);
-    move_all(net, tiles, hints);
-    all_settle(rt, net, tiles, gate, threads);
+    lender.lend(net, DRIVE, &[], tiles);
+    publish_vec(net, tiles, view);
+    lender.lend(net, RELEASE, view.mouths(), tiles);
+    move_vec(net, tiles, hints);
+    lender.lend(net, SETTLE, &[], tiles);
 }

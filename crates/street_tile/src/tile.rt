@@ -60,9 +60,9 @@ impl Drop for Tile {
 }
 
 impl Model for Tile {
-    ghost use Rattle.street_tile.specs.Prelude.{Part};
+    ghost use Rattle.street_tile.specs.Prelude.{TileView};
 
-    ghost Value = { Part };
+    ghost Value = { TileView };
 
     ghost use Rattle.street_tile.specs.Inside.{seen, IsSound};
 

@@ -6,7 +6,7 @@
 //!
 //! Source: this profile.
 ghost use Rattle.std.specs.Prelude.{◌≡◌, ◌+◌, ◌<◌, ◌≤◌, length, min, option_map, slice_get, IfOk, OnOk, OnErr};
-ghost use Rattle.street_base.specs.Prelude.{in_lane, IsSound, with_marks, metered, last_clock, most_period, most_vehicles, loaded, with_waiting, closed_after};
+ghost use Rattle.street_base.specs.Prelude.{in_lane, IsSound, with_marks, metered, last_clock, most_workers, most_period, most_vehicles, loaded, with_waiting, closed_after};
 ghost use Rattle.street_base.specs.Prelude.{link_at, shown_lane, shown_rows, in_cells, in_buffers, in_wait, SignalPlan as PlanSeen, Traffic, lane_at};
 ghost use Rattle.street_node.specs.Prelude.{ShowsAs};
 ghost use Rattle.street_lanes.specs.Prelude.{IsLane, HasShortPlan, waiting_of};
@@ -61,7 +61,7 @@ impl Tiles {
     /// Memory was refused.
     pub fn new(alloc: Global, network: Network, workers: usize) -> Result<Tiles, Starved>
         requires some { 1 ≤ workers }
-        requires few { workers ≤ 64 }
+        requires few { workers ≤ most_workers }
         ensures network { IfOk result (λ tiles. tiles.network ≡ network) }
         ensures count { IfOk result (λ tiles. length tiles.tiles ≡ min workers (length network.nodes)) }
         ensures nobody { IfOk result NobodyArrived }
@@ -101,7 +101,7 @@ impl Tiles {
     pub fn len(&self) -> usize
         ensures len { result ≡ length self.now.tiles }
         ensures some { 0 < result }
-        ensures few { result ≤ 64 }
+        ensures few { result ≤ most_workers }
     {
         self.tiles.len()
     }

@@ -3,23 +3,23 @@ use Rattle.std.proofs.Common.{◌≡◌, ◌<◌, List, length, get_or, refl, sy
 use Rattle.street_base.specs.declared.net.NetSpec.{NetSpec}
 use Rattle.street_base.specs.Prelude.{network_fault, last_clock, Traffic, loaded}
 use Rattle.street_base.proofs.LoadLemmas.{loaded-sound}
-use Rattle.street_tile.specs.Prelude.{KeepsAll, Part, AreTiles, AllStand, StandsFor, SameTile, Each, IsIdle, IsPrepared}
+use Rattle.street_tile.specs.Prelude.{KeepsAll, TileView, AreTiles, AllStand, StandsFor, SameTile, Each, IsIdle, IsPrepared}
 use Rattle.street_tile.proofs.BetweenPhases.{tiles-same}
 
 -- ---- one tile
 
-keeps-same : (x y : Part) → KeepsAll x y → SameTile x y
+keeps-same : (x y : TileView) → KeepsAll x y → SameTile x y
 keeps-same x y e = subst (SameTile x) (sym e) (record { low = refl; high = refl; links = refl; own = record { places = refl; sizes = refl; loose = refl; odds = refl }; sized = refl })
 
-keeps-idle : (x y : Part) → KeepsAll x y → IsIdle x → IsIdle y
+keeps-idle : (x y : TileView) → KeepsAll x y → IsIdle x → IsIdle y
 keeps-idle x y e idle = subst IsIdle (sym e) (record { handed = idle.handed; coming = idle.coming; arrived = idle.arrived })
 
-keeps-stands : (x y : Part) (m : Traffic) → KeepsAll x y → StandsFor x m → StandsFor y m
-keeps-stands x y m e s = subst (λ (t : Part). StandsFor t m) (sym e) (record { clock = s.clock; lanes = s.lanes; none_loose = s.none_loose; signals = s.signals })
+keeps-stands : (x y : TileView) (m : Traffic) → KeepsAll x y → StandsFor x m → StandsFor y m
+keeps-stands x y m e s = subst (λ (t : TileView). StandsFor t m) (sym e) (record { clock = s.clock; lanes = s.lanes; none_loose = s.none_loose; signals = s.signals })
 
 -- ---- all tiles
 
-module _ (net : NetSpec) (xs ys : List Part) (long : length ys ≡ length xs) (kept : Each (λ x y. KeepsAll x y × IsPrepared y) xs ys) where
+module _ (net : NetSpec) (xs ys : List TileView) (long : length ys ≡ length xs) (kept : Each (λ x y. KeepsAll x y × IsPrepared y) xs ys) where
   pub tiles-kept : AreTiles net xs → AreTiles net ys
   tiles-kept = tiles-same net xs ys long (λ k d h. keeps-same (get_or xs k d) (get_or ys k d) (kept k d h).0)
 

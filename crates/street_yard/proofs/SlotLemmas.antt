@@ -380,7 +380,3 @@ module _ (y : Inside) (v : Yard) (k : ℕ) (s : IsSound y) (is : seen y ≡ v) w
 
   pub loose-nowhere : slot_in y.slots.slots k ≡ None → IsLoose v k → ⊥
   loose-nowhere there h = subst NoList (entry_by_slot None there) h
-
-pub not_false : (b : Bool) → not b ≡ false → b ≡ true
-not_false true e = refl
-not_false false e = sym e

@@ -6,6 +6,7 @@ use Rattle.std.proofs.lemmas.Bool.{cases_eq, ne_eqb, false≢true}
 use Rattle.std.proofs.lemmas.List.Elements.{All-cons, All-head, All-tail}
 use Rattle.std.proofs.lemmas.List.Sorted.{All-permutation}
 use Rattle.std.proofs.lemmas.Map.Keys.{IsDistinct-IsPermutation}
+use Rattle.street_base.proofs.Counting.{eqb-sym}
 use Rattle.street_yard.specs.declared.yard.Yard.TheInside.{Inside}
 use Rattle.street_yard.specs.Prelude.{Has, Away, IsApart}
 use Rattle.street_yard.specs.Inside.{slot_in, vacant, IsLaidOut, IsSound}
@@ -33,14 +34,8 @@ apart-from_distinct (x ∷ xs) h = (away xs h.0, apart-from_distinct xs h.1)
     away [] a = tt
     away (y ∷ ys) a = ((λ e. false≢true (sym a.0 ∙ eq-eqb x y e)), away ys a.1)
 
-eqb-flips : (x y : ℕ) → eqb x y ≡ eqb y x
-eqb-flips x y = elim (cases_eq x y) as (λ _. eqb x y ≡ eqb y x) [
-  | inl e ↦ eq-eqb x y e ∙ sym (eq-eqb y x (sym e))
-  | inr ne ↦ ne_eqb x y ne ∙ sym (ne_eqb y x (λ e. ne (sym e)))
-]
-
 apart-permuted : (xs ys : List ℕ) → IsPermutation xs ys → IsApart xs → IsApart ys
-apart-permuted xs ys moved h = apart-from_distinct ys (IsDistinct-IsPermutation eqb eqb-flips xs ys moved (IsDistinct-from_apart xs h))
+apart-permuted xs ys moved h = apart-from_distinct ys (IsDistinct-IsPermutation eqb eqb-sym xs ys moved (IsDistinct-from_apart xs h))
 
 -- nothing is seen of their order
 module _ (y : Inside) (s : IsSound y) (spare : List ℕ) (moved : IsPermutation y.spare.items spare) where

@@ -168,6 +168,18 @@ pub no_head : (rest : List ℕ) (cursor : Option ℕ) → cursor ≡ None → cu
 no_head [] cursor e f = refl
 no_head (x ∷ tail) cursor e f = (let bad : ◌≡◌ {A = Option ℕ} (Some x) None = sym f ∙ e in absurd (cc))
 
+-- ---- the first of a list
+
+pub head-of : (y : Yard) (n k : ℕ) → first_or (list_at y n) None ≡ Some k → (rest : List ℕ) × (list_at y n ≡ k ∷ rest)
+head-of y n k h = head_is k (list_at y n) (Some k) refl (sym h)
+
+-- the front is on its list
+pub head-on : (y : Yard) (n k : ℕ) → IsWhole y → first_or (list_at y n) None ≡ Some k → list_on y k ≡ Some n
+head-on y n k whole h = let at = head-of y n k h in whole.names k n ([], at.0, at.1)
+
+pub head-held : (y : Yard) (n k : ℕ) → IsWhole y → first_or (list_at y n) None ≡ Some k → IsSome (entry_at y k)
+head-held y n k whole h = on_has_entry y k n (head-on y n k whole h)
+
 -- cells of keys
 
 pub AllAbove-same : (f g : ℕ → ℕ) (cell : ℕ) (xs : List ℕ) → ((k : ℕ) → f k ≡ g k) → AllAbove f cell xs → AllAbove g cell xs

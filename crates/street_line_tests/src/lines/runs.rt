@@ -75,16 +75,18 @@ pub(super) fn run<R: Threads + Sync>(
     };
     let run = run_lines_within(alloc, &mut service, &mut reader, &mut writer, reads);
     let (kind, tally) = outcome(run);
+    let (failed_writes, empty_writes) = (writer.failures(), writer.empty_writes());
+    let FailingWriter { flushed, taken, .. } = writer.into_inner();
     Ran {
         kind,
         tally,
         commands: service.commands,
         reads: reader.calls(),
         failed_reads: reader.failures(),
-        failed_writes: writer.failures(),
-        empty_writes: writer.empty_writes(),
-        flushed: writer.stream.flushed,
-        taken: writer.stream.taken,
+        failed_writes,
+        empty_writes,
+        flushed,
+        taken,
     }
 }
 
@@ -99,5 +101,5 @@ pub(super) fn run_whole<R: Threads + Sync>(
     let mut writer = Counted::new(writer);
     let mut engine = EngineSession::new(rt, Engine::new(alloc, 1, Unwatched::new()));
     let (kind, tally) = outcome(run_engine(alloc, &mut engine, &mut reader, &mut writer));
-    (kind, tally, writer.stream.taken)
+    (kind, tally, writer.into_inner().taken)
 }

@@ -63,7 +63,7 @@ fn replies<R: Threads + Wait + Abort + AllocGlobal + Sync>(
     let mut reader = Counted::new(session);
     let mut writer = Counted::new(Vec::new(rt.alloc()));
     match run_alone(rt.alloc(), &mut own, &mut reader, &mut writer) {
-        Ok(_) => Some(writer.stream),
+        Ok(_) => Some(writer.into_inner()),
         Err(_) => None,
     }
 }

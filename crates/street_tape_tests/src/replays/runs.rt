@@ -38,11 +38,12 @@ pub(super) fn replayed_from<R: Threads + Sync>(
         Ok(tally) => (None, Some(tally)),
         Err(fault) => (Some(fault), None),
     };
+    let FailingWriter { flushed, taken, .. } = writer.into_inner();
     Ran {
         fault,
         tally,
-        flushed: writer.stream.flushed,
-        taken: writer.stream.taken,
+        flushed,
+        taken,
     }
 }
 
@@ -78,11 +79,12 @@ pub(super) fn upgraded_from(
         Ok(tally) => (None, Some(tally)),
         Err(fault) => (Some(fault), None),
     };
+    let FailingWriter { flushed, taken, .. } = writer.into_inner();
     Ran {
         fault,
         tally,
-        flushed: writer.stream.flushed,
-        taken: writer.stream.taken,
+        flushed,
+        taken,
     }
 }
 

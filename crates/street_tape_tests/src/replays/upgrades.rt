@@ -15,7 +15,7 @@ fn upgraded_whole(alloc: Global, tape: &[u8]) -> (Option<Tally>, Vec<u8>) {
     let mut reader = Counted::new(tape);
     let mut writer = Counted::new(Vec::new(alloc));
     let tally = upgrade(alloc, &mut reader, &mut writer).ok();
-    (tally, writer.stream)
+    (tally, writer.into_inner())
 }
 
 /// The first line is another, and the others stay; an upgrade of that is the same text.

@@ -22,11 +22,13 @@ struct Written {
 fn written_to(alloc: Global, journal: &Journal, writer: FailingWriter) -> Written {
     let mut writer = Counted::new(writer);
     let fault = write_tape(alloc, journal, &mut writer).err();
+    let failed = (writer.failures(), writer.empty_writes());
+    let FailingWriter { flushed, taken, .. } = writer.into_inner();
     Written {
         fault,
-        failed: (writer.failures(), writer.empty_writes()),
-        flushed: writer.stream.flushed,
-        taken: writer.stream.taken,
+        failed,
+        flushed,
+        taken,
     }
 }
 

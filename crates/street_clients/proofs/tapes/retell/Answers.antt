@@ -7,7 +7,7 @@ returns-in-Ok-clause-retold g c =
     let run = c.in-Ok.ensures.replayed in
     let from = ap (λ s. Some s.now) c.new-reader.ensures.stream in
     let none = ap (λ v. v.items) c.new-writer.ensures.stream ∙ c.new.ensures.items in
-    retold _ (Some c.replay.new.reader.stream.now) c.new-writer.result.stream.items _ from none c.replay.new.writer.stream.items c.replay.new.engine _ _ _ _ _ run c.apply-count.ensures.serves refl refl
+    retold _ (Some c.replay.new.reader.stream.now) c.new-writer.result.stream.items _ from none c.replay.new.writer.stream.items c.replay.new.engine _ _ _ _ _ run c.apply-count.ensures.serves (ap (λ v. v.items) c.into_inner.ensures) refl
 
 pub returns-clause-stopped : goal.returns-clause-stopped
 returns-clause-stopped g c =

@@ -9,5 +9,5 @@ use Rattle.street_engine.proofs.Serves.{streets-refused}
 use Rattle.street_engine.proofs.commands.serve.Goals as goal
 
 pub returns-in-Load-clause-serves : goal.returns-in-Load-clause-serves
-returns-in-Load-clause-serves g c = subst (λ (d : Command). Serves (Some c.args.streets.now) d (Refused AlreadyLoaded) Whole (Some c.args.streets.now)) (sym c.in-Load.is)
-    (streets-refused c.args.streets.now (Load c.in-Load.field-0) AlreadyLoaded (λ m stands. refl))
+returns-in-Load-clause-serves g c = subst (λ (d : Command). Serves (Some c.args.streets) d (Refused AlreadyLoaded) Whole (Some c.args.streets)) (sym c.in-Load.is)
+    (streets-refused c.args.streets (Load c.in-Load.field-0) AlreadyLoaded (λ m stands. refl))

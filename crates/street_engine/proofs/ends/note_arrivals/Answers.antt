@@ -3,14 +3,14 @@ use Rattle.std.proofs.lemmas.List.{length-append}
 use Rattle.street_base.specs.declared.reply.End.{End}
 use Rattle.street_base.specs.declared.reply.End.TheVariants.{Arrived}
 use Rattle.street_base.specs.Prelude.{with_arrivals}
-use Rattle.street_tile.specs.Prelude.{Part, TilesView, all_arrived}
+use Rattle.street_tile.specs.Prelude.{TileView, TilesView, all_arrived}
 use Rattle.street_engine.specs.Prelude.{AreComing}
 use Rattle.street_engine.proofs.Arrivals.{with_arrivals-none, last-arrives}
 use Rattle.street_engine.proofs.AreComing.{last-going, rest-coming}
 use Rattle.street_engine.proofs.ends.note_arrivals.Goals as goal
 
 -- where no tile holds a number, none is held
-none-held : (xs : List Part) → ((k : ℕ) (d : Part) → k < length xs → (get_or xs k d).arrived ≡ []) → all_arrived xs ≡ []
+none-held : (xs : List TileView) → ((k : ℕ) (d : TileView) → k < length xs → (get_or xs k d).arrived ≡ []) → all_arrived xs ≡ []
 none-held [] none = refl
 none-held (x ∷ xs) none = ap (λ (ns : List ℕ). all_arrived xs ++ ns) (none 0 x (omega arith)) ∙ ap (λ (ns : List ℕ). ns ++ []) (none-held xs (λ k d h. none (suc k) d (omega arith)))
 
@@ -32,7 +32,7 @@ loop-number-preserved c =
           let before = c.loop-number.invariant.same k d h in
           let long = c.loop-number.invariant.long in
           let after = took.tiles k d (omega arith) in
-          after ∙ ap (λ (t : Part). record t { arrived = (get_or c.next_arrival.new.self.tiles k d).arrived }) before;
+          after ∙ ap (λ (t : TileView). record t { arrived = (get_or c.next_arrival.new.self.tiles k d).arrived }) before;
       coming = subst (AreComing rest) (sym now) (rest-coming number rest ends (subst (λ (ns : List ℕ). AreComing ns ends) e c.loop-number.invariant.coming) (Arrived c.args.clock));
       ends = ap (with_arrivals c.args.clock rest) now ∙ sym (last-arrives c.args.clock rest number ends) ∙ ap (λ (ns : List ℕ). with_arrivals c.args.clock ns ends) (sym e) ∙ c.loop-number.invariant.ends;
     }

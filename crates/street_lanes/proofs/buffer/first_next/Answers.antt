@@ -1,6 +1,7 @@
 use Rattle.std.proofs.Common.{sym, ap, ◌∙◌, slice_get, option_map}
 use Rattle.street_lanes.specs.Prelude.{queued_of, ready_next}
-use Rattle.street_lanes.proofs.Cars.{head-held, cars-none}
+use Rattle.street_yard.proofs.YardLemmas.{head-held}
+use Rattle.street_lanes.proofs.Cars.{cars-none}
 use Rattle.street_lanes.proofs.buffer.first_next.Goals as goal
 
 pub step-requires : goal.step-requires

@@ -1,6 +1,6 @@
 use Rattle.std.proofs.Common.{IsSome, sym, subst, refl}
 use Rattle.street_lanes.specs.Prelude.{LetsGo}
-use Rattle.street_lanes.proofs.Cars.{head-on}
+use Rattle.street_yard.proofs.YardLemmas.{head-on}
 use Rattle.street_lanes.proofs.FirstOfList.{lets-go, nobody-goes}
 use Rattle.street_lanes.proofs.buffer.let_go.Goals as goal
 

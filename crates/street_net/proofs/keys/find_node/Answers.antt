@@ -1,6 +1,7 @@
 use Rattle.std.proofs.Common.{◌∙◌, ap, eqb, position}
 use Rattle.street_base.specs.declared.net.NodeSpec.{NodeSpec}
-use Rattle.street_net.proofs.KeyLemmas.{eqb-sym, position-keys}
+use Rattle.street_base.proofs.Counting.{eqb-sym}
+use Rattle.street_net.proofs.KeyLemmas.{position-keys}
 use Rattle.street_net.proofs.keys.find_node.Goals as goal
 
 pub returns : goal.returns

@@ -1,7 +1,8 @@
 use Rattle.std.proofs.Common.{◌∙◌, ap, eqb, take}
 use Rattle.std.specs.List.{list_any}
 use Rattle.street_base.specs.declared.net.LinkSpec.{LinkSpec}
-use Rattle.street_net.proofs.KeyLemmas.{eqb-sym, list_any-keys}
+use Rattle.street_base.proofs.Counting.{eqb-sym}
+use Rattle.street_net.proofs.KeyLemmas.{list_any-keys}
 use Rattle.street_net.proofs.keys.is_repeated_link.Goals as goal
 
 pub returns : goal.returns

@@ -5,7 +5,8 @@ use Rattle.street_base.specs.declared.net.NodeSpec.{NodeSpec}
 use Rattle.street_base.specs.declared.net.NetSpec.{NetSpec}
 use Rattle.street_base.specs.declared.refusal.Part.TheVariants.{Nodes}
 use Rattle.street_base.specs.Prelude.{is_bad_node, in_part, first_bad, nodes_fault}
-use Rattle.street_net.proofs.KeyLemmas.{keys-more, eqb-sym}
+use Rattle.street_base.proofs.Counting.{eqb-sym}
+use Rattle.street_net.proofs.KeyLemmas.{keys-more}
 use Rattle.street_net.proofs.FirstBad.{NoneBad-more, first_bad-here, first_bad-none}
 use Rattle.street_net.proofs.lists.read_nodes.Goals as goal
 

@@ -1,5 +1,5 @@
 use Rattle.std.proofs.Common.{sym}
-use Rattle.street_node.proofs.Queues.{head-held}
+use Rattle.street_yard.proofs.YardLemmas.{head-held}
 use Rattle.street_node.proofs.release.front_to_go.Goals as goal
 
 pub car-car-requires : goal.car-car-requires

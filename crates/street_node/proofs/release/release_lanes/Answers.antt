@@ -6,7 +6,7 @@ use Rattle.street_net.specs.Prelude.{in_places, slot_of, mouth}
 use Rattle.street_node.specs.Prelude.{queue_of, lane_to, way_out, IsFront, SendsOn, Sends}
 use Rattle.street_node.specs.declared.release.Released.{Released}
 use Rattle.street_base.specs.declared.names.Place.{Place}
-use Rattle.street_node.proofs.Queues.{head-on}
+use Rattle.street_yard.proofs.YardLemmas.{head-on}
 use Rattle.street_node.proofs.Steps.{AreDone, done-start, done-none, done-shut, done-sent, front-joins, front-short, lane-at, list-at, few-lists, goes-all}
 use Rattle.street_node.proofs.release.release_lanes.Goals as goal
 use Rattle.street_node.proofs.release.release_lanes.Goals.{in-Some, in_default}

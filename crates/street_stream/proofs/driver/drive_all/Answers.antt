@@ -1,9 +1,10 @@
-use Rattle.std.proofs.Common.{arith, List, ℕ, [], ◌++◌, take, append-nil}
+use Rattle.std.proofs.Common.{arith, refl, ◌≡◌, ◌+◌, List, ℕ, [], ◌++◌, take, append-nil}
 use Rattle.std.specs.Prelude.{⊤}
 use Rattle.std.proofs.lemmas.List.{length-take}
 use Rattle.std.proofs.lemmas.Result.{err_from_is_err_and}
 use Rattle.std.proofs.KnownBytes.{Consumes-nil, Consumes-trans, Consumes-kept}
 use Rattle.street_stream.proofs.Breaks.{breaks_at, read_breaks}
+use Rattle.street_stream.proofs.Calls.{breaks_off, one_round}
 use Rattle.street_stream.proofs.Caused.{caused_by_line}
 use Rattle.street_stream.proofs.Feeds.{feeds_none, feeds_more, consumes_end, begun, whole_run}
 use Rattle.street_stream.proofs.Handles.{none_within}
@@ -12,7 +13,7 @@ use Rattle.street_stream.proofs.driver.drive_all.Goals as goal
 
 pub loop-init : goal.loop-init
 loop-init g c =
-    ([], Consumes-nil _, feeds_none g.H.LineHandler.meaning.takes g.H.LineHandler.meaning.longest _ _ _, record { lines = omega arith; within = none_within c.args.progress.now.tally c.requires.begun.1 }, c.requires.fresh.calls, λ some. absurd (omega (arith, some)))
+    ([], Consumes-nil _, feeds_none g.H.LineHandler.meaning.takes g.H.LineHandler.meaning.longest _ _ _, record { lines = omega arith; within = none_within c.args.progress.now.tally c.requires.begun.1 }, c.requires.fresh.calls, λ some. absurd (omega (arith, some)), (refl, refl))
 
 pub loop-preserved : goal.loop-preserved
 loop-preserved g c =
@@ -25,6 +26,7 @@ loop-preserved g c =
       record { lines = omega (arith, fed.grows.lines, before.3.lines, length-take c.in-Ok.count c.read_behind.new.buffer); within = fed.grows.within },
       omega (arith, c.in-Ok.ensures.calls, before.4),
       λ some. (prompt_again c.loop.reader.calls c.loop.reader.is_prompt c.loop.writer.is_flushed _ c.in-Ok.ensures.prompt (λ more. before.5 (omega (arith, before.4, more))), fed.passed),
+      one_round g.R.Source.gives g.W.Sink.takes g.W.Sink.passes c.loop.counter _ _ c.loop.reader.stream c.loop.writer.stream _ _ before.6 (_, _, _, c.in-Ok.ensures.once) fed.done,
     )
 
 pub returns-in-Err-clause-runs : goal.returns-in-Err-clause-runs
@@ -108,3 +110,31 @@ returns-in_err-feed_through-clause-prompt g c = λ some. prompt_again c.loop.rea
 
 pub returns-clause-prompt : goal.returns-clause-prompt
 returns-clause-prompt g c = λ some. (c.loop.invariant.5 (omega (arith, c.loop.invariant.4, some))).0
+
+pub returns-in-Err-clause-broken_off : goal.returns-in-Err-clause-broken_off
+returns-in-Err-clause-broken_off g c =
+    let before = c.loop.invariant in
+    (c.loop.counter, c.loop.reader.stream, c.loop.writer.stream, omega (arith, c.in-Err.ensures.calls, before.4), before.6, (_, _, _, c.in-Err.ensures.once), refl)
+
+pub returns-in_err-finish_through-clause-broken_off : goal.returns-in_err-finish_through-clause-broken_off
+returns-in_err-finish_through-clause-broken_off g c =
+    let before = c.loop.invariant in
+    let p = err_from_is_err_and c.from_residual.result c.from_residual.ensures.1 in
+    rw (p.1, p.2) (breaks_off g.R.Source.gives g.W.Sink.takes g.W.Sink.passes _ _ _ _ _ _ _ c.in_err-finish_through.ensures.caused
+    (c.loop.counter, c.loop.reader.stream, c.loop.writer.stream, omega (arith, c.in-Ok.ensures.calls, before.4), before.6, (_, _, _, c.in-Ok.ensures.once), c.in_err-finish_through.ensures.undone))
+
+pub returns-then-count-eq0-clause-rounds : goal.returns-then-count-eq0-clause-rounds
+returns-then-count-eq0-clause-rounds g c =
+    let before = c.loop.invariant in
+    let n : c.read_behind.new.self.calls ≡ c.loop.counter + 1 = omega (arith, c.in-Ok.ensures.calls, before.4) in
+    rw n (one_round g.R.Source.gives g.W.Sink.takes g.W.Sink.passes c.loop.counter _ _ c.loop.reader.stream c.loop.writer.stream _ _ before.6 (_, _, _, c.in-Ok.ensures.once) c.in_ok-finish_through.ensures.done)
+
+pub returns-in_err-feed_through-clause-broken_off : goal.returns-in_err-feed_through-clause-broken_off
+returns-in_err-feed_through-clause-broken_off g c =
+    let before = c.loop.invariant in
+    let p = err_from_is_err_and c.from_residual-in_err-feed_through.result c.from_residual-in_err-feed_through.ensures.1 in
+    rw (p.1, p.2) (breaks_off g.R.Source.gives g.W.Sink.takes g.W.Sink.passes _ _ _ _ _ _ _ c.in_err-feed_through.ensures.caused
+    (c.loop.counter, c.loop.reader.stream, c.loop.writer.stream, omega (arith, c.in-Ok.ensures.calls, before.4), before.6, (_, _, _, c.in-Ok.ensures.once), c.in_err-feed_through.ensures.undone))
+
+pub returns-clause-broken_off : goal.returns-clause-broken_off
+returns-clause-broken_off g c = rw c.loop.invariant.4 c.loop.invariant.6

@@ -1,5 +1,6 @@
 use Rattle.std.proofs.Common.{◌≡◌, List, ℕ, ◌*◌, ◌<◌, true}
 use Rattle.std.specs.Io.KnownBytes.{Consumes}
+use Rattle.street_stream.specs.Calls.{AreRounds}
 use Rattle.street_stream.specs.Progress.{Feeds, Grows}
 use Rattle.street_stream.proofs.driver.drive_all.Given as goal
 
@@ -11,3 +12,4 @@ invariant-loop g l =
     × Grows l.fn.progress.tally l.progress.tally (l.counter * 4096)
     × (l.reader.calls ≡ l.counter)
     × (0 < l.counter → (l.reader.is_prompt ≡ true) × (l.writer.is_flushed ≡ true))
+    × AreRounds g.R.Source.gives g.W.Sink.takes g.W.Sink.passes l.counter l.fn.reader.stream l.fn.writer.stream l.reader.stream l.writer.stream

@@ -1,13 +1,14 @@
 use Rattle.std.proofs.Common.{[], ◌++◌, take, refl, sym, ◌∙◌, ap, arith, append-nil, List, ℕ}
 use Rattle.std.proofs.lemmas.Result.{err_from_is_err_and}
 use Rattle.street_stream.proofs.Breaks.{feed_breaks, part_breaks}
+use Rattle.street_stream.proofs.Calls.{no_writes, writes_more}
 use Rattle.street_stream.proofs.Feeds.{feeds_none, feeds_inside, feeds_both}
 use Rattle.street_stream.proofs.LinesFound.{rest_from, part_inside, rest_inside, line_found, line_between, rest_behind}
 use Rattle.street_stream.specs.declared.driver.Progress.{Progress}
 use Rattle.street_stream.proofs.driver.feed.Goals as goal
 
 pub lines-init : goal.lines-init
-lines-init g c = (omega arith, feeds_none g.H.LineHandler.meaning.takes g.H.LineHandler.meaning.longest _ _ _, record { lines = omega arith; within = c.requires.within })
+lines-init g c = (omega arith, feeds_none g.H.LineHandler.meaning.takes g.H.LineHandler.meaning.longest _ _ _, record { lines = omega arith; within = c.requires.within }, no_writes g.W.Sink.takes _)
 
 pub take_line-requires-clause-inside : goal.take_line-requires-clause-inside
 take_line-requires-clause-inside g c = part_inside c.args.bytes.now c.lines.at c.in-Some.size c.in-Some.ensures.0.before
@@ -19,6 +20,7 @@ lines-preserved g c =
       found.0,
       feeds_both g.H.LineHandler.meaning.takes g.H.LineHandler.meaning.longest _ _ _ _ _ _ _ _ _ _ _ _ (sym found.1) c.lines.invariant.1 fed.feeds,
       record { lines = omega (arith, fed.grows.lines, c.lines.invariant.2.lines); within = fed.grows.within },
+      writes_more g.W.Sink.takes _ _ _ c.lines.invariant.3 fed.calls,
     )
 
 pub returns-in_err-take_line-clause-broken : goal.returns-in_err-take_line-clause-broken
@@ -42,3 +44,6 @@ returns-clause-feeds g c =
     let inside = rest_inside c.args.bytes.now c.lines.at c.in_default.ensures in
     feeds_both g.H.LineHandler.meaning.takes g.H.LineHandler.meaning.longest _ _ _ _ _ _ c.args.progress.now c.lines.progress mid c.args.bytes.now _ rest (rest_behind c.args.bytes.now c.lines.at) c.lines.invariant.1
     (feeds_inside g.H.LineHandler.meaning.takes g.H.LineHandler.meaning.longest _ _ c.lines.progress mid rest inside (λ line part. c.in_ok-extend.ensures _ line part) refl)
+
+pub returns-in_err-take_line-clause-calls : goal.returns-in_err-take_line-clause-calls
+returns-in_err-take_line-clause-calls g c = writes_more g.W.Sink.takes _ _ _ c.lines.invariant.3 c.in_err-take_line.ensures.calls

@@ -1,40 +1,39 @@
-use Rattle.std.proofs.Common.{arith}
+use Rattle.std.proofs.Common.{◌≡◌, arith, ap, length, ◌∙◌, sym, subst, List, Bool}
+use Rattle.street_base.specs.Prelude.{Traffic}
+use Rattle.street_tile.specs.Prelude.{AllStand, Shows}
 use Rattle.street_tile.proofs.BetweenPhases.{tiles-each}
 use Rattle.street_tile.proofs.Lent.{tiles-drive, shown-drive, handed-drive, tiles-released, nobody-released, lanes-released, tiles-moved, prepared-moved, in-time-moved, lent-step}
 use Rattle.street_tile.proofs.step.step_by.Goals as goal
 
-pub publish-requires-clause-tiles : goal.publish-requires-clause-tiles
-publish-requires-clause-tiles g c = tiles-drive c.args.net.now c.args.tiles.now c.all_drive.new.tiles (omega arith) c.all_drive.ensures c.requires.ready.tiles
+pub publish_vec-requires-clause-tiles : goal.publish_vec-requires-clause-tiles
+publish_vec-requires-clause-tiles g c = tiles-drive c.args.net.now c.args.tiles.now.items c.lend.new.tiles.items c.lend.ensures.len c.lend.ensures.does c.requires.ready.tiles
 
-pub publish-requires-clause-shown : goal.publish-requires-clause-shown
-publish-requires-clause-shown g c = shown-drive c.args.net.now c.args.tiles.now c.all_drive.new.tiles (omega arith) c.all_drive.ensures
+pub publish_vec-requires-clause-shown : goal.publish_vec-requires-clause-shown
+publish_vec-requires-clause-shown g c = shown-drive c.args.net.now c.args.tiles.now.items c.lend.new.tiles.items c.lend.ensures.len c.lend.ensures.does
 
-pub all_release-requires-clause-tiles : goal.all_release-requires-clause-tiles
-all_release-requires-clause-tiles g c κs within =
-    tiles-each c.args.net.now c.all_drive.new.tiles (tiles-drive c.args.net.now c.args.tiles.now c.all_drive.new.tiles (omega arith) c.all_drive.ensures c.requires.ready.tiles)
+pub lend-requires-clause-may : goal.lend-requires-clause-may
+lend-requires-clause-may g c i d l =
+    let stand = c.requires.ready.stand in
+    let clock = (stand.1.each i d l).clock in
+    let before = stand.2 in
+    (tiles-each c.args.net.now c.args.tiles.now.items c.requires.ready.tiles i d l, (c.requires.ready.idle i d l).arrived, omega arith)
 
-pub all_release-requires-clause-empty : goal.all_release-requires-clause-empty
-all_release-requires-clause-empty g c κs within = handed-drive c.args.net.now c.args.tiles.now c.all_drive.new.tiles (omega arith) c.all_drive.ensures c.requires.ready.idle
+pub lend-requires-2-clause-may : goal.lend-requires-2-clause-may
+lend-requires-2-clause-may g c i d l =
+    (tiles-each c.args.net.now c.lend.new.tiles.items (tiles-drive c.args.net.now c.args.tiles.now.items c.lend.new.tiles.items c.lend.ensures.len c.lend.ensures.does c.requires.ready.tiles) i d l, handed-drive c.args.net.now c.args.tiles.now.items c.lend.new.tiles.items c.lend.ensures.len c.lend.ensures.does c.requires.ready.idle i d l, ap length c.mouths.ensures ∙ c.publish_vec.ensures.wide ∙ c.requires.view)
 
-pub move_all-requires-clause-tiles : goal.move_all-requires-clause-tiles
-move_all-requires-clause-tiles g c = tiles-released c.args.net.now c.args.tiles.now c.all_drive.new.tiles (omega arith) c.all_drive.ensures c.requires.ready c.publish.new.view c.all_release.new.tiles (omega arith) c.publish.ensures.shows c.all_release.ensures
+pub move_vec-requires-clause-tiles : goal.move_vec-requires-clause-tiles
+move_vec-requires-clause-tiles g c = tiles-released c.args.net.now c.args.tiles.now.items c.lend.new.tiles.items c.lend.ensures.len c.lend.ensures.does c.requires.ready c.mouths.result.now c.lend-2.new.tiles.items c.lend-2.ensures.len (subst (λ (v : List Bool). (m : Traffic) → AllStand c.args.net.now c.lend.new.tiles.items m → Shows c.args.net.now v m) (sym c.mouths.ensures) c.publish_vec.ensures.shows) c.lend-2.ensures.does
 
-pub move_all-requires-clause-nobody : goal.move_all-requires-clause-nobody
-move_all-requires-clause-nobody g c = nobody-released c.args.net.now c.args.tiles.now c.all_drive.new.tiles (omega arith) c.all_drive.ensures c.requires.ready c.publish.new.view c.all_release.new.tiles (omega arith) c.publish.ensures.shows c.all_release.ensures
+pub move_vec-requires-clause-nobody : goal.move_vec-requires-clause-nobody
+move_vec-requires-clause-nobody g c = nobody-released c.args.net.now c.args.tiles.now.items c.lend.new.tiles.items c.lend.ensures.len c.lend.ensures.does c.requires.ready c.mouths.result.now c.lend-2.new.tiles.items c.lend-2.ensures.len (subst (λ (v : List Bool). (m : Traffic) → AllStand c.args.net.now c.lend.new.tiles.items m → Shows c.args.net.now v m) (sym c.mouths.ensures) c.publish_vec.ensures.shows) c.lend-2.ensures.does
 
-pub move_all-requires-clause-lanes : goal.move_all-requires-clause-lanes
-move_all-requires-clause-lanes g c = lanes-released c.args.net.now c.args.tiles.now c.all_drive.new.tiles (omega arith) c.all_drive.ensures c.requires.ready c.publish.new.view c.all_release.new.tiles (omega arith) c.publish.ensures.shows c.all_release.ensures
+pub move_vec-requires-clause-lanes : goal.move_vec-requires-clause-lanes
+move_vec-requires-clause-lanes g c = lanes-released c.args.net.now c.args.tiles.now.items c.lend.new.tiles.items c.lend.ensures.len c.lend.ensures.does c.requires.ready c.mouths.result.now c.lend-2.new.tiles.items c.lend-2.ensures.len (subst (λ (v : List Bool). (m : Traffic) → AllStand c.args.net.now c.lend.new.tiles.items m → Shows c.args.net.now v m) (sym c.mouths.ensures) c.publish_vec.ensures.shows) c.lend-2.ensures.does
 
-pub all_settle-requires-clause-tiles : goal.all_settle-requires-clause-tiles
-all_settle-requires-clause-tiles g c κs within =
-    tiles-each c.args.net.now c.move_all.new.tiles
-    (tiles-moved c.args.net.now c.args.tiles.now c.all_drive.new.tiles (omega arith) c.all_drive.ensures c.requires.ready c.publish.new.view c.all_release.new.tiles (omega arith) c.publish.ensures.shows c.all_release.ensures c.move_all.new.tiles (omega arith) c.move_all.ensures.moved)
-
-pub all_settle-requires-clause-prepared : goal.all_settle-requires-clause-prepared
-all_settle-requires-clause-prepared g c κs within = prepared-moved c.args.net.now c.args.tiles.now c.all_drive.new.tiles (omega arith) c.all_drive.ensures c.requires.ready c.publish.new.view c.all_release.new.tiles (omega arith) c.publish.ensures.shows c.all_release.ensures c.move_all.new.tiles (omega arith) c.move_all.ensures.moved
-
-pub all_settle-requires-clause-in_time : goal.all_settle-requires-clause-in_time
-all_settle-requires-clause-in_time g c κs within = in-time-moved c.args.net.now c.args.tiles.now c.all_drive.new.tiles (omega arith) c.all_drive.ensures c.requires.ready c.publish.new.view c.all_release.new.tiles (omega arith) c.publish.ensures.shows c.all_release.ensures c.move_all.new.tiles (omega arith) c.move_all.ensures.moved
+pub lend-requires-3-clause-may : goal.lend-requires-3-clause-may
+lend-requires-3-clause-may g c i d l =
+    (tiles-each c.args.net.now c.move_vec.new.tiles.items (tiles-moved c.args.net.now c.args.tiles.now.items c.lend.new.tiles.items c.lend.ensures.len c.lend.ensures.does c.requires.ready c.mouths.result.now c.lend-2.new.tiles.items c.lend-2.ensures.len (subst (λ (v : List Bool). (m : Traffic) → AllStand c.args.net.now c.lend.new.tiles.items m → Shows c.args.net.now v m) (sym c.mouths.ensures) c.publish_vec.ensures.shows) c.lend-2.ensures.does c.move_vec.new.tiles.items c.move_vec.ensures.len c.move_vec.ensures.moved) i d l, prepared-moved c.args.net.now c.args.tiles.now.items c.lend.new.tiles.items c.lend.ensures.len c.lend.ensures.does c.requires.ready c.mouths.result.now c.lend-2.new.tiles.items c.lend-2.ensures.len (subst (λ (v : List Bool). (m : Traffic) → AllStand c.args.net.now c.lend.new.tiles.items m → Shows c.args.net.now v m) (sym c.mouths.ensures) c.publish_vec.ensures.shows) c.lend-2.ensures.does c.move_vec.new.tiles.items c.move_vec.ensures.len c.move_vec.ensures.moved i d l, in-time-moved c.args.net.now c.args.tiles.now.items c.lend.new.tiles.items c.lend.ensures.len c.lend.ensures.does c.requires.ready c.mouths.result.now c.lend-2.new.tiles.items c.lend-2.ensures.len (subst (λ (v : List Bool). (m : Traffic) → AllStand c.args.net.now c.lend.new.tiles.items m → Shows c.args.net.now v m) (sym c.mouths.ensures) c.publish_vec.ensures.shows) c.lend-2.ensures.does c.move_vec.new.tiles.items c.move_vec.ensures.len c.move_vec.ensures.moved i d l)
 
 pub returns-clause-steps : goal.returns-clause-steps
-returns-clause-steps g c = lent-step c.args.net.now c.args.tiles.now c.all_drive.new.tiles (omega arith) c.all_drive.ensures c.requires.ready c.publish.new.view c.all_release.new.tiles (omega arith) c.publish.ensures.shows c.all_release.ensures c.move_all.new.tiles (omega arith) c.move_all.ensures.moved c.all_settle.new.tiles (omega arith) c.all_settle.ensures
+returns-clause-steps g c = lent-step c.args.net.now c.args.tiles.now.items c.lend.new.tiles.items c.lend.ensures.len c.lend.ensures.does c.requires.ready c.mouths.result.now c.lend-2.new.tiles.items c.lend-2.ensures.len (subst (λ (v : List Bool). (m : Traffic) → AllStand c.args.net.now c.lend.new.tiles.items m → Shows c.args.net.now v m) (sym c.mouths.ensures) c.publish_vec.ensures.shows) c.lend-2.ensures.does c.move_vec.new.tiles.items c.move_vec.ensures.len c.move_vec.ensures.moved c.lend-3.new.tiles.items c.lend-3.ensures.len c.lend-3.ensures.does

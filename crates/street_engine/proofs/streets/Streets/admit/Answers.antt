@@ -3,7 +3,8 @@ use Rattle.std.proofs.lemmas.List.{get_or_default}
 use Rattle.street_base.specs.declared.reply.End.{End}
 use Rattle.street_base.specs.Prelude.{Traffic, plan_links, entered}
 use Rattle.street_engine.specs.Prelude.{IsTrafficOf, streets_of}
-use Rattle.street_engine.proofs.StreetsStandFor.{kept-still, goes-still, admitted-stands, kept-goes, goes-with, always-err}
+use Rattle.street_tile.proofs.Together.{always-err}
+use Rattle.street_engine.proofs.StreetsStandFor.{kept-still, goes-still, admitted-stands, kept-goes, goes-with}
 use Rattle.street_engine.proofs.streets.Streets.admit.Goals as goal
 
 pub invariant_of-self-in_err-admit : goal.invariant_of-self-in_err-admit

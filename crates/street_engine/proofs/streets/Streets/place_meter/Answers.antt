@@ -2,7 +2,8 @@ use Rattle.std.proofs.Common.{[], ◌∷◌, ◌++◌, List, refl, ◌∙◌, ap
 use Rattle.street_base.specs.Prelude.{Traffic, metered}
 use Rattle.street_engine.specs.declared.sites.DetectorSite.{DetectorSite}
 use Rattle.street_engine.specs.Prelude.{IsTrafficOf, streets_of}
-use Rattle.street_engine.proofs.StreetsStandFor.{kept-still, goes-still, metered-stands, kept-goes, goes-with, always-err}
+use Rattle.street_tile.proofs.Together.{always-err}
+use Rattle.street_engine.proofs.StreetsStandFor.{kept-still, goes-still, metered-stands, kept-goes, goes-with}
 use Rattle.street_engine.proofs.streets.Streets.place_meter.Goals as goal
 
 pub place_meter-requires-clause-stand : goal.place_meter-requires-clause-stand

@@ -1,6 +1,7 @@
 use Rattle.std.proofs.Common.{refl}
 use Rattle.street_base.specs.Prelude.{step}
-use Rattle.street_engine.proofs.StreetsStandFor.{kept-still, goes-still, prepared, may-step, step-coming, step-kept, step-stands, goes-with, always-err}
+use Rattle.street_tile.proofs.Together.{always-err}
+use Rattle.street_engine.proofs.StreetsStandFor.{kept-still, goes-still, prepared, may-step, step-coming, step-kept, step-stands, goes-with}
 use Rattle.street_engine.proofs.streets.Streets.step.Goals as goal
 
 pub invariant_of-self : goal.invariant_of-self
@@ -10,10 +11,10 @@ pub returns-in_err-prepare-clause-starved : goal.returns-in_err-prepare-clause-s
 returns-in_err-prepare-clause-starved g c = always-err _ c.from_residual.result (goes-still refl refl c.self.view_is c.prepare.ensures.kept)
 
 pub step-requires-clause-nobody : goal.step-requires-clause-nobody
-step-requires-clause-nobody g c κs within = (prepared c.self.invariant c.prepare.ensures.kept).nobody
+step-requires-clause-nobody g c = (prepared c.self.invariant c.prepare.ensures.kept).nobody
 
 pub step-requires-clause-stand : goal.step-requires-clause-stand
-step-requires-clause-stand g c κs within = may-step c.self.invariant c.prepare.ensures.kept c.self.view_is c.requires.in_time
+step-requires-clause-stand g c = may-step c.self.invariant c.prepare.ensures.kept c.self.view_is c.requires.in_time
 
 pub note_arrivals-requires : goal.note_arrivals-requires
 note_arrivals-requires g c =

@@ -1,17 +1,16 @@
-use Rattle.std.proofs.Common.{◌≡◌, ◌+◌, sym, ◌∙◌, arith}
-use Rattle.street_engine.proofs.RanSteps.{go-refused, go-made}
-use Rattle.street_engine.proofs.StreetsStandFor.{unless-err}
+use Rattle.std.proofs.Common.{arith}
+use Rattle.street_engine.proofs.RanSteps.{go-then}
 use Rattle.street_engine.proofs.streets.Streets.steps.Goals as goal
 
-pub returns-then-is_err-clause-steps : goal.returns-then-is_err-clause-steps
-returns-then-is_err-clause-steps g c = go-refused c.loop-done.done _ c.loop-done.self c.step.new.self c.step.result c.loop-done.invariant.stands (sym c.is_err.ensures.value ∙ c.if-is_err.true) c.step.ensures.starved
+pub returns-then-over-clause-steps : goal.returns-then-over-clause-steps
+returns-then-over-clause-steps g c = go-then c.loop.done c.make_some-left.result.1 c.args.self c.loop.streets c.make_some-left.result.0 c.loop.invariant.stands c.make_some-left.ensures.steps
 
-pub loop-done-preserved : goal.loop-done-preserved
-loop-done-preserved g c =
-    let ok = sym c.is_err.ensures.value ∙ c.if-is_err.false in
-    let clock = unless-err (c.step.new.self.clock ≡ c.loop-done.self.clock + 1) c.step.result ok c.step.ensures.clock in
+pub loop-preserved : goal.loop-preserved
+loop-preserved g c =
+    let left = c.make_some-left.ensures in
+    let before = c.loop.invariant in
     record {
-      stands = go-made c.loop-done.done _ c.loop-done.self c.step.new.self c.step.result c.loop-done.invariant.stands ok c.step.ensures.step;
-      in_time = (let before = c.loop-done.invariant.in_time in omega (arith, clock, before));
-      some = c.threads_of_step-threads.ensures;
+      most = (let a = left.most in let b = before.most in let e = c.min-some.ensures in omega (arith, a, b, e));
+      clock = (let a = left.clock in let b = before.clock in omega (arith, a, b));
+      stands = go-then c.loop.done c.make_some-left.result.1 c.args.self c.loop.streets c.make_some-left.result.0 before.stands left.steps;
     }

@@ -5,7 +5,7 @@ use Rattle.street_base.specs.Prelude.{is_place}
 use Rattle.street_base.proofs.PlaceLemmas.{places-listed}
 use Rattle.street_base.proofs.PlaceOnceLemmas.{places-once}
 use Rattle.street_tile.specs.Inside.{seen}
-use Rattle.street_tile.specs.Prelude.{Part, is_own}
+use Rattle.street_tile.specs.Prelude.{TileView, is_own}
 use Rattle.street_tile.proofs.Phases.{tile-lanes}
 use Rattle.street_tile.proofs.Sums.{all-own}
 use Rattle.street_tile.proofs.MovedHandOvers.{own-listed}
@@ -19,7 +19,7 @@ copy_lanes-requires-clause-there c = tile-lanes c.args.net.now (seen c.self.insi
 pub returns-then-has_all_nodes-clause-rest : goal.returns-then-has_all_nodes-clause-rest
 returns-then-has_all_nodes-clause-rest c = λ p there away.
     let net = c.args.net.now in
-    let x : Part = c.args.self.now in
+    let x : TileView = c.args.self.now in
     let tile = c.requires.tile in
     let all = c.has_all_nodes.ensures.0 c.if-has_all_nodes.true in
     let own : is_own net x.low x.high p ≡ true = rw (all.0, all.1) (all-own net tile.roads p there) in

@@ -6,7 +6,7 @@ use Rattle.street_base.specs.declared.net.NetSpec.{NetSpec}
 use Rattle.street_base.specs.Prelude.{no_lane, lane_at}
 use Rattle.street_lanes.specs.Prelude.{Lanes, lane_of, Detectors}
 use Rattle.street_tile.specs.Inside.{seen}
-use Rattle.street_tile.specs.Prelude.{Part, IsTileOf, AreNumbers, AreBare, AreDue, HaveNoted, detectors_at, noted_by, MeterPhase, ticked}
+use Rattle.street_tile.specs.Prelude.{TileView, IsTileOf, AreNumbers, AreBare, AreDue, HaveNoted, detectors_at, noted_by, MeterPhase, ticked}
 use Rattle.street_tile.proofs.SameLanes.{same-none, even-of}
 use Rattle.street_tile.proofs.SameTile.{tile-seen, at-view}
 use Rattle.street_tile.proofs.MetersStand.{detectors-even, noted-sizes, noted-bare, noted-due, lane-noted}
@@ -21,11 +21,11 @@ note_lanes-requires-clause-even c =
 pub note_lanes-requires-clause-in_time : goal.note_lanes-requires-clause-in_time
 note_lanes-requires-clause-in_time c =
     let s = c.self.inside in
-    let clock : s.clock ≡ c.args.self.now.clock = ap (λ (t : Part). t.clock) c.self.view_is in
+    let clock : s.clock ≡ c.args.self.now.clock = ap (λ (t : TileView). t.clock) c.self.view_is in
     (s.clock, (let h = c.requires.in_time in omega arith), subst (AreDue s.clock) (sym c.deref_mut.ensures.value) c.self.invariant.noted.due)
 
 -- the detectors of a tile note the step, and its clock goes on
-ticks-of : (net : NetSpec) (x : Part) (detectors : List Detectors) → IsTileOf net x → HaveNoted x.own x.detectors detectors → MeterPhase net x (record x { clock = x.clock + 1; detectors = detectors })
+ticks-of : (net : NetSpec) (x : TileView) (detectors : List Detectors) → IsTileOf net x → HaveNoted x.own x.detectors detectors → MeterPhase net x (record x { clock = x.clock + 1; detectors = detectors })
 unfolding ticked noted_by
 ticks-of net x detectors tile noted = record {
   arrived = refl;
@@ -47,7 +47,7 @@ ticks-of net x detectors tile noted = record {
 pub returns : goal.returns
 returns c =
     let s = c.self.inside in
-    let x : Part = seen s in
+    let x : TileView = seen s in
     let tile = tile-seen c.self.view_is c.requires.tile in
     let items : (with_items s.detectors c.note_lanes.new.detectors).items ≡ c.note_lanes.new.detectors = with_items_is s.detectors c.note_lanes.new.detectors (let e = c.note_lanes.auto.detectors in let f = c.deref_mut.ensures.len in let ok = s.detectors.ok in omega arith) in
     let noted = subst (λ gs. HaveNoted s.own gs c.note_lanes.new.detectors) c.deref_mut.ensures.value c.note_lanes.ensures in

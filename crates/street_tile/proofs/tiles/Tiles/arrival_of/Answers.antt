@@ -1,6 +1,6 @@
 use Rattle.std.proofs.Common.{◌≡◌, [], get_or, refl, sym, ap, ◌∙◌, subst}
 use Rattle.std.proofs.lemmas.List.{get_or_default}
-use Rattle.street_tile.specs.Prelude.{Part, TilesView}
+use Rattle.street_tile.specs.Prelude.{TileView, TilesView}
 use Rattle.street_tile.proofs.NextArrival.{popped-of, popped-none}
 use Rattle.street_tile.proofs.Together.{tile-at, kept-arrivals}
 use Rattle.street_tile.proofs.tiles.Tiles.arrival_of.Goals as goal
@@ -18,4 +18,4 @@ pub returns-clause-none : goal.returns-clause-none
 returns-clause-none c = λ none d.
     let t = tile-at c.self.view_is c.requires refl c.index_mut.ensures.value in
     subst (λ (v : TilesView). (get_or v.tiles c.args.i d).arrived ≡ []) c.self.view_is
-    (ap (λ (u : Part). u.arrived) (get_or_default c.self.inside.tiles.items c.args.i d c.index_mut.result.now t.within ∙ sym t.is) ∙ c.next_arrival.ensures.none none)
+    (ap (λ (u : TileView). u.arrived) (get_or_default c.self.inside.tiles.items c.args.i d c.index_mut.result.now t.within ∙ sym t.is) ∙ c.next_arrival.ensures.none none)

@@ -2,13 +2,13 @@ use Rattle.std.proofs.Common.{◌≡◌, ℕ, ◌+◌, ◌<◌, ◌≤◌, List,
 use Rattle.street_base.specs.declared.net.NetSpec.{NetSpec}
 use Rattle.street_base.specs.Prelude.{most_vehicles, over_all, Traffic, LaneState}
 use Rattle.street_base.proofs.CountLemmas.{adds-up}
-use Rattle.street_tile.specs.Prelude.{over, all_places, Part, StandsFor, AreTiles, TilesView, TilesStandFor, tiles_of}
+use Rattle.street_tile.specs.Prelude.{over, all_places, TileView, StandsFor, AreTiles, TilesView, TilesStandFor, tiles_of}
 use Rattle.street_tile.proofs.LaneCounts.{count-more, count-few, count-all}
 use Rattle.street_tile.proofs.Together.{stands-seen}
 use Rattle.street_tile.proofs.tiles.Tiles.totals.Goals as goal
 
 -- what was added up over the first tiles, by the traffic that all stand for
-module _ (net : NetSpec) (xs : List Part) (v : TilesView) (seen : tiles_of net xs ≡ v) (tiles : AreTiles net xs) (i : ℕ) (f : LaneState → ℕ) (sum : ℕ)
+module _ (net : NetSpec) (xs : List TileView) (v : TilesView) (seen : tiles_of net xs ≡ v) (tiles : AreTiles net xs) (i : ℕ) (f : LaneState → ℕ) (sum : ℕ)
     (so_far : (m : Traffic) → TilesStandFor v m → sum ≡ over (all_places (take i v.tiles)) f m) where
   first : (m : Traffic) → TilesStandFor v m → sum ≡ over (all_places (take i xs)) f m
   first m s = subst (λ (u : TilesView). sum ≡ over (all_places (take i u.tiles)) f m) (sym seen) (so_far m s)
@@ -16,9 +16,9 @@ module _ (net : NetSpec) (xs : List Part) (v : TilesView) (seen : tiles_of net x
   all : length xs ≤ i → (m : Traffic) → TilesStandFor v m → sum ≡ over_all f m
   all h m s = first m s ∙ count-all net xs tiles m f (stands-seen net xs v m seen s).lanes i h
 
-  module _ (x : Part) (h : i < length xs) (is : x ≡ get_or xs i x) (own : ℕ) (one : (m : Traffic) → StandsFor x m → own ≡ over x.own.places f m) where
+  module _ (x : TileView) (h : i < length xs) (is : x ≡ get_or xs i x) (own : ℕ) (one : (m : Traffic) → StandsFor x m → own ≡ over x.own.places f m) where
     this : (m : Traffic) → TilesStandFor v m → own ≡ over x.own.places f m
-    this m s = one m (subst (λ (t : Part). StandsFor t m) (sym is) ((stands-seen net xs v m seen s).lanes.each i x h))
+    this m s = one m (subst (λ (t : TileView). StandsFor t m) (sym is) ((stands-seen net xs v m seen s).lanes.each i x h))
 
     more : (m : Traffic) → TilesStandFor v m → sum + own ≡ over (all_places (take (i + 1) v.tiles)) f m
     more m s = subst (λ (u : TilesView). sum + own ≡ over (all_places (take (i + 1) u.tiles)) f m) seen (count-more net xs tiles m f i x sum own h is (first m s) (this m s))

@@ -1,0 +1,139 @@
+-- Lines that are served by a session that is kept, and what is kept of them.
+-- Source: this profile.
+use Rattle.std.specs.Prelude.{◌≡◌, ℕ, ◌<◌, ◌≤◌, ◌⊎◌, List, [], ◌∷◌, ◌++◌, length, take, Bool, true, false, if◌then◌else◌, Option, Some}
+use Rattle.std.specs.Io.KnownBytes.{Appends, Consumes, IsAtEnd}
+use Rattle.street_base.specs.declared.command.Command.{Command}
+use Rattle.street_base.specs.declared.reply.Reply.{Reply}
+use Rattle.street_base.specs.declared.reply.Reply.TheVariants.{Loaded, Signalled, Entered, Clock, Short, Closed, Taken, Placed}
+use Rattle.street_stream.specs.Faults.{IsCaused, IsCausedByWriting}
+use Rattle.street_stream.specs.HandledLines.{Effect, Gives}
+use Rattle.street_stream.specs.declared.answer.Answer.{Answer}
+use Rattle.street_stream.specs.Lines.{lines_of}
+use Rattle.street_stream.specs.Logs.{Extends}
+use Rattle.street_stream.specs.declared.counted.Counted.{Counted}
+use Rattle.street_stream.specs.declared.log.KeepFault.{KeepFault}
+use Rattle.street_stream.specs.declared.log.KeepFault.TheVariants as keep
+use Rattle.street_stream.specs.declared.tally.FaultKind.TheVariants.{Write}
+use Rattle.street_line.specs.declared.kept_runs.KeptFault.{KeptFault}
+use Rattle.street_line.specs.declared.kept_runs.KeptFault.TheVariants.{Run, Log}
+use Rattle.street_line.specs.declared.service.Served.{Served}
+use Rattle.street_line.specs.declared.service.Served.TheVariants.{Answered, Full}
+use Rattle.street_line.specs.Runs.{Said, silent, faulty, calls, said, served_line}
+use Rattle.street_line.specs.ServedLine.{effect_of}
+use Rattle.street_text.specs.FaultLines.{fault_line}
+
+-- ---- one line
+
+-- the command was done, and changed something
+abbrev pub is_change : Reply → Bool
+is_change (Loaded links nodes turns) = true
+is_change (Signalled cycle) = true
+is_change (Entered car) = true
+is_change (Clock clock) = true
+is_change (Closed closed) = true
+is_change (Taken taken) = true
+is_change (Placed meter) = true
+is_change reply = false
+
+-- an advance stopped before its last step
+abbrev pub is_short : Reply → Bool
+is_short (Short clock short) = true
+is_short reply = false
+
+-- of a line whose command changed something the line is kept, as it came, and of any other nothing
+abbrev pub entry_of : Bool → List ℕ → List ℕ
+entry_of true line = line ++ 10 ∷ []
+entry_of false line = []
+
+-- what is kept of a line that was served so; an advance that stopped short is not answered, and nothing is kept of it
+abbrev pub IsEntry : List ℕ → Served → List ℕ → Type 0
+IsEntry line (Answered reply) entry = (is_short reply ≡ false) × (entry ≡ entry_of (is_change reply) line)
+IsEntry line Full entry = entry ≡ []
+
+-- it is noted behind what was
+abbrev pub IsNoted : List ℕ → Served → List ℕ → List ℕ → Type 0
+IsNoted line served old new = (entry : List ℕ) × IsEntry line served entry × (new ≡ old ++ entry)
+
+module _ {S : Type 0} (serves : S → Command → Served → S → Type 0) where
+  -- what a line gives, and what is kept of it
+  abbrev pub KeepsSaid : S → Said → List ℕ → List ℕ → List ℕ → S → Type 0
+  KeepsSaid old silent line out entry new = (new ≡ old) × (out ≡ []) × (entry ≡ [])
+  KeepsSaid old (faulty f) line out entry new = (new ≡ old) × (fault_line f ≡ Some out) × (entry ≡ [])
+  KeepsSaid old (calls c) line out entry new = (r : Served) × serves old c r new × (out ≡ served_line r) × IsEntry line r entry
+
+  -- so as a handler of lines sees it
+  abbrev pub KeepsLine : S × List ℕ → List ℕ → Effect → S × List ℕ → Type 0
+  KeepsLine old line effect new = (out : List ℕ) × (entry : List ℕ) × KeepsSaid old.0 (said line) line out entry new.0
+      × (effect ≡ effect_of (said line) out) × (new.1 ≡ old.1 ++ entry)
+
+  abbrev pub AnswersKept : S × List ℕ → Said → List ℕ → Answer → S × List ℕ → Type 0
+  AnswersKept old what line answer new = (out : List ℕ) × (entry : List ℕ) × KeepsSaid old.0 what line out entry new.0
+      × Gives answer (effect_of what out) × (new.1 ≡ old.1 ++ entry)
+
+  -- ---- lines
+
+  -- the lines, one after another
+  abbrev pub GoesKept : S → List (List ℕ) → List ℕ → List ℕ → S → Type 0
+  GoesKept old [] out kept new = (new ≡ old) × (out ≡ []) × (kept ≡ [])
+  GoesKept old (l ∷ ls) out kept new =
+      (mid : S) × (first : List ℕ) × (entry : List ℕ) × (rest : List ℕ) × (more : List ℕ) × KeepsSaid old (said l) l first entry mid
+      × GoesKept mid ls rest more new × (out ≡ first ++ rest) × (kept ≡ entry ++ more)
+
+  -- these lines were served, their output is written, and what is kept of them is held and stays
+  pub record Passed (old : S) (log before : Option (List ℕ)) (ls : List (List ℕ)) (new : S) (held synced after : Option (List ℕ)) : Type 0 where
+    pub out : List ℕ
+    pub kept : List ℕ
+    pub served : GoesKept old ls out kept new
+    pub written : Appends before after out
+    pub holds : Appends log held kept
+    pub stays : synced ≡ held
+
+  -- a fault ended that: nothing more is written; or of their output the first bytes, and what is kept of the lines is held and stays
+  abbrev pub PassStops : S → Option (List ℕ) → Option (List ℕ) → Option (List ℕ) → List (List ℕ) → Option (List ℕ) → Option (List ℕ) → Option (List ℕ) → Type 0
+  PassStops old log stayed before ls held synced after =
+      ((after ≡ before) × Extends log held × Extends stayed synced)
+      ⊎ ((out : List ℕ) × (kept : List ℕ) × (new : S) × GoesKept old ls out kept new × ((sent : ℕ) × (sent ≤ length out) × Appends before after (take sent out))
+      × Appends log held kept × (synced ≡ held))
+
+  -- ---- whole runs
+
+  -- all lines of a text that was read to its end were served
+  pub record KeptWhole (start : S) (unread log before : Option (List ℕ)) (now : S) (left held synced after : Option (List ℕ)) : Type 0 where
+    pub text : List ℕ
+    pub read : Consumes unread left text
+    pub at_end : IsAtEnd left
+    pub passed : Passed start log before (lines_of text) now held synced after
+
+  -- a fault ended the run: only of the output of the first lines the first bytes are written, and all that is kept of these lines is held, and stays
+  pub record KeptFirst (start : S) (unread log before : Option (List ℕ)) (left held synced after : Option (List ℕ)) : Type 0 where
+    pub text : List ℕ
+    pub done : List (List ℕ)
+    pub rest : List (List ℕ)
+    pub out : List ℕ
+    pub kept : List ℕ
+    pub mid : S
+    pub sent : ℕ
+    pub read : Consumes unread left text
+    pub first_lines : lines_of text ≡ done ++ rest
+    pub served : GoesKept start done out kept mid
+    pub within : sent ≤ length out
+    pub written : Appends before after (take sent out)
+    pub holds : (more : List ℕ) × Appends log held (kept ++ more)
+    pub stays : (more : List ℕ) × Appends log synced (kept ++ more)
+
+-- ---- faults
+
+-- where the log or the writer failed
+abbrev pub fault_of : KeepFault → KeptFault
+fault_of keep.Log = Log
+fault_of keep.Output = Run Write
+
+-- where nothing is read
+abbrev pub IsPassCaused : {L W : Type 0} → (L → Type 0) → KeptFault → L → Counted W → Type 0
+IsPassCaused has_failed (Run kind) log writer = IsCausedByWriting kind writer
+IsPassCaused has_failed Log log writer = has_failed log
+
+-- each fault comes only where its cause was counted
+abbrev pub IsKeptCaused : {R L W : Type 0} → (L → Type 0) → KeptFault → Counted R → L → Counted W → ℕ → Type 0
+IsKeptCaused has_failed (Run kind) reader log writer reads = IsCaused kind reader writer reads
+IsKeptCaused has_failed Log reader log writer reads = has_failed log

@@ -1,0 +1,224 @@
+//! Lines that are served, and what is kept of them.
+//!
+//! Source: this profile. A line whose command changed something is kept as it came.
+ghost use Rattle.std.specs.Prelude.{◌≡◌, ◌<◌, ◌^◌, ◌++◌, [], List, ℕ, IfOk, OnOk, Some, length, true};
+ghost use Rattle.street_stream.specs.HandledLines.{GivesText};
+ghost use Rattle.street_stream.specs.Lines.{cut, if_any};
+ghost use Rattle.street_stream.specs.OpenTexts.{IsOpen};
+ghost use Rattle.street_text.specs.LineCommands.{longest_line, reading};
+ghost use Rattle.street_line.specs.Kept.{AnswersKept, GoesKept, IsNoted, is_change, is_short};
+ghost use Rattle.street_line.specs.Runs.{said_by, served_line};
+
+use crate::answers::served_text;
+use crate::service::{Served, Service};
+use std::alloc::Global;
+use street_base::{Reply, Starved};
+use street_stream::{Answer, Counted, LineHandler, OpenText, PartialLine};
+use street_text::{LineReader, fault_text};
+
+/// What is to go out of lines that were served.
+#[derive(Drop)]
+pub(crate) struct Owed {
+    /// What is kept of them.
+    pub(crate) entries: Vec<u8>,
+    /// Their replies.
+    pub(crate) replies: Vec<u8>,
+}
+
+/// A service as a handler of lines, which notes what is kept of them.
+#[derive(Drop)]
+struct KeptServer<'a, S> {
+    service: &'a mut S,
+    reader: &'a mut LineReader,
+    entries: &'a mut Vec<u8>,
+}
+
+/// Whether a command was done, and changed something.
+fn is_change(reply: &Reply) -> bool
+    ensures { result ≡ is_change reply.now }
+{
+    match reply {
+        Reply::Loaded { .. }
+        | Reply::Signalled { .. }
+        | Reply::Entered { .. }
+        | Reply::Clock { .. }
+        | Reply::Closed { .. }
+        | Reply::Taken { .. }
+        | Reply::Placed { .. } => true,
+        _ => false,
+    }
+}
+
+/// Whether an advance stopped before its last step.
+fn is_short(reply: &Reply) -> bool
+    ensures { result ≡ is_short reply.now }
+{
+    match reply {
+        Reply::Short { .. } => true,
+        _ => false,
+    }
+}
+
+/// Notes what is kept of a line that was served so.
+///
+/// # Errors
+///
+/// Memory ran out to note it, or for the last steps of an advance.
+fn note(entries: &mut Vec<u8>, line: &[u8], served: &Served) -> Result<(), Starved>
+    ensures { OnOk result (IsNoted line.now served.now entries.old.items entries.new.items) }
+{
+    let Served::Answered(reply) = served else {
+        return Ok(());
+    };
+    if is_short(reply) {
+        return Err(Starved);
+    }
+    if is_change(reply) {
+        entries.extend_from_slice(line)?;
+        entries.push(b'\n')?;
+    }
+    Ok(())
+}
+
+/// What is answered to a command that was served so.
+fn replied(alloc: Global, served: Served) -> Answer
+    ensures call { result.is_call ≡ true }
+    ensures text { GivesText result.reply (Some (served_line served)) }
+{
+    match served_text(alloc, served) {
+        Ok(text) => Answer {
+            is_call: true,
+            reply: Ok(Some(text)),
+        },
+        Err(starved) => Answer {
+            is_call: true,
+            reply: Err(starved),
+        },
+    }
+}
+
+/// What is answered to a line that is not blank, of which is noted what is kept.
+fn answer<S: Service>(
+    alloc: Global,
+    reader: &mut LineReader,
+    service: &mut S,
+    entries: &mut Vec<u8>,
+    line: &[u8],
+) -> Result<Answer, Starved>
+    requires ready { S.ready }
+    ensures { IfOk result (λ answer. AnswersKept S.serves (service.old, entries.old.items) (said_by (reading line.now)) line.now answer
+        (service.new, entries.new.items)) }
+{
+    let command = match reader.read(alloc, line) {
+        Ok(command) => command,
+        Err(fault) => {
+            let text = fault_text(alloc, fault)?;
+            return Ok(Answer {
+                is_call: false,
+                reply: Ok(Some(text)),
+            });
+        }
+    };
+    let served = service.serve(command);
+    note(entries, line, &served)?;
+    Ok(replied(alloc, served))
+}
+
+impl<'a, S: Service> LineHandler for KeptServer<'a, S> {
+    ghost use Rattle.std.specs.Prelude.{◌≡◌};
+    ghost use Rattle.street_line.specs.Kept.{KeepsLine};
+    ghost use Rattle.street_text.specs.LineCommands.{longest_line};
+
+    type Stop = Starved;
+
+    ghost meaning = { record {
+      longest = longest_line;
+      takes = λ old line effect new. (new.service.ghost_name ≡ old.service.ghost_name)
+          × ((new.entries.ghost_name ≡ old.entries.ghost_name)
+          × KeepsLine S.serves (old.service.now, old.entries.now.items) line effect (new.service.now, new.entries.now.items));
+      stops = λ old line stop new. new.service.ghost_name ≡ old.service.ghost_name;
+    } };
+
+    ghost ready = { S.ready };
+
+    fn take(&mut self, alloc: Global, line: &PartialLine) -> Result<Answer, Starved> {
+        if line.is_blank() {
+            return Ok(Answer {
+                is_call: false,
+                reply: Ok(None),
+            });
+        }
+        answer(
+            alloc,
+            self.reader,
+            self.service,
+            self.entries,
+            line.as_slice(),
+        )
+    }
+}
+
+/// Serves the lines that end in the next bytes of a text.
+///
+/// # Errors
+///
+/// Memory ran out: what was served then is not to be answered.
+pub(crate) fn serve_more<S: Service>(
+    alloc: Global,
+    service: &mut S,
+    reader: &mut LineReader,
+    text: &mut OpenText,
+    bytes: &[u8],
+) -> Result<Owed, Starved>
+    requires ready { S.ready }
+    requires few { length bytes.now < 2 ^ 62 }
+    ensures served { (line : List ℕ) → IsOpen longest_line text.old line → IfOk result (λ owed.
+        GoesKept S.serves service.old (cut (line ++ bytes.now)).0 owed.replies.items owed.entries.items service.new) }
+    ensures open { (line : List ℕ) → IsOpen longest_line text.old line → IfOk result (λ owed. IsOpen longest_line text.new (cut (line ++ bytes.now)).1) }
+{
+    let mut writer = Counted::new(Vec::new(alloc));
+    let mut entries = Vec::new(alloc);
+    let mut server = KeptServer {
+        service,
+        reader,
+        entries: &mut entries,
+    };
+    match text.feed(alloc, &mut server, &mut writer, bytes) {
+        Ok(_tally) => Ok(Owed {
+            entries,
+            replies: writer.into_inner(),
+        }),
+        Err(_halt) => Err(Starved),
+    }
+}
+
+/// Serves the last line of a text that has ended, where it has no LF.
+///
+/// # Errors
+///
+/// Those of [`serve_more`].
+pub(crate) fn serve_last<S: Service>(
+    alloc: Global,
+    service: &mut S,
+    reader: &mut LineReader,
+    text: OpenText,
+) -> Result<Owed, Starved>
+    requires { S.ready }
+    ensures { (line : List ℕ) → IsOpen longest_line text line → IfOk result (λ owed.
+        GoesKept S.serves service.old (if_any line) owed.replies.items owed.entries.items service.new) }
+{
+    let mut writer = Counted::new(Vec::new(alloc));
+    let mut entries = Vec::new(alloc);
+    let mut server = KeptServer {
+        service,
+        reader,
+        entries: &mut entries,
+    };
+    match text.finish(alloc, &mut server, &mut writer) {
+        Ok(_tally) => Ok(Owed {
+            entries,
+            replies: writer.into_inner(),
+        }),
+        Err(_halt) => Err(Starved),
+    }
+}

@@ -1,0 +1,160 @@
+//! A text of lines, served by a session that is kept.
+//!
+//! Source: this profile. What is kept of the lines of a read is in the log, and stays there, before any reply to them goes out.
+ghost use Rattle.std.specs.Prelude.{◌≡◌, ◌<◌, ◌≤◌, ◌^◌, ◌++◌, List, ℕ, OnOk, IfErr, length};
+ghost use Rattle.street_stream.specs.Lines.{cut, if_any};
+ghost use Rattle.street_stream.specs.OpenTexts.{IsOpen};
+ghost use Rattle.street_stream.specs.Streams.{IsFlushed, IsFresh, IsPrompt};
+ghost use Rattle.street_text.specs.LineCommands.{longest_line};
+ghost use Rattle.street_line.specs.Kept.{IsKeptCaused, IsPassCaused, KeptFirst, KeptWhole, PassStops, Passed, fault_of};
+
+use crate::kept::{serve_last, serve_more};
+use crate::service::Service;
+use std::alloc::Global;
+use std::io::{Read, Write};
+use street_stream::{Counted, FaultKind, KeepFault, Log, MOST_READS, OpenText, keep_first};
+use street_text::{LONGEST_LINE, LineReader};
+
+/// Why a session that is kept ended before its text did.
+#[derive(Debug, Clone, Copy, PartialEq, Eq)]
+pub enum KeptFault {
+    /// A read or a write failed, memory ran out, or the reads ran out.
+    Run(FaultKind),
+    /// The log failed.
+    Log,
+}
+
+/// Where the log or the writer failed.
+fn fault_of(fault: KeepFault) -> KeptFault
+    ensures { result ≡ fault_of fault }
+{
+    match fault {
+        KeepFault::Log => KeptFault::Log,
+        KeepFault::Output => KeptFault::Run(FaultKind::Write),
+    }
+}
+
+/// Serves the lines that end in the next bytes of a text: what is kept of them is in the log, and stays, before their replies go
+/// out.
+///
+/// # Errors
+///
+/// `Run` with `Starved` where memory ran out: nothing went out. `Log` where the log failed: no reply went out. `Run` with `Write`
+/// where the writer failed: the log holds what is kept.
+fn pass_more<S: Service, L: Log, W: Write>(
+    alloc: Global,
+    service: &mut S,
+    lines: &mut LineReader,
+    text: &mut OpenText,
+    log: &mut L,
+    writer: &mut Counted<W>,
+    bytes: &[u8],
+) -> Result<(), KeptFault>
+    requires ready { S.ready }
+    requires few { length bytes.now < 2 ^ 62 }
+    requires synced { L.synced log.old ≡ L.held log.old }
+    ensures passed { (line : List ℕ) → IsOpen longest_line text.old line → OnOk result (Passed S.serves service.old (L.held log.old)
+        (W.contents writer.old.stream) (cut (line ++ bytes.now)).0 service.new (L.held log.new) (L.synced log.new) (W.contents writer.new.stream)) }
+    ensures open { (line : List ℕ) → IsOpen longest_line text.old line → OnOk result (IsOpen longest_line text.new (cut (line ++ bytes.now)).1) }
+    ensures stops { (line : List ℕ) → IsOpen longest_line text.old line → IfErr result (λ fault. PassStops S.serves service.old (L.held log.old)
+        (L.synced log.old) (W.contents writer.old.stream) (cut (line ++ bytes.now)).0 (L.held log.new) (L.synced log.new) (W.contents writer.new.stream)) }
+    ensures flushed { OnOk result (IsFlushed writer.new) }
+    ensures caused { IfErr result (λ fault. IsPassCaused L.has_failed fault log.new writer.new) }
+{
+    let owed = match serve_more(alloc, service, lines, text, bytes) {
+        Ok(owed) => owed,
+        Err(_starved) => return Err(KeptFault::Run(FaultKind::Starved)),
+    };
+    match keep_first(
+        log,
+        writer,
+        owed.entries.as_slice(),
+        owed.replies.as_slice(),
+    ) {
+        Ok(()) => Ok(()),
+        Err(fault) => Err(fault_of(fault)),
+    }
+}
+
+/// Serves the last line of a text that has ended, where it has no LF, as [`pass_more`] does.
+///
+/// # Errors
+///
+/// Those of [`pass_more`].
+fn pass_last<S: Service, L: Log, W: Write>(
+    alloc: Global,
+    service: &mut S,
+    lines: &mut LineReader,
+    text: OpenText,
+    log: &mut L,
+    writer: &mut Counted<W>,
+) -> Result<(), KeptFault>
+    requires ready { S.ready }
+    requires synced { L.synced log.old ≡ L.held log.old }
+    ensures passed { (line : List ℕ) → IsOpen longest_line text line → OnOk result (Passed S.serves service.old (L.held log.old)
+        (W.contents writer.old.stream) (if_any line) service.new (L.held log.new) (L.synced log.new) (W.contents writer.new.stream)) }
+    ensures stops { (line : List ℕ) → IsOpen longest_line text line → IfErr result (λ fault. PassStops S.serves service.old (L.held log.old)
+        (L.synced log.old) (W.contents writer.old.stream) (if_any line) (L.held log.new) (L.synced log.new) (W.contents writer.new.stream)) }
+    ensures flushed { OnOk result (IsFlushed writer.new) }
+    ensures caused { IfErr result (λ fault. IsPassCaused L.has_failed fault log.new writer.new) }
+{
+    let owed = match serve_last(alloc, service, lines, text) {
+        Ok(owed) => owed,
+        Err(_starved) => return Err(KeptFault::Run(FaultKind::Starved)),
+    };
+    match keep_first(
+        log,
+        writer,
+        owed.entries.as_slice(),
+        owed.replies.as_slice(),
+    ) {
+        Ok(()) => Ok(()),
+        Err(fault) => Err(fault_of(fault)),
+    }
+}
+
+/// Serves the lines of a text, in order and each once. What is kept of the lines that end in a read, each that changed something as
+/// it came, is in the log, and stays, before any reply to them goes out; and all replies are passed on before the next read.
+///
+/// # Errors
+///
+/// `Log` where the log failed; `Run` with the kinds of `run_lines_within`, `Starved` also where memory ran out for what is kept, for
+/// the replies to one read or for the last steps of an advance. Only replies to lines are out then of which all that is kept is in
+/// the log and stays.
+pub fn run_kept<S: Service, R: Read, L: Log, W: Write>(
+    alloc: Global,
+    service: &mut S,
+    reader: &mut Counted<R>,
+    log: &mut L,
+    writer: &mut Counted<W>,
+) -> Result<(), KeptFault>
+    requires ready { S.ready }
+    requires reader { IsFresh reader.old }
+    requires synced { L.synced log.old ≡ L.held log.old }
+    ensures whole { OnOk result (KeptWhole S.serves service.old (R.remaining reader.old.stream) (L.held log.old) (W.contents writer.old.stream)
+        service.new (R.remaining reader.new.stream) (L.held log.new) (L.synced log.new) (W.contents writer.new.stream)) }
+    ensures broken { IfErr result (λ fault. KeptFirst S.serves service.old (R.remaining reader.old.stream) (L.held log.old)
+        (W.contents writer.old.stream) (R.remaining reader.new.stream) (L.held log.new) (L.synced log.new) (W.contents writer.new.stream)) }
+    ensures caused { IfErr result (λ fault. IsKeptCaused L.has_failed fault reader.new log.new writer.new 1000000000) }
+    ensures prompt { IsPrompt reader.new }
+    ensures flushed { OnOk result (IsFlushed writer.new) }
+{
+    let mut lines = LineReader::new(alloc);
+    let mut text = OpenText::new(alloc, LONGEST_LINE);
+    let mut buffer = [0u8; 4096];
+    for _ in 0..MOST_READS {
+        let count = match reader.read_behind(writer, &mut buffer) {
+            Ok(count) => count,
+            Err(_) => return Err(KeptFault::Run(FaultKind::Read)),
+        };
+        if count == 0 {
+            return pass_last(alloc, service, &mut lines, text, log, writer);
+        }
+        let bytes = &buffer[..count];
+        match pass_more(alloc, service, &mut lines, &mut text, log, writer, bytes) {
+            Ok(()) => {}
+            Err(fault) => return Err(fault),
+        }
+    }
+    Err(KeptFault::Run(FaultKind::Endless))
+}

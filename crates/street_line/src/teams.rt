@@ -1,0 +1,86 @@
+//! Lines served by an engine whose workers stay.
+//!
+//! Source: this profile.
+ghost use Rattle.std.specs.Prelude.{◌≡◌, ◌≤◌, IfOk, IfErr, OnOk};
+ghost use Rattle.street_stream.specs.Streams.{IsFlushed, IsFresh, IsPrompt};
+ghost use Rattle.street_stream.specs.Faults.{IsCaused};
+ghost use Rattle.street_line.specs.Streams.{EngineServesAll, EngineServesFirst};
+
+use crate::runs::run_lines;
+use crate::service::{Served, Service};
+use std::alloc::Global;
+use std::io::{Read, Write};
+use std::marker::Model;
+use std::sync::Wait;
+use std::thread::Threads;
+use street_base::Command;
+use street_engine::{Engine, Unwatched};
+use street_stream::{Counted, RunFault, Tally};
+
+/// An engine as a service, whose advances are made by workers that stay, and wait for each other.
+pub struct TeamSession<'a, R: Threads + Wait + Sync> {
+    rt: &'a R,
+    engine: Engine<Unwatched>,
+}
+
+impl<'a, R: Threads + Wait + Sync> Drop for TeamSession<'a, R> {
+    fn drop(self) {
+        let TeamSession { rt: _, engine: _ } = self;
+    }
+}
+
+impl<'a, R: Threads + Wait + Sync> Model for TeamSession<'a, R> {
+    ghost use Rattle.street_engine.specs.Prelude.{EngineView};
+
+    ghost Value = { EngineView };
+
+    ghost view = { λ s. s.engine };
+}
+
+impl<'a, R: Threads + Wait + Sync> TeamSession<'a, R> {
+    /// The engine as a service. Takes no memory.
+    pub fn new(rt: &'a R, engine: Engine<Unwatched>) -> TeamSession<'a, R>
+        ensures { result ≡ engine }
+    {
+        TeamSession { rt, engine }
+    }
+}
+
+impl<'a, R: Threads + Wait + Sync> Service for TeamSession<'a, R> {
+    ghost use Rattle.std.specs.Thread.{IsSync};
+    ghost use Rattle.street_line.specs.Engines.{EngineServes};
+
+    ghost serves = { EngineServes };
+
+    ghost ready = { IsSync R.row };
+
+    fn serve(&mut self, command: Command) -> Served {
+        let (reply, _outcome) = self.engine.apply_by_team(self.rt, &command);
+        Served::Answered(reply)
+    }
+}
+
+/// Serves the lines of a text as `run_engine` does, if it returns: by workers that wait for each other.
+///
+/// # Errors
+///
+/// Those of `run_engine`.
+pub fn run_team<R: Threads + Wait + Sync, D: Read, W: Write>(
+    alloc: Global,
+    session: &mut TeamSession<'_, R>,
+    reader: &mut Counted<D>,
+    writer: &mut Counted<W>,
+) -> Result<Tally, RunFault>
+    requires reader { IsFresh reader.old }
+    requires writer { IsFresh writer.old }
+    ensures served { IfOk result (EngineServesAll D.remaining W.contents
+        session.old reader.old writer.old session.new reader.new writer.new) }
+    ensures broken { IfErr result (EngineServesFirst D.remaining W.contents
+        session.old reader.old writer.old session.new reader.new writer.new) }
+    ensures caused { IfErr result (λ fault. IsCaused fault.kind reader.new writer.new 1000000000) }
+    ensures bounded { reader.new.calls ≤ 1000000000 }
+    ensures prompt { IsPrompt reader.new }
+    ensures flushed { OnOk result (IsFlushed writer.new) }
+{
+    run_lines(alloc, session, reader, writer)
+}

@@ -1,0 +1,99 @@
+//! Standard input without a desk: no journal, and no end of calls.
+//!
+//! Source: this profile.
+ghost use Rattle.std.specs.Prelude.{◌≤◌, None, IfOk, IfErr, OnOk};
+ghost use Rattle.street_line.specs.Streams.{MachineServesAll, MachineServesFirst};
+ghost use Rattle.street_stream.specs.Faults.{IsCaused};
+ghost use Rattle.street_stream.specs.Streams.{IsFlushed, IsFresh, IsPrompt};
+
+use crate::Fault;
+use crate::clients::processors;
+use crate::outputs::{STANDARD_INPUT, STANDARD_OUTPUT};
+use std::alloc::Global;
+use std::io;
+use std::io::{BufWriter, Read, Write};
+use std::sync::Wait;
+use std::thread::Threads;
+use street_base::Starved;
+use street_engine::{Engine, Unwatched};
+use street_line::{Counted, EngineSession, RunFault, Tally, TeamSession, run_engine, run_team};
+
+/// Serves standard input by an engine alone, and writes each reply as it comes.
+///
+/// # Errors
+///
+/// The fault of the session.
+pub fn serve_endless<R: Threads + Wait + Sync + Input + Print + AllocGlobal>(
+    rt: &R,
+    workers: u32,
+) -> Result<(), Fault<'static>>
+    requires { (1 ≤ workers) × (workers ≤ 64) }
+{
+    let alloc = rt.alloc();
+    let Ok(output) = BufWriter::new(alloc, io::writer(rt)) else {
+        return Err(Starved.into());
+    };
+    let mut reader = Counted::new(rt.reader());
+    let mut writer = Counted::new(output);
+    let run = if workers == 1 {
+        serve_by_one(rt, alloc, &mut reader, &mut writer)
+    } else {
+        serve_by_team(rt, alloc, workers, &mut reader, &mut writer)
+    };
+    // After a fault it holds the replies to the lines that came in the last read.
+    let _ = writer.flush();
+    match run {
+        Ok(_tally) => Ok(()),
+        Err(fault) => Err(Fault::of_run(fault.kind, STANDARD_INPUT, STANDARD_OUTPUT)),
+    }
+}
+
+/// Serves lines to their end by one worker, who waits for nobody: what is written is what the machine says to them where nothing is
+/// loaded at first. After a fault the same holds of the lines that were served, and of the bytes that were written of their output.
+///
+/// # Errors
+///
+/// Those of [`run_engine`].
+fn serve_by_one<R: Threads + Sync, D: Read, W: Write>(
+    rt: &R,
+    alloc: Global,
+    reader: &mut Counted<D>,
+    writer: &mut Counted<W>,
+) -> Result<Tally, RunFault>
+    requires reader { IsFresh reader.old }
+    requires writer { IsFresh writer.old }
+    ensures served { IfOk result (MachineServesAll D.remaining W.contents None reader.old writer.old reader.new writer.new) }
+    ensures broken { IfErr result (MachineServesFirst D.remaining W.contents None reader.old writer.old reader.new writer.new) }
+    ensures caused { IfErr result (λ fault. IsCaused fault.kind reader.new writer.new 1000000000) }
+    ensures prompt { IsPrompt reader.new }
+    ensures flushed { OnOk result (IsFlushed writer.new) }
+{
+    let mut session = EngineSession::new(rt, Engine::new(alloc, 1, Unwatched::new()));
+    run_engine(alloc, &mut session, reader, writer)
+}
+
+/// As [`serve_by_one`] does, by so many workers, who wait for each other: so what it says holds if it returns.
+///
+/// # Errors
+///
+/// Those of [`run_team`].
+fn serve_by_team<R: Threads + Wait + Sync, D: Read, W: Write>(
+    rt: &R,
+    alloc: Global,
+    workers: u32,
+    reader: &mut Counted<D>,
+    writer: &mut Counted<W>,
+) -> Result<Tally, RunFault>
+    requires workers { (1 ≤ workers) × (workers ≤ 64) }
+    requires reader { IsFresh reader.old }
+    requires writer { IsFresh writer.old }
+    ensures served { IfOk result (MachineServesAll D.remaining W.contents None reader.old writer.old reader.new writer.new) }
+    ensures broken { IfErr result (MachineServesFirst D.remaining W.contents None reader.old writer.old reader.new writer.new) }
+    ensures caused { IfErr result (λ fault. IsCaused fault.kind reader.new writer.new 1000000000) }
+    ensures prompt { IsPrompt reader.new }
+    ensures flushed { OnOk result (IsFlushed writer.new) }
+{
+    let engine = Engine::new(alloc, workers, Unwatched::staying(processors(rt)));
+    let mut session = TeamSession::new(rt, engine);
+    run_team(alloc, &mut session, reader, writer)
+}

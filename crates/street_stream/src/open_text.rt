@@ -1,0 +1,118 @@
+//! A text whose lines are handled a part at a time.
+//!
+//! Source: this profile.
+ghost use Rattle.std.specs.Prelude.{◌≡◌, ◌+◌, ◌<◌, ◌≤◌, ◌^◌, ◌++◌, List, ℕ, [], IfOk, IfErr, IfSome, IsNone, length, take};
+ghost use Rattle.street_stream.specs.Faults.{IsCausedByLine};
+ghost use Rattle.street_stream.specs.Lines.{cut, if_any};
+ghost use Rattle.street_stream.specs.OpenTexts.{HandlesTo, IsOpen};
+
+use crate::answer::Halt;
+use crate::counted::Counted;
+use crate::driver::{Progress, feed, finish};
+use crate::handler::LineHandler;
+use crate::part::PartialLine;
+use crate::tally::Tally;
+use memchr::memrchr;
+use std::alloc::Global;
+use std::io::Write;
+
+/// A text as far as it has come: of its last line, which has not ended, no more is kept than tells what it says.
+#[derive(Drop)]
+pub struct OpenText {
+    progress: Progress,
+}
+
+/// Nothing was done.
+const NOTHING: Tally = Tally {
+    lines: 0,
+    calls: 0,
+    replies: 0,
+    bytes: 0,
+};
+
+impl OpenText {
+    /// Nothing of a text whose lines may have `most` bytes.
+    pub fn new(alloc: Global, most: usize) -> OpenText
+        ensures { IsOpen most result [] }
+    {
+        OpenText {
+            progress: Progress {
+                part: PartialLine::new(alloc, most),
+                tally: NOTHING,
+            },
+        }
+    }
+
+    /// Takes up the next bytes of the text: each line that ends in them is handled, and what comes after the last LF is kept.
+    ///
+    /// # Errors
+    ///
+    /// Those of `drive_lines` but of its reads. The text can not go on then.
+    pub fn feed<H: LineHandler, W: Write>(
+        &mut self,
+        alloc: Global,
+        handler: &mut H,
+        writer: &mut Counted<W>,
+        bytes: &[u8],
+    ) -> Result<Tally, Halt<H::Stop>>
+        requires ready { H.ready }
+        requires few { length bytes.now < 2 ^ 62 }
+        ensures handled { (line : List ℕ) → IsOpen H.meaning.longest self.old line → IfOk result (HandlesTo H.meaning W.contents
+            handler.old writer.old (cut (line ++ bytes.now)).0 handler.new writer.new) }
+        ensures open { (line : List ℕ) → IsOpen H.meaning.longest self.old line → IfOk result (λ tally.
+            IsOpen H.meaning.longest self.new (cut (line ++ bytes.now)).1) }
+        ensures caused { IfErr result (λ halt. IsCausedByLine halt.cause writer.new) }
+    {
+        self.progress.tally = NOTHING;
+        match feed(alloc, handler, writer, &mut self.progress, bytes) {
+            Ok(()) => Ok(self.progress.tally),
+            Err(cause) => Err(Halt {
+                cause,
+                tally: self.progress.tally,
+            }),
+        }
+    }
+
+    /// Handles the last line of the text, which has ended, where that line has no LF.
+    ///
+    /// # Errors
+    ///
+    /// Those of [`feed`](Self::feed).
+    pub fn finish<H: LineHandler, W: Write>(
+        mut self,
+        alloc: Global,
+        handler: &mut H,
+        writer: &mut Counted<W>,
+    ) -> Result<Tally, Halt<H::Stop>>
+        requires ready { H.ready }
+        ensures handled { (line : List ℕ) → IsOpen H.meaning.longest self line → IfOk result (HandlesTo H.meaning W.contents
+            handler.old writer.old (if_any line) handler.new writer.new) }
+        ensures caused { IfErr result (λ halt. IsCausedByLine halt.cause writer.new) }
+    {
+        self.progress.tally = NOTHING;
+        match finish(alloc, handler, writer, &mut self.progress) {
+            Ok(()) => Ok(self.progress.tally),
+            Err(cause) => Err(Halt {
+                cause,
+                tally: self.progress.tally,
+            }),
+        }
+    }
+}
+
+/// How many of these bytes stand up to the last LF, it included; none where there is no LF.
+pub fn whole_lines(bytes: &[u8]) -> Option<usize>
+    ensures within { IfSome result (λ n. n ≤ length bytes.now) }
+    ensures some { IfSome result (λ n. (seen : List ℕ) → n + length (cut (seen ++ bytes.now)).1 ≡ length bytes.now) }
+    ensures none { IsNone result → (seen : List ℕ) → (cut (seen ++ bytes.now)).1 ≡ (cut seen).1 ++ bytes.now }
+{
+    match memrchr(b'\n', bytes) {
+        Some(at) => Some(at + 1),
+        None => None,
+    }
+}
+
+/// Of a text that is cut off after any byte the lines that have ended are the first of the whole text's.
+pub fn cut_off_text()
+    ensures { (text : List ℕ) (n : ℕ) → (rest : List (List ℕ)) × ((cut text).0 ≡ (cut (take n text)).0 ++ rest) }
+{}
