@@ -8,14 +8,11 @@ from __future__ import annotations
 
 from collections.abc import Mapping, Sequence
 from dataclasses import dataclass, field
-from pathlib import Path
-from tempfile import TemporaryDirectory
 
-from . import limits
-from .traci.lights import Light
-from .traci.opening import open_session
-from .traci.options import options_of
-from .traci.session import Session
+from streetsim.base import limits
+from streetsim.simulation.lights import Light
+from streetsim.simulation.opening import open_session
+from streetsim.simulation.session import Session
 
 GREEN = "Gg"
 Observation = list[float]
@@ -28,8 +25,8 @@ class Signals:
     greens: list[str]  # states, in the order of its program
     lanes: list[str]  # before it
     now: int = 0
-    since: int = 0  # seconds
-    waited: float = 0.0  # by those before it, at the last reward
+    since: int = 0  # seconds since it was changed
+    waited: float = 0.0  # hundreds of seconds, by those before it, at the last reward
     links: list[tuple[str, str]] = field(default_factory=list)  # by index: lane and next lane
 
 
@@ -66,25 +63,24 @@ class SignalEnv:
         """Begins the run anew; equal seeds give equal runs."""
         self.close()
         words = self.words if seed is None else [*self.words, "--seed", str(seed)]
-        with TemporaryDirectory() as folder:
-            self.session = open_session(Path(folder), options_of(words))
-        self.session.follow()
+        self.session = open_session(words).follow()
         self.begin, self.ended = self.session.clock, 0
-        self.signals = {name: signals_of(light) for name, light in sorted(self.session.lights.items())}
+        self.signals = {name: signals_of(light) for name, light in sorted(self.session.control.lights.items())}
         for name, one in self.signals.items():
-            self.session.hold(name, one.greens[0])
+            self.session.control.hold(name, one.greens[0])
         return self.observations(), self.figures()
 
     def step(self, actions: Mapping[str, int]) -> tuple[dict[str, Observation], dict[str, float], bool, bool, dict]:
-        """Some seconds under these phases; who is not named goes on."""
+        """Makes a step under green phases by light; who is not named goes on. Gives observations, rewards, whether
+        nobody is left, whether the time is over, and figures."""
         session = self.running()
         changed = [name for name, action in actions.items() if self.choose(name, action)]
         for second in range(self.every):
             if second == self.yellow:
                 for name in changed:
-                    session.hold(name, self.signals[name].greens[self.signals[name].now])
+                    session.control.hold(name, self.signals[name].greens[self.signals[name].now])
             session.step()
-            self.ended += len(session.arrived)
+            self.ended += len(session.view.arrived)
         for one in self.signals.values():
             one.since += self.every
         over = session.clock - self.begin >= self.seconds
@@ -92,29 +88,34 @@ class SignalEnv:
         return self.observations(), rewards, not self.left(), over, self.figures()
 
     def choose(self, name: str, action: int) -> bool:
-        """Shows yellow where a light is to change and may; whether it does."""
+        """Shows yellow where a light is to change and may; gives whether it does. ValueError for an action that it does
+        not have."""
         one = self.signals[name]
         if not 0 <= action < len(one.greens):
             raise ValueError(f"light {name!r} has no green phase {action}")
         if action == one.now or one.since < self.least:
             return False
         pairs = zip(one.greens[one.now], one.greens[action], strict=True)
-        self.running().hold(name, "".join("y" if now in GREEN and then not in GREEN else now for now, then in pairs))
+        yellow = "".join("y" if now in GREEN and then not in GREEN else now for now, then in pairs)
+        self.running().control.hold(name, yellow)
         one.now, one.since = action, 0
         return True
 
     def observations(self) -> dict[str, Observation]:
+        """What `observation` gives, by light."""
         return {name: self.observation(one) for name, one in self.signals.items()}
 
     def observation(self, one: Signals) -> Observation:
+        """What the class says of a light."""
         chosen = [float(at == one.now) for at in range(len(one.greens))]
         shares = [(self.share(lane, self.on(lane)), self.share(lane, self.standing(lane))) for lane in one.lanes]
         return [*chosen, float(one.since >= self.least), *(full for full, _ in shares), *(queue for _, queue in shares)]
 
     def reward(self, one: Signals) -> float:
+        """The fall of the time, in hundreds of seconds, that those before a light have waited, since the last one."""
         before = one.waited
         session = self.running()
-        one.waited = sum(session.waited.get(car, 0) for lane in one.lanes for car in self.on(lane)) / 100
+        one.waited = sum(session.tally.waited.get(car, 0) for lane in one.lanes for car in self.on(lane)) / 100
         return before - one.waited
 
     def pressure(self, name: str, action: int) -> int:
@@ -128,34 +129,41 @@ class SignalEnv:
         return sum(queue[lane] - queue[behind] for state, (lane, behind) in shown if state in GREEN)
 
     def on(self, lane: str) -> list[int]:
+        """The numbers of the vehicles on a lane, from the stop line; none where the import has no such lane."""
         session = self.running()
-        return session.on_lane.get(session.lane_of.get(lane, (-1, -1)), [])
+        return session.view.on_lane.get(session.lane_of.get(lane, (-1, -1)), [])
 
     def standing(self, lane: str) -> list[int]:
-        places = self.running().places
+        """The numbers of the vehicles on a lane that stand."""
+        places = self.running().view.places
         return [car for car in self.on(lane) if not places[car].speed]
 
     def share(self, lane: str, cars: Sequence[int]) -> float:
+        """The share of a lane's room that some vehicles take, 0 to 1."""
         session = self.running()
-        cells = sum(session.sizes[session.names[car]] for car in cars)
+        cells = sum(session.fleet.sizes[session.fleet.names[car]] for car in cars)
         return min(1.0, cells * limits.CELL_METRES / session.facts.lanes[lane].metres)
 
     def figures(self) -> dict:
-        session = self.running()
-        standing = sum(not place.speed for place in session.places.values())
-        return {"time": session.clock, "vehicles": len(session.places), "standing": standing, "arrived": self.ended}
+        """What there is of the whole network: the time, who is there, who stands, how many have arrived."""
+        clock, places = self.running().clock, self.running().view.places
+        standing = sum(not place.speed for place in places.values())
+        return {"time": clock, "vehicles": len(places), "standing": standing, "arrived": self.ended}
 
     def left(self) -> bool:
         """Whether there is anybody on the way or to come."""
         session = self.running()
-        return session.entered < len(session.source.enters) or bool(session.places) or bool(session.waiting_to_depart())
+        told = session.entered == len(session.source.enters)
+        return not told or bool(session.view.places) or bool(session.view.waiting_to_depart())
 
     def running(self) -> Session:
+        """The session; ValueError before the first reset."""
         if self.session is None:
             raise ValueError("reset() begins a run")
         return self.session
 
     def close(self) -> None:
+        """Ends the run, if one is under way."""
         if self.session is not None:
             self.session.close()
             self.session = None
@@ -168,6 +176,7 @@ class SignalEnv:
 
 
 def signals_of(light: Light) -> Signals:
+    """What can be chosen at a light."""
     links = [(link[0], link[1]) if link else ("", "") for link in light.links]
     greens = list(
         dict.fromkeys(state for _, state in light.phases if set(state) & set(GREEN) and "y" not in state.lower())

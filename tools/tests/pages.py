@@ -3,6 +3,7 @@ Chromium, and what a hand does."""
 import json
 import shutil
 import threading
+import time
 from contextlib import contextmanager
 from importlib.util import find_spec
 
@@ -10,8 +11,8 @@ from support import MAP, NUMBERED, PAGE_PROGRAM, RED, Case, needs_package
 from streetsim.live.bridge import Bridge
 from streetsim.live.engine import Engine
 from streetsim.live.page import own_lines, page_of
-from streetsim.run.mapping import read_map
-from streetsim.run.runs import read_run
+from streetsim.model.mapping import read_map
+from streetsim.model.runs import read_run
 
 DRIVER = shutil.which("chromedriver")
 needs_driver = needs_package("chromium-driver", DRIVER)
@@ -32,8 +33,8 @@ class LiveCase(Case):
 
     @contextmanager
     def bridge(self):
-        engine = Engine(PAGE_PROGRAM, own_lines(self.run_file))
-        with Bridge(engine, page_of(self.run_file, self.mapping)) as bridge:
+        engines = [Engine(PAGE_PROGRAM, own_lines(self.run_file)) for _ in range(2)]
+        with Bridge(engines, page_of(self.run_file, self.mapping)) as bridge:
             thread = threading.Thread(target=bridge.serve_forever, daemon=True)
             thread.start()
             try:
@@ -41,7 +42,68 @@ class LiveCase(Case):
             finally:
                 bridge.shutdown()
                 thread.join()
-                engine.close()
+                for engine in engines:
+                    engine.close()
+
+
+# A crossing of two streets with a light; links 0 to 3 lead in from west, east, south and north, links 4 to 7 out again.
+CROSSING_ENDS = {"W": (-100, 0), "E": (100, 0), "S": (0, -100), "N": (0, 100)}
+BESIDE = {"W": (0, -4), "E": (0, 4), "S": (4, 0), "N": (-4, 0)}
+
+
+def crossing_links():
+    """Its links: name, begin, end, points. Node 0 is the crossing, and 1 to 4 are the ends."""
+    inward, outward = [], []
+    for number, (name, (x, y)) in enumerate(CROSSING_ENDS.items(), 1):
+        dx, dy = BESIDE[name]
+        near = x / 10, y / 10
+        inward.append((name, number, 0, [[x + dx, y + dy], [near[0] + dx, near[1] + dy]]))
+        outward.append((f"to {name}", 0, number, [[near[0] - dx, near[1] - dy], [x - dx, y - dy]]))
+    return [*inward, *outward]
+
+
+def crossing_turns():
+    """Its turns: link, lane, next, its lane, light, index; each way but back."""
+    ways = [(link, to) for link in range(4) for to in range(4) if to != link]
+    return [[link, 0, to + 4, 0, "L", index] for index, (link, to) in enumerate(ways)]
+
+
+def greens(*pairs):
+    """Greens by the ends of their ways: "WE" leads from west to east."""
+    return [["WESN".index(pair[0]), 0, "WESN".index(pair[1]) + 4] for pair in pairs]
+
+
+# Left turns in the last seconds of a green, and right turns not in its middle, as imports have them.
+EAST_WEST, NORTH_SOUTH = greens("WE", "WS", "EW", "EN"), greens("SN", "SE", "NS", "NW")
+CROSSING_PLAN = {
+    "cmd": "signal", "node": 0, "offset": 7,
+    "phases": [
+        [12, EAST_WEST], [4, greens("WE", "EW")], [6, EAST_WEST], [3, [*EAST_WEST, *greens("WN", "ES")]], [3, []],
+        [20, NORTH_SOUTH], [2, []],
+    ],
+}  # fmt: skip
+
+
+def crossing_files():
+    """The crossing's run and map: two lanes on each link, and vehicles from west to east and from south to north."""
+    links = crossing_links()
+    turns = [[link, lane, to, lane, *rest] for link, _, to, _, *rest in crossing_turns() for lane in (0, 1)]
+    load = {
+        "cmd": "load", "nodes": [[number, 1, 2] for number in range(5)],
+        "links": [[number, begin, end, 2, 12, 2] for number, (_, begin, end, _) in enumerate(links)],
+        "turns": [turn[:4] for turn in turns], "zone": 0, "dawdle": 170, "change": 1000, "seed": 1,
+    }  # fmt: skip
+    given = CROSSING_PLAN["phases"]
+    phases = [[seconds, [[a, lane, b] for a, _, b in own for lane in (0, 1)]] for seconds, own in given]
+    enters = [
+        {"cmd": "enter", "plan": [0, 5] if at % 3 else [2, 7], "lane": at // 3 % 2, "depart": at} for at in range(240)
+    ]
+    mapping = {
+        **MAP, "nodes": [["X", 0, 0, 1], *([name, *place, 1] for name, place in CROSSING_ENDS.items())],
+        "links": [[name, [0, 1], begin, end, 12, 2, 90.0, points] for name, begin, end, points in links],
+        "turns": [[*turn, False] for turn in turns], "signals": [["L", 0]], "cars": [str(at) for at in range(240)],
+    }  # fmt: skip
+    return [load, {**CROSSING_PLAN, "phases": phases}, *enters], mapping
 
 
 class PageCase(LiveCase):
@@ -117,6 +179,14 @@ class PageCase(LiveCase):
     def put(self, browser, name, value):
         script = (
             "const box = document.getElementById(arguments[0]); box.value = arguments[1]; "
-            "box.dispatchEvent(new Event('input'))"
+            "for (const kind of ['input', 'change']) box.dispatchEvent(new Event(kind))"
         )
         browser.execute_script(script, name, value)
+
+    def downloaded(self, name):
+        """The text of a file that the browser saves, once it is there; it goes by another name until then."""
+        for _ in range(300):
+            if (self.folder / name).exists():
+                return (self.folder / name).read_text()
+            time.sleep(0.1)
+        return self.fail(f"{name} was not saved")

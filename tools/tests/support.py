@@ -13,7 +13,9 @@ SCENARIOS = Path("/usr/share/sumo/tools/sumolib/scenario/scenarios/RealWorld")
 sys.path.insert(0, str(TOOLS))
 
 BUILT = TOOLS.parent / "crates/street_sim/out/street_sim"
-PROGRAM = os.environ.get("STREETSIM_PROGRAM") or (str(BUILT) if BUILT.exists() else None)
+# Tests that start no program, as ./test --quick runs them.
+QUICK = bool(os.environ.get("STREETSIM_QUICK"))
+PROGRAM = None if QUICK else os.environ.get("STREETSIM_PROGRAM") or (str(BUILT) if BUILT.exists() else None)
 needs_simulator = unittest.skipIf(PROGRAM is None, "no simulator: build streetsim, or set STREETSIM_PROGRAM")
 
 # What a live page asks, as ./test and `./build --page` make it: for this machine, and for browsers.
@@ -33,8 +35,8 @@ def needs_package(name, found):
     return unittest.skipUnless(found, f"Debian's {name} is not installed")
 
 
-needs_sumo = needs_package("sumo", shutil.which("sumo"))
-needs_sumo_tools = needs_package("sumo-tools", SCENARIOS.exists())
+needs_sumo = needs_package("sumo", shutil.which("sumo") and not QUICK)
+needs_sumo_tools = needs_package("sumo-tools", SCENARIOS.exists() and not QUICK)
 
 
 # One link of 10 cells into another of 10, limit 5, nobody dawdles.

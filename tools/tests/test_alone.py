@@ -4,8 +4,8 @@ from statistics import fmean
 from types import SimpleNamespace
 
 from support import PROGRAM, needs_simulator
-from streetsim.client import Client
-from streetsim.run.freeflow import Alone, FreeFlow, seconds_alone
+from streetsim.base.client import Client
+from streetsim.model.freeflow import Alone, FreeFlow, seconds_alone
 
 RESIDENCE = 2
 

@@ -3,15 +3,29 @@ import unittest
 
 from crosses import LAST, a_green, cases, demand
 from support import DATA, PROGRAM, Case, lane, needs_simulator, net
-from streetsim.run.compare import trips_of
-from streetsim.run.folder import read_folder
-from streetsim.sumo.importing import convert
-from streetsim.sumo.network import Options
-from streetsim.sumo.report import Report
+from streetsim.base.report import Report
+from streetsim.importing.convert import convert
+from streetsim.model.folder import read_folder
+from streetsim.results.compare import trips_of
 from streetsim.sumo.net import request_of
+from streetsim.sumo.network import Options
 from streetsim.sumo.yielding import (
-    Movement, gap_capacity, gap_wait, green_here, hidden_middle, hidden_start, lane_here, lane_queue, lane_there,
-    leaving, passing_here, seconds_for, set_lane, time_of, until_first,
+    Movement,
+    after_stop,
+    gap_capacity,
+    gap_wait,
+    green_here,
+    hidden_middle,
+    hidden_start,
+    lane_here,
+    lane_queue,
+    lane_there,
+    leaving,
+    passing_here,
+    seconds_for,
+    set_lane,
+    time_of,
+    until_first,
 )
 
 # SUMO's vehicles a green by case and way, of the demand with seed 1; a tenth or 0.6 of a vehicle off is allowed.

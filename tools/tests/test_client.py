@@ -4,8 +4,8 @@ import sys
 import unittest
 
 from support import PROGRAM, STREET, Case, needs_simulator
-from streetsim import client
-from streetsim.client import Client, ProgramEnded, Row, Starved, Vehicle
+from streetsim.base import client
+from streetsim.base.client import Client, ProgramEnded, Row, Starved, Vehicle
 
 
 def fake(case, replies):
@@ -183,6 +183,25 @@ class Simulator(Case):
         car = sim.enter([10])
         sim.takeout(car)
         sim.takeout(car)
+
+    def test_a_session_that_is_kept(self):
+        """A client that is killed loses nothing that was answered: the next one goes on from there."""
+        file = self.folder / "day.jsonl"
+        first = Client(PROGRAM, keep=file)
+        first.load(**STREET)
+        self.assertEqual(first.enter([10]), 0)
+        self.assertEqual(first.advance(3), 3)
+        first.process.kill()
+        first.end()
+        with Client(PROGRAM, workers=3, keep=file) as second:
+            self.assertEqual(second.count().clock, 3)
+            self.assertEqual(second.enter([10]), 1)
+        self.assertEqual(len(file.read_text().splitlines()), 4)
+
+    def test_calls_without_end(self):
+        with Client(PROGRAM, calls=0) as sim:
+            replies = sim.batch(['{"cmd":"count"}'] * 70_000)
+        self.assertEqual(set(map(type, replies)), {client.NotLoaded})
 
     def test_full(self):
         sim = self.enterContext(Client(PROGRAM, calls=2))

@@ -5,9 +5,9 @@ import time
 import unittest
 
 from support import MAP, Case
-from streetsim.run import compare
-from streetsim.cli.progress import Slow
-from streetsim.run.tables import EDGES, TRIPS
+from streetsim.base.progress import Slow
+from streetsim.model.tables import EDGES, TRIPS
+from streetsim.results import compare
 
 
 class Compare(Case):

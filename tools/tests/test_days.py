@@ -7,12 +7,12 @@ import unittest
 from unittest.mock import patch
 
 from support import DATA, MAP, NUMBERED, PROGRAM, RED, Case, needs_simulator
-from streetsim import limits
-from streetsim.run import running
+from streetsim.base import limits
+from streetsim.base.client import Row
+from streetsim.cli import run as running
+from streetsim.model.mapping import map_from
 from streetsim.run.edgedata import Edgedata, Samples, edge_rows
-from streetsim.client import Row
 from streetsim.run.late import Late
-from streetsim.run.mapping import map_from
 
 
 class Schedules(Case):

@@ -2,10 +2,10 @@
 import unittest
 
 from support import FORK, SHARED, Case, lane, net
-from streetsim.files import Fault
-from streetsim.sumo.importing import convert
+from streetsim.base.files import Fault
+from streetsim.base.report import Report
+from streetsim.importing.convert import convert
 from streetsim.sumo.network import Options
-from streetsim.sumo.report import Report
 
 
 class Demand(Case):

@@ -7,8 +7,8 @@ from operator import mul
 from statistics import fmean
 
 from support import DATA, PROGRAM, Case, lane, needs_simulator, net
-from streetsim.files import read_json
-from streetsim.run.detectors import longest_jam
+from streetsim.base.files import read_json
+from streetsim.model.detectors import longest_jam
 
 # One lane of 10 cells, 5 cells a step.
 STREET = net([("a", "A", "B", [lane("a", 0, speed=37.0)])], [])

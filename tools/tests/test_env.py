@@ -36,7 +36,7 @@ class Environment(Case):
             observations, _ = env.reset(seed=1)
             self.assertEqual(observations["J"][:3], [1.0, 0.0, 0.0])
             self.assertEqual(len(observations["J"]), 2 + 1 + 2 * 4)
-            light, greens = env.session.lights["J"], env.signals["J"].greens
+            light, greens = env.session.control.lights["J"], env.signals["J"].greens
             env.step({"J": 1})
             self.assertEqual(light.phases[0][1], greens[0])
             observations, *_ = env.step({})
@@ -55,9 +55,8 @@ class Environment(Case):
             total = sum(env.step({})[1]["J"] for _ in range(30))
             session = env.session
             lanes = env.signals["J"].lanes
-            waited = sum(
-                session.waited.get(car, 0) for lane in lanes for car in session.on_lane.get(session.lane_of[lane], ())
-            )
+            there = [car for lane in lanes for car in session.view.on_lane.get(session.lane_of[lane], ())]
+            waited = sum(session.tally.waited.get(car, 0) for car in there)
         self.assertGreater(waited, 0)
         self.assertAlmostEqual(total, -waited / 100)
 

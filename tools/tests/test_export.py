@@ -4,12 +4,11 @@ import shutil
 import subprocess
 
 from support import MAP, PROGRAM, Case, needs_package, needs_simulator
-from streetsim.gis.values import traffic_of
-from streetsim.junctions.rows import APPROACHES, JUNCTIONS, MOVEMENTS
-from streetsim.reports.drawing import COLOURS
-from streetsim.run.tables import EDGES, write_table
+from streetsim.base.report import Report
+from streetsim.model.service import COLOURS
+from streetsim.model.tables import APPROACHES, EDGES, JUNCTIONS, MOVEMENTS, write_table
+from streetsim.results.values import traffic_of
 from streetsim.sumo.net import read_net
-from streetsim.sumo.report import Report
 
 OGR = shutil.which("ogr2ogr")
 HAS_PYPROJ = (

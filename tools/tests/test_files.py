@@ -11,7 +11,7 @@ import unittest
 from pathlib import Path
 
 from support import FORK, MAP, NUMBERED, PROGRAM, TOOLS, Case, lane, needs_simulator, net
-from streetsim.files import Fault, refuse_equal, whole_file, whole_folder, whole_path
+from streetsim.base.files import Fault, refuse_equal, whole_file, whole_folder, whole_path
 
 STREET = net([("a", "A", "B", [lane("a", 0)])], [])
 

@@ -3,16 +3,17 @@ import json
 import unittest
 
 from support import Case, lane
+from streetsim.base.report import Report
+from streetsim.importing.convert import convert
+from streetsim.model.mapping import MapLink, MapTurn
+from streetsim.model.runs import Line
+from streetsim.model.waiting import Foe, Gap, Pace, Waiting, waiting_of
 from streetsim.run.gaps import (
-    PATIENCE, be_patient, followings, gap_lines, phases_of, red_seconds, slow_down, with_wishes,
+    PATIENCE, Counts, be_patient, followings, gap_lines, phases_of, red_seconds, slow_down, with_wishes,
 )
-from streetsim.run.mapping import MapLink, MapTurn
 from streetsim.run.passings import Passings
-from streetsim.run.runs import Line
-from streetsim.sumo.conflicts import CROSSING, JOINING, Foe, Gap, Waiting
-from streetsim.sumo.importing import convert
+from streetsim.sumo.conflicts import CROSSING, JOINING
 from streetsim.sumo.network import Options
-from streetsim.sumo.report import Report
 
 
 def link(begin, end, cells=20):
@@ -108,7 +109,7 @@ class Reds(unittest.TestCase):
         few = sum(red_seconds(waiting, {(0, 0, 1): [300.0]}, 0, 600))
         many = sum(red_seconds(waiting, {(0, 0, 1): [20.0 * at for at in range(1, 30)]}, 0, 600)) / 29
         self.assertGreater(few, many)
-        self.assertGreater(JOINING.before(400), CROSSING.before(400))
+        self.assertGreater(JOINING.before(400, 400, 400), CROSSING.before(400, 400, 400))
 
     def test_those_who_join_follow_each_other_slowly(self):
         red = bytearray(12)
@@ -118,6 +119,33 @@ class Reds(unittest.TestCase):
         alone = red_seconds(waiting, {(0, 0, 1): [30.0], (2, 0, 1): [60.0]}, 0, 90)
         two = red_seconds(waiting, {(0, 0, 1): [30.0], (2, 0, 1): [60.0, 63.0]}, 0, 90)
         self.assertEqual([at for at in range(90) if two[at] > alone[at]], [at for at in range(45, 80) if at % 5 > 2])
+
+    def test_who_has_to_stop_follows_slowly(self):
+        # Two seconds of eight are green near those who pass, whether or not others come.
+        waiting = Waiting(1, ((2, 0, 1),), (), Pace(2, 6.0))
+        red = red_seconds(waiting, {(2, 0, 1): [60.0], (2, 0, 3): [100.0]}, 0, 200)
+        near = [*range(45, 75), *range(85, 115)]
+        self.assertEqual([at for at in range(200) if red[at]], [at for at in near if at % 8 > 1])
+        self.assertEqual(waiting_of([waiting.written()]), [waiting])
+
+    def test_where_all_stop_more_traffic_makes_it_slower(self):
+        foes = (Foe(0, 0, 1, Gap(0.0, 0.0, 0.0), False),)
+        waiting, own = Waiting(1, ((2, 0, 1),), foes, Pace(2, 4.0, 10.0)), [float(at) for at in range(0, 600, 10)]
+        alone = red_seconds(waiting, {(2, 0, 1): own, (0, 0, 1): [1.0]}, 0, 600)
+        many = red_seconds(waiting, {(2, 0, 1): own, (0, 0, 1): own}, 0, 600)  # 360 an hour: 3.6 s more
+        self.assertAlmostEqual(sum(alone) / 600, 4 / 6, delta=0.02)
+        self.assertAlmostEqual(sum(many) / 600, 7.6 / 9.6, delta=0.03)
+
+    def test_lanes_side_by_side_count_each_for_itself(self):
+        gap = Gap(7.0, 10.0, 0.0, 0.0, 0.5)
+        foes = tuple(Foe(link, lane, 9, gap, False, street) for link, lane, street in ((0, 0, 0), (0, 1, 0), (1, 0, 1)))
+        times = [(100.0 + at, foe) for at in range(50) for foe in foes]
+        counts = Counts(times)
+        lane, street, every = counts.around(100.0, foes[0])
+        self.assertEqual((lane, street, every), (300.0, 600.0, 900.0))
+        self.assertAlmostEqual(gap.before(lane, street, every), 7.0 - 10.0 * (0.3 + 0.5 * 0.3))
+        self.assertEqual(CROSSING.across(1), CROSSING)
+        self.assertAlmostEqual(CROSSING.across(3).seconds - CROSSING.seconds, 0.6)
 
     def test_those_who_follow_closely(self):
         self.assertEqual(list(followings([10, 20, 90, 200, 214, 228])), [(-5, 35), (185, 243)])

@@ -66,7 +66,7 @@ class Hands(PageCase):
             self.idle(browser)
             self.assertEqual((self.seen(browser)[3], browser.execute_script("return playing")), (4, False))
             self.choose(browser, 1, 0, 0.55)
-            self.assertIn("Lane b_0", browser.execute_script("return at('title').textContent"))
+            self.assertIn("b, towards C", browser.execute_script("return at('title').textContent"))
             self.press(browser, Keys.ESCAPE)
             self.assertEqual(browser.execute_script("return [chosen, at('chosen').textContent]"), [None, ""])
 
@@ -105,16 +105,16 @@ class Hands(PageCase):
             self.put(browser, "cell", 2)
             self.put(browser, "period", 5)
             self.click(browser, "Place it")
-            self.assertIn("detector 0 is placed", browser.execute_script("return at('chosen').textContent"))
+            self.assertIn("the detector is placed", browser.execute_script("return at('chosen').textContent"))
             self.assertEqual(self.charts(browser), ["no period is over yet"])
             browser.execute_script("scene.scale = 40; scene.x = 140; scene.moved = true; draw(1)")
             self.steps(browser, 18)
             rows = browser.execute_script(
                 "return [...at('queues').rows].map(row => [...row.cells].slice(0, 3).map(cell => cell.textContent))"
             )
-            self.assertEqual(rows[1:], [["a_0", "3", "0"]])
+            self.assertEqual(rows[1:], [["a", "3", "0"]])
             browser.execute_script("at('queues').rows[1].click()")
-            self.assertIn("Lane a_0", browser.execute_script("return at('title').textContent"))
+            self.assertIn("a, towards B", browser.execute_script("return at('title').textContent"))
             self.steps(browser, 22)
             self.assertEqual(browser.execute_script("return at('queues').rows.length"), 1)
             [chart] = self.charts(browser)
@@ -126,25 +126,6 @@ class Hands(PageCase):
         return browser.execute_script(
             "return [...document.querySelectorAll('#detectors canvas')].map(chart => chart.title)"
         )
-
-    def test_a_plan_by_its_ticks(self):
-        """One phase more, green for the movement: it is sent, and the vehicles go before the run's own green comes."""
-        with self.bridge() as bridge, self.browser() as browser:
-            self.open(browser, bridge.address)
-            self.choose(browser, 0, 0, 1)
-            self.assertIn("Signal at B", browser.execute_script("return at('title').textContent"))
-            self.click(browser, "One phase more")
-            self.put(browser, "phase0", 5)
-            self.put(browser, "phase1", 50)
-            browser.execute_script("return document.querySelectorAll('#chosen input[type=checkbox]')")[1].click()
-            self.click(browser, "Set the plan")
-            self.assertIn("set: a cycle of 55 s", browser.execute_script("return at('chosen').textContent"))
-            self.assertEqual(browser.execute_script("return session.plans.get(1).phases"), [[5, []], [50, [[0, 0, 1]]]])
-            self.steps(browser, 16)
-            passed = browser.execute_script(
-                "return session.count.arrived + [...cars.values()].filter(([link]) => link.number === 1).length"
-            )
-            self.assertEqual(passed, 3)
 
     def test_names_appear_where_one_points(self):
         from selenium.webdriver.common.action_chains import ActionChains
@@ -205,7 +186,7 @@ class Hands(PageCase):
             touched = (box[0] + place[0], box[1] + place[1])
             self.touch(browser, "touchStart", touched)
             self.touch(browser, "touchEnd")
-            self.wait(browser, "return at('title').textContent.startsWith('Lane b_0')")
+            self.wait(browser, "return at('title').textContent.startsWith('b, towards C')")
 
 
 if __name__ == "__main__":

@@ -4,11 +4,12 @@ import json
 import unittest
 
 from support import FORK, PROGRAM, SCENARIOS, SHARED, Case, lane, needs_simulator, needs_sumo_tools, net
-from streetsim.client import Client
-from streetsim.files import Fault
-from streetsim.sumo.importing import convert, refuse_over_limits
+from streetsim.base.client import Client
+from streetsim.base.files import Fault
+from streetsim.base.report import Report
+from streetsim.importing.convert import convert
+from streetsim.sumo.converting import refuse_over_limits
 from streetsim.sumo.network import Options
-from streetsim.sumo.report import Report
 
 
 class Networks(Case):
@@ -38,6 +39,50 @@ class Networks(Case):
             self.assertEqual(self.one_street(speed=kmh / 3.6).limit, limit, kmh)
         for metres, cells in ((0.1, 1), (7.5, 1), (75, 10), (78.7, 10), (78.8, 11)):
             self.assertEqual(self.one_street(metres=metres).cells, cells, metres)
+
+    def test_speeds_between_the_limits(self):
+        # One alone takes as long as in SUMO, within half a cell: so many cells at the limit that is nearest.
+        for kmh in (20, 30, 35, 40, 60):
+            street = self.one_street(speed=kmh / 3.6, metres=600)
+            self.assertAlmostEqual(street.cells / (street.limit - 0.17), 600 / (kmh / 3.6), delta=0.6)
+        self.one_street(speed=30 / 3.6, metres=600)
+        why = "22 km/h when free, on 25 % fewer cells, so that it takes as long as in SUMO"
+        self.assertEqual(self.said.warnings, [f"30 km/h becomes 1 cells a step, {why}: 1 links"])
+
+    def test_a_street_with_fewer_cells_has_room_in_the_buffers_before_it(self):
+        edges = [("a", "A", "B", [lane("a", 0)]), ("b", "B", "C", [lane("b", 0, 300.0, 30 / 3.6)])]
+        network, *_ = self.network(net(edges, [("a", 0, "b", 0, "")]))
+        usual, street = Options().buffer, network.links[1]
+        self.assertEqual(network.buffers, [usual, usual + 40 - street.cells, usual])
+        self.assertEqual([node[2] for node in network.load()["nodes"]], network.buffers)
+
+    def test_what_is_not_modelled_is_named(self):
+        ends = [("a", "A", "C", [lane("a", 0)]), ("b", "B", "C", [lane("b", 0)]), ("c", "C", "D", [lane("c", 0)])]
+        made = net(ends, [("a", 0, "c", 0, ""), ("b", 0, "c", 0, "")])
+        made = made.replace('<junction id="C" type="priority"', '<junction id="C" type="zipper"')
+        self.network(made.replace('state="M"', 'state="Z"'))
+        self.assertIn("1 junctions are of type zipper, which does nothing here: C", self.said.warnings)
+        told = next(text for text in self.said.warnings if "the state 'Z', which does nothing here" in text)
+        self.assertEqual(sorted(self.said.more[told][1]), ["a", "b"])
+        self.network(made.replace("zipper", "priority_stop"))
+        self.assertFalse([text for text in self.said.warnings if "does nothing here" in text])
+
+    def test_a_ring_whose_entries_go_first(self):
+        """Three nodes in a ring; at each a street enters."""
+        ring = [(f"r{at}", f"N{at}", f"N{(at + 1) % 3}", [lane(f"r{at}", 0, 20.0)]) for at in range(3)]
+        entries = [(f"e{at}", f"E{at}", f"N{at}", [lane(f"e{at}", 0)]) for at in range(3)]
+        ways = [(f"r{at}", 0, f"r{(at + 1) % 3}", 0, f'via=":N{(at + 1) % 3}_0_0"') for at in range(3)]
+        ways += [(f"e{at}", 0, f"r{at}", 0, f'via=":N{at}_1_0"') for at in range(3)]
+        told = "a ring whose entries go first, which fills and locks as in SUMO: edges r0, r1, r2"
+        for responses, count in (("10 00", 1), ("00 01", 0)):
+            made = net([*ring, *entries], ways)
+            for at in range(3):
+                rows = "".join(f'<request index="{n}" response="{bits}"/>' for n, bits in enumerate(responses.split()))
+                old = f'<junction id="N{at}" type="priority" x="0" y="0"/>'
+                made = made.replace(old, f'{old[:-2]}>{rows}</junction>')
+            made = made.replace('state="M"', 'state="m"')
+            self.network(made)
+            self.assertEqual(self.said.warnings.count(told), count, self.said.warnings)
 
     def test_warnings_of_rules(self):
         self.one_street(speed=30 / 3.6, metres=3)

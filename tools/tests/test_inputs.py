@@ -5,9 +5,9 @@ import json
 import unittest
 
 from support import FORK, MAP, NUMBERED, Case
-from streetsim.files import Fault, elements, open_text, read_json
-from streetsim.run.runs import read_run
-from streetsim.study.studying import read_study
+from streetsim.base.files import Fault, elements, open_text, read_json
+from streetsim.model.runs import read_run
+from streetsim.study.variants import read_study
 
 MARK = b"\xef\xbb\xbf"  # a byte order mark
 ENTER = {"cmd": "enter", "plan": [0, 1], "lane": 0, "depart": 0}

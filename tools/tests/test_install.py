@@ -10,10 +10,12 @@ from importlib.util import find_spec
 from pathlib import Path
 
 from support import MAP, NUMBERED, PROGRAM, TOOLS, Case, lane, needs_package, needs_simulator, net
-from streetsim.files import Fault
-from streetsim.program import BUILT, find_program
+from streetsim.base.files import Fault
+from streetsim.base.program import BUILT, find_program
 
-COMMANDS = ("compare", "export", "import", "live", "play", "plot", "report", "route", "run", "signals", "study")
+COMMANDS = (
+    "compare", "demand", "export", "import", "live", "play", "plot", "report", "route", "run", "signals", "study",
+)
 PIP = [sys.executable, "-m", "pip"] if find_spec("pip") else [shutil.which("pip")] if shutil.which("pip") else None
 
 

@@ -9,15 +9,16 @@ from support import MAP, NUMBERED, PROGRAM, TOOLS, Case, needs_simulator
 from streetsim.junctions import reporting
 from streetsim.junctions.capacity import usual_flow
 from streetsim.junctions.facing import facing
-from streetsim.junctions.layout import PRIORITY, SIGNALS, Approach, Greens, approaches_of, turn_name
-from streetsim.junctions.measures import STOP_LOSS, Measures, Totals, stop_loss, together
-from streetsim.junctions.passages import Passages, discharges, queue_metres
-from streetsim.junctions.rows import APPROACHES, JUNCTIONS, MOVEMENTS, Tables
+from streetsim.junctions.layout import Approach, Greens, approaches_of, turn_name, ways_that_stop
+from streetsim.junctions.measures import Measures, Totals, stop_loss, together
+from streetsim.junctions.passages import Passages, discharges, queue_metres, who_stand
+from streetsim.junctions.rows import Tables
 from streetsim.junctions.sampling import LOOKS, Sampled, moments
-from streetsim.junctions.service import level, percentile
-from streetsim.run.mapping import map_from
-from streetsim.run.tables import read_table
-from streetsim.sumo.conflicts import Foe, Gap, Waiting
+from streetsim.model.mapping import map_from
+from streetsim.model.runs import run_of_texts
+from streetsim.model.service import PRIORITY, ROUNDABOUT, SIGNALS, STOP_LOSS, level, percentile
+from streetsim.model.tables import APPROACHES, JUNCTIONS, MOVEMENTS, read_table
+from streetsim.model.waiting import Foe, Gap, Waiting
 
 CORRIDOR = TOOLS / "examples/corridor"
 # The light is red in steps 0 to 4 of each 10, then green.
@@ -58,6 +59,59 @@ def cross(left):
     links = [SimpleNamespace(edge=name) for name in names]
     plans = [turns["wc ce"], turns["ec cw"], (at["nc"], at["cs"])] * 100 + [turns["wc cn"]] * left
     return SimpleNamespace(links=links, nodes=[["C"]], yields=waiting), plans
+
+
+def street(**more):
+    """A map of links from node to node, {name: (begin, end)}, whose turns are where one ends and another begins."""
+    ends = {name: pair for name, pair in more.items() if isinstance(pair, tuple)}
+    links = [[name, [0], *pair, 10, 2, 75.0, [[pair[0], 0], [pair[1], 0]]] for name, pair in ends.items()]
+    turns = [
+        [at, 0, to, 0, None, 0, False]
+        for at, (_, end) in enumerate(ends.values())
+        for to, (begin, _) in enumerate(ends.values())
+        if end == begin
+    ]
+    nodes = [[f"N{at}", at, 0, 1] for at in range(1 + max(max(pair) for pair in ends.values()))]
+    return map_from("", {**MAP, "nodes": nodes, "links": links, "turns": turns, "signals": [], **more.get("also", {})})
+
+
+class Approaches(unittest.TestCase):
+    def test_back_to_the_last_junction(self):
+        """Edges a, b, c lead one to the other to the light; before a two streets meet."""
+        mapping = street(
+            y=(0, 2), z=(1, 2), x=(2, 9), a=(2, 3), b=(3, 4), c=(4, 5), d=(5, 6), also={"signals": [["L", 5]]}
+        )
+        approach = approaches_of(mapping)["c"]
+        names = [mapping.links[link].edge for link in approach.all_links]
+        self.assertEqual((names, approach.whole), (["c", "b", "a"], 225.0))
+
+    def test_not_through_a_node_where_another_street_begins(self):
+        mapping = street(a=(0, 1), b=(1, 2), off=(1, 4), c=(2, 3), also={"signals": [["L", 2]]})
+        self.assertEqual(approaches_of(mapping)["b"].before, [])
+
+    def test_a_roundabout_is_a_junction_whose_approaches_are_its_entries(self):
+        ring = {"p": (0, 1), "q": (1, 2), "r": (2, 0)}
+        streets = {"in0": (3, 0), "in1": (4, 1), "out2": (2, 5)}
+        mapping = street(**ring, **streets, also={"rings": [*ring]})
+        found = {edge: (one.junction, one.control) for edge, one in approaches_of(mapping).items()}
+        self.assertEqual(found, dict.fromkeys(("in0", "in1"), ("N0", ROUNDABOUT)))
+        self.assertEqual(level(12, ROUNDABOUT), "B")
+
+
+    def test_who_has_to_stop(self):
+        for pace, ways in (([2, 4.15, 0.0], {("a", "b")}), ([], set())):
+            mapping = street(a=(0, 1), b=(1, 2), also={"yields": [[1, [[0, 0, 1]], [], pace]]})
+            self.assertEqual(ways_that_stop(mapping), ways)
+
+
+class Standing(unittest.TestCase):
+    def test_who_dawdles_at_a_limit_of_one_does_not_stand(self):
+        """Only who has somebody, or the end, right before it."""
+        slow = ["a", [0], 0, 1, 10, 1, 75.0, [[0, 0], [75, 0]]]
+        link = map_from("", {**MAP, "links": [slow, MAP["links"][1]]}).links[0]
+        cells = [[0, 9, 0], [1, 8, 0], [2, 5, 0], [3, 2, 1]]
+        self.assertEqual(who_stand(cells, link), [True, True, False, False])
+        self.assertEqual(who_stand(cells, map_from("", MAP).links[0]), [True, True, True, False])
 
 
 class Definitions(unittest.TestCase):
@@ -213,7 +267,10 @@ class Sampling(unittest.TestCase):
         for gaining speed would do, and stand 5 s together. Half of the time is green, and 360 vehicles an hour come to
         a lane that passes 2,400."""
         mapping = map_from("", MAP)
-        made = Sampled(mapping, approaches_of(mapping), [[0, SIGNAL]], 0, PLANS, [0, 2, 5], [10, 12, 12], 20, 0)
+        pairs = zip(PLANS, (0, 2, 5), strict=True)
+        enters = [{"cmd": "enter", "plan": plan, "depart": depart} for plan, depart in pairs]
+        run = run_of_texts("", map(json.dumps, [{"cmd": "load", "dawdle": 0}, SIGNAL, *enters]))
+        made = Sampled(mapping, approaches_of(mapping), run, [10, 12, 12], 20)
         for clock, lanes in [*FRAMES, *((clock, []) for clock in range(11, 21))]:
             made.see({"clock": clock, "lanes": lanes})
         lost = made.finish().interval(0, 20).lost["a", "b"]
@@ -255,13 +312,13 @@ class OfARun(Case):
             self.assertTrue(0 < float(row["v_c"]) < 1)
 
     def test_a_queue_beyond_a_short_approach(self):
-        """A street of 75 m before an approach of 15 m: what stands on the street is in no row, which is said; not where
-        the approach has room for all."""
-        for cells, count, said in ((2, 9, True), (2, 1, False), (20, 9, False)):
+        """A street of 75 m before an approach of 15 m, which another street joins: what stands on these is in no row,
+        which is said; not where the approach has room for all, nor where it alone continues the street."""
+        for cells, count, joins, said in ((2, 9, 1, True), (2, 1, 1, False), (20, 9, 1, False), (2, 9, 0, False)):
             nodes = [["A", 0, 0, 1], ["P", 75, 0, 1], ["B", 90, 0, 1], ["C", 165, 0, 1]]
-            ends = (("z", 0, 1, 10), ("a", 1, 2, cells), ("b", 2, 3, 10))
+            ends = [("z", 0, 1, 10), ("a", 1, 2, cells), ("b", 2, 3, 10), *[("y", 3, 1, 10)] * joins]
             links = [[name, [0], *pair, long, 5, 7.5 * long, [[0, 0], [1, 0]]] for name, *pair, long in ends]
-            turns = [[0, 0, 1, 0, "", 0, False], [1, 0, 2, 0, "L", 0, False]]
+            turns = [[0, 0, 1, 0, "", 0, False], [1, 0, 2, 0, "L", 0, False], *[[3, 0, 1, 0, "", 0, False]] * joins]
             more = {"nodes": nodes, "links": links, "turns": turns, "signals": [["L", 2]]}
             more["cars"] = [f"v{number}" for number in range(count)]
             load = {**NUMBERED, "nodes": [[at, 1, 2] for at in range(4)], "turns": [turn[:4] for turn in turns]}
@@ -281,13 +338,17 @@ class OfARun(Case):
             page = (self.folder / "page.html").read_text(encoding="utf-8")
             self.assertEqual("nothing speaks against this run" in page, not said)
             self.assertEqual(f"<li>seed 0: {why}" in page, said)
+            row = self.table("out", "approaches", APPROACHES)[0]
+            whole = float(row["storage_m"]) == 7.5 * (cells + 10)
+            self.assertEqual((row["approach"], whole), ("a", not joins))
+            self.assertEqual(float(row["queue_max_m"]) > 7.5 * cells, not joins)
 
     def test_random_moments_are_near(self):
         """The mean delay of approaches within the error that is stated, for most of them."""
         self.run_corridor("out", "--junctions", "1800")
         before, reporting.EXACT_RUNS = reporting.EXACT_RUNS, 0
         self.addCleanup(setattr, reporting, "EXACT_RUNS", before)
-        from streetsim.run.running import main
+        from streetsim.cli.run import main
 
         run, mapped = self.folder / "run.jsonl", self.folder / "map.json"
         words = [

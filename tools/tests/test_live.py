@@ -2,11 +2,10 @@
 import http.client
 import json
 import subprocess
-import time
 import unittest
 
 from pages import LiveCase, PageCase, needs_driver, needs_selenium
-from support import MAP, PAGE_MODULE, PROGRAM, needs_page_module, needs_page_program, needs_simulator
+from support import BUILT_PAGE, MAP, PAGE_MODULE, PROGRAM, needs_page_module, needs_page_program, needs_simulator
 from streetsim.live.bridge import MOST_LINE
 from streetsim.live.page import data_of, page_of
 
@@ -14,12 +13,13 @@ from streetsim.live.page import data_of, page_of
 CHANGES = """
 globalThis.press = name => [...document.querySelectorAll('#chosen button')]\
 .find(one => one.textContent === name).click();
-globalThis.fill = (name, value) => { const box = at(name); box.value = value; box.dispatchEvent(new Event('input')); };
+globalThis.fill = (name, value) => { const box = at(name); box.value = value; \
+for (const kind of ['input', 'change']) box.dispatchEvent(new Event(kind)); };
 globalThis.changes = () => session.sent.filter(([line]) => JSON.parse(line).cmd !== 'advance').length;
 globalThis.changeOnce = async i => {
-  if (i % 5 === 4) { choose({ node: 1 }); fill('phase0', 5 + i % 60); press('Set the plan'); }
+  if (i % 5 === 4) { choose({ node: 1 }); fill('seconds', 5 + i % 60); press('Set the plan'); }
   else {
-    choose({ link: session.data.links[i % 2], lane: 0, first: i % 7, last: i % 7 + 2 });
+    choose({ link: session.data.links[i % 2], lanes: [0], begin: 7 * (i % 7), end: 7 * (i % 7) + 20 });
     if (i % 50 === 0) press('Place it'); else press(i % 3 ? 'Close' : 'Reopen');
   }
   await turn;
@@ -142,18 +142,18 @@ class Page(PageCase):
             # By hand: one vehicle is in its cell, two wait.
             self.assertEqual((self.shown(browser)["driving"], self.shown(browser)["seen"]), (1, 1))
             self.choose(browser, 1, 0, 0.55)
-            self.put(browser, "first", 4)
-            self.put(browser, "last", 6)
+            self.put(browser, "first", 30)
+            self.put(browser, "last", 52)
             self.click(browser, "Close")
             self.assertEqual(self.shown(browser)["closed"], 1)
-            self.put(browser, "cell", 2)
+            self.put(browser, "cell", 15)
             self.put(browser, "period", 5)
             self.click(browser, "Place it")
             self.choose(browser, 0, 0, 1)
-            self.put(browser, "phase0", 700)
+            self.put(browser, "seconds", 700)
             self.click(browser, "Set the plan")
             self.assertIn("BadSignal", browser.execute_script("return at('chosen').textContent"))
-            self.put(browser, "phase0", 30)
+            self.put(browser, "seconds", 30)
             self.click(browser, "Set the plan")
             for _ in range(8):
                 self.click(browser, "step")
@@ -162,7 +162,7 @@ class Page(PageCase):
             self.click(browser, "Take it out")
             self.click(browser, "step")
             self.assertEqual(self.shown(browser)["clock"], 10)
-            self.put(browser, "second", 9)
+            self.put(browser, "second", "0:00:09")
             self.click(browser, "back")
             self.assertEqual(self.shown(browser)["clock"], 9)
             for _ in range(20):
@@ -172,25 +172,18 @@ class Page(PageCase):
             saved = self.downloaded("session.jsonl")
         replies = self.replayed(saved)
         self.assertEqual(replies[5:], [reply for _, reply in record])
-        self.assertTrue(any('"cmd":"close"' in line for line, _ in record))
+        closed = '{"cmd":"close","link":1,"lane":0,"first":4,"last":6}'
+        self.assertIn(closed, [line for line, _ in record])
         # The run's own green at second 20 is among the lines, and what was done at second 9 is not,
         # as the page went back there.
         self.assertTrue(any('"at": 20' in line for line, _ in record))
         self.assertFalse(any("takeout" in line for line, _ in record))
 
-    def downloaded(self, name):
-        """The text of a file that the browser saves, once it is there; it goes by another name until then."""
-        for _ in range(300):
-            if (self.folder / name).exists():
-                return (self.folder / name).read_text()
-            time.sleep(0.1)
-        return self.fail(f"{name} was not saved")
-
     def change_often(self, browser, count):
         """Makes so many changes by the page's own buttons, with steps between them: closures,
         reopenings, plans, detectors."""
         browser.execute_script(CHANGES)
-        browser.set_script_timeout(300)
+        browser.set_script_timeout(600)
         told = browser.execute_async_script(
             "const done = arguments[1]; makeChanges(arguments[0]).then(() => done(''), fault => done(String(fault)))",
             count,
@@ -218,6 +211,8 @@ class Page(PageCase):
         page = self.folder / "page.html"
         told = self.tool("live", self.run_path, "--map", self.map_path, "--program", PAGE_MODULE, "-o", page)[0]
         self.assertIn("its translation for browsers, the browser and the page's script are tested, not proved", told)
+        proved = PAGE_MODULE.resolve() == BUILT_PAGE.with_suffix(".wasm").resolve()
+        self.assertEqual("The program is proved" in told, proved)
         with self.browser() as browser:
             self.open(browser, page.as_uri())
             self.assertEqual(browser.execute_script("return performance.getEntriesByType('resource').length"), 0)

@@ -9,11 +9,12 @@ from pathlib import Path
 from xml.etree import ElementTree
 
 from support import MAP, NUMBERED, PROGRAM, TOOLS, Case, needs_package, needs_simulator, needs_sumo_tools
-from streetsim.files import Fault
-from streetsim.outputs.writing import KINDS, Outputs, write_from_folder
-from streetsim.run.folder import read_folder
-from streetsim.run.mapping import map_from
-from streetsim.run.tables import AREAS, EDGES, LOOPS, SUMMARY, TRIPS, read_table
+from streetsim.base.files import Fault
+from streetsim.model.folder import read_folder
+from streetsim.model.mapping import map_from
+from streetsim.model.tables import AREAS, EDGES, LOOPS, SUMMARY, TRIPS, read_table
+from streetsim.outputs.kinds import KINDS
+from streetsim.outputs.writing import Outputs, write_from_folder
 
 SUMO = Path("/usr/share/sumo")
 SCHEMAS = {

@@ -9,10 +9,11 @@ import unittest
 from unittest import mock
 
 from support import DATA, MAP, PROGRAM, Case, needs_package, needs_simulator
-from streetsim.files import Fault
-from streetsim.pictures import ring, series
-from streetsim.run.folder import read_folder
-from streetsim.run.tables import COUNTS, QUEUES, TRIPS
+from streetsim.base.files import Fault
+from streetsim.model.folder import read_folder
+from streetsim.model.tables import COUNTS, QUEUES, TRIPS
+from streetsim.pictures import ring
+from streetsim.results import series
 
 CHROMIUM = shutil.which("chromium") or shutil.which("chromium-browser")
 DRAWS = (
@@ -43,7 +44,9 @@ class Given(Case):
         ]
         self.write_polls(polls)
         self.write("trips.csv", ",".join(TRIPS) + "\nv,0,30,30,4,26,2,0,arrived\nw,1,,,4,,2,0,cell\n")
-        self.write("queues.csv", ",".join(QUEUES) + "\n10,a,0,3,22.5\n20,a,0,1,7.5\n20,b,0,2,15\n")
+        rows = ("10,a,0,3,22.5", "20,a,0,1,7.5", "20,b,0,2,15")
+        lines = [",".join(QUEUES), *(f"{row},stop line" for row in rows)]
+        self.write("queues.csv", "".join(f"{line}\n" for line in lines))
         self.write(
             "counts.csv",
             ",".join(COUNTS)

@@ -3,8 +3,8 @@ import io
 import unittest
 
 import support  # noqa: F401  # which finds the package
-from streetsim.cli.progress import Meanwhile, UnderWay
-from streetsim.client import Census
+from streetsim.base.client import Census
+from streetsim.base.progress import Meanwhile, UnderWay
 
 
 class Terminal(io.StringIO):

@@ -8,14 +8,14 @@ import subprocess
 import unittest
 
 from support import MAP, PROGRAM, TOOLS, Case, needs_package, needs_simulator
+from streetsim.cli.report import leads_back
 from streetsim.junctions.passages import queue_metres
-from streetsim.junctions.rows import APPROACHES, JUNCTIONS, MOVEMENTS
+from streetsim.model.mapping import MapLink
+from streetsim.model.service import COLOURS, LIGHT
+from streetsim.model.tables import APPROACHES, JUNCTIONS, MOVEMENTS, SEEDS, TRIPS, write_table
 from streetsim.reports.comparing import paired, total_delay
-from streetsim.reports.drawing import COLOURS, LIGHT, anchor, queue_picture
-from streetsim.reports.reading import read_runs
-from streetsim.reports.reporting import leads_back
-from streetsim.run.mapping import MapLink
-from streetsim.run.tables import SEEDS, TRIPS, write_table
+from streetsim.reports.drawing import anchor, queue_picture
+from streetsim.results.reading import read_runs
 
 CHROMIUM = shutil.which("chromium") or shutil.which("chromium-browser")
 CORRIDOR = TOOLS / "examples/corridor"
@@ -117,7 +117,7 @@ class Pages(Given):
         row = runs.rows["movements", 0, 900]["B", "a", "b"]
         self.assertEqual((row.delay, row.letter(), list(runs.folders)), (92.0, "F", [1, 2]))
         self.assertEqual(total_delay(runs.rows["junctions", 0, 900].values()), {1: 90.0, 2: 94.0})
-        self.assertEqual((runs.busiest(), runs.trips()), ((0, 900), {1: 101.0, 2: 102.0}))
+        self.assertEqual((runs.busiest(), runs.mean_trips()), ((0, 900), {1: 101.0, 2: 102.0}))
 
     def test_what_the_page_says(self):
         text = re.sub("<[^>]*>", " ", self.page(*self.plans()).read_text().partition("<main")[2])

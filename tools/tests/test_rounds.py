@@ -6,18 +6,20 @@ import unittest
 import warnings
 from contextlib import redirect_stderr
 from io import StringIO
-from types import SimpleNamespace
 from unittest import mock
 
 from clusters import ClusterCase, needs_distributed
 from support import PROGRAM, Case, lane, needs_simulator
-import streetsim.traci as traci
-from streetsim.files import Fault
+from streetsim.base.files import Fault
+from streetsim.outputs.folder import Making
+from streetsim.pictures.plots import Corridor
 from streetsim.scenario import Scenario
+from streetsim.sessions import giving
 from streetsim.signals import found
+from streetsim.signals.found import Target
 from streetsim.signals.town import Reading, read_town
-from streetsim.study import giving
-from streetsim.study.studying import read_study
+from streetsim.study.variants import read_study
+import streetsim.traci as traci
 
 LAST = 4500  # seconds; counted from 600 on
 
@@ -105,8 +107,8 @@ class Minor(Rounds):
 
     def test_what_the_import_says_and_writes(self):
         self.assertIn("1 connections have to give way in SUMO", self.told)
-        [(node, turns, foes)] = json.loads((self.folder / "map.json").read_text(encoding="utf-8"))["yields"]
-        self.assertEqual((turns, [foe[:3] for foe in foes]), ([[2, 0, 1]], [[0, 0, 1]]))
+        [(node, turns, foes, pace)] = json.loads((self.folder / "map.json").read_text(encoding="utf-8"))["yields"]
+        self.assertEqual((turns, [foe[:3] for foe in foes], pace), ([[2, 0, 1]], [[0, 0, 1]], []))
 
     def test_polls_are_as_seldom_as_the_calls_need(self):
         for calls, every in ((110, 300), (120, 120), (140, 60)):
@@ -252,15 +254,15 @@ class ManyRuns(Many):
     def test_pictures_of_plans_have_their_gaps(self):
         files = [str(self.folder / name) for name in ("run.jsonl", "map.json", "net.net.xml")]
         town = read_town(Reading(*files[:2], files[2:], 600, PROGRAM, 5, (), 2))
-        words = SimpleNamespace(run=files[0], program=PROGRAM, until=600, last=300, first=0, edges="w,e", rounds=2)
+        target = Target("", "", Corridor(["w", "e"], 0, 300), Making(PROGRAM, 2), 600)
         drawn = []
 
         def draw(_, folder, __):
             with open(f"{folder.path}/setting.json", encoding="utf-8") as file:
                 drawn.append(json.load(file)["yielding"])
 
-        with mock.patch.multiple(found.plots, drawing=mock.DEFAULT, save=mock.DEFAULT, draw_corridor=draw):
-            found.draw(words, town, town.plan, "x.png")
+        with mock.patch.multiple(found, drawing=mock.DEFAULT, save=mock.DEFAULT, draw_corridor=draw):
+            found.draw(target, town, town.plan, "x.png")
         self.assertEqual((drawn[0]["rounds"], drawn[0]["junctions"]), (2, 1))
         self.assertGreater(drawn[0]["lines"], 0)
 
@@ -310,7 +312,7 @@ class Scripts(Rounds):
                 self.assertEqual(sim.yielding.lines, 0)
 
     def test_a_scenario_warns_where_calls_do_not_suffice(self):
-        with mock.patch("streetsim.client.most_calls", lambda _: 260):
+        with mock.patch("streetsim.base.client.most_calls", lambda _: 260):
             with self.assertWarnsRegex(
                 UserWarning, r"nobody gives way without a light: the run needs some \d+ calls .* takes 260"
             ):

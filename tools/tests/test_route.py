@@ -3,6 +3,7 @@ interrupts, equal bytes."""
 import csv
 import gzip
 import json
+import math
 import os
 import signal
 import subprocess
@@ -16,21 +17,24 @@ from types import SimpleNamespace
 
 from clusters import ClusterCase, needs_distributed
 from support import DATA, PROGRAM, SCENARIOS, TOOLS, Case, lane, needs_simulator, needs_sumo_tools, net
-from streetsim.files import Fault
-from streetsim.routes.costs import Costs, Table, costs_of, flat_costs, nothing_observed
+from streetsim.base.files import Fault
+from streetsim.base.report import Report
+from streetsim.model.mapping import Map, MapLink, read_map
+from streetsim.model.runs import Line, Run, read_run
+from streetsim.model.waiting import Gap
 from streetsim.routes.diverting import Diverted
-from streetsim.routes.graph import END, Graph
 from streetsim.routes.loading import read_town
 from streetsim.routes.passes import Passes, Sight
-from streetsim.routes.router import FAR, Found, Router, Wish, parts_of
 from streetsim.routes.search import Asked, Search, Seen, changes, gap_of, give, is_still, paths_after, steps_of
-from streetsim.routes.seconds import reds
-from streetsim.routes.trips import Trip, read_trips
 from streetsim.routes.watching import Ground, watched
-from streetsim.run.mapping import Map, MapLink, read_map
-from streetsim.run.runs import read_run
+from streetsim.sumo.net import SumoNet
 from streetsim.sumo.network import Options
-from streetsim.sumo.report import Report
+from streetsim.ways.costs import Costs, Table, costs_of, flat_costs, nothing_observed
+from streetsim.ways.graph import END, Graph
+from streetsim.ways.minor import Minor
+from streetsim.ways.router import FAR, Found, Router, Wish, parts_of
+from streetsim.ways.seconds import reds
+from streetsim.ways.trips import Trip, read_trips
 
 # From a to d by b or by c; from b to c as well. Nobody may go from c to d's twin e.
 GRAPH = Graph(
@@ -112,6 +116,18 @@ class Seconds(unittest.TestCase):
         self.assertAlmostEqual(costs.means[way("a", "c")][0], 10 + 10)
         self.assertEqual(costs.means[way("b", "d")], 10.0)
 
+    def test_what_nobody_takes_yet_costs_the_wait_for_a_gap(self):
+        """From b to d one crosses those from c to d, 360 an hour in the first slice and nobody later: of whom each
+        needs 5 s, so in traffic at random (e^0.5 - 1) / 0.1 - 5 s pass on the mean."""
+        minor = Minor(GRAPH, SumoNet())
+        minor.foes = {way("b", "d"): [(way("c", "d"), Gap(5.0, 0.0, 0.0))]}
+        observed = nothing_observed(len(GRAPH.movements), 2)
+        for _ in range(30):
+            observed.add(way("c", "d"), 0, 10)
+        means = costs_of(GRAPH, [10.0] * len(GRAPH.movements), observed, 300, minor).means[way("b", "d")]
+        self.assertAlmostEqual(means[0], 10 + (math.exp(0.5) - 1) / 0.1 - 5)
+        self.assertEqual(means[1], 10)
+
     def test_costs_do_not_fall_faster_than_time_goes_by(self):
         observed = nothing_observed(len(GRAPH.movements), 3)
         for _ in range(98):
@@ -177,6 +193,11 @@ class Steps(unittest.TestCase):
         self.assertEqual(search.improved(2)[0], [(40, False), (36, False), (0, True)])
         self.assertEqual(search.best.number, 1)
 
+    def test_a_search_tries_other_ways_before_it_ends(self):
+        """A gap that is small enough at once ends it after a step, whose ways are kept where they are better."""
+        self.assertEqual(Stepping((1, 0), (0.5, 0)).improved(3, gap=8), ([(40, False), (0, False)], {0: 40, 100: 60}))
+        self.assertEqual(Stepping((1, 0), (2, 0)).improved(3, gap=8), ([(40, False), (0, True)], {100: 100}))
+
     def test_a_search_ends_at_half_the_gap_asked_for(self):
         """By its own seed the gap is too good."""
         search = Stepping((10, 0), (5, 0), (4, 0), (1, 0))
@@ -185,10 +206,11 @@ class Steps(unittest.TestCase):
 
 class Doubts(unittest.TestCase):
     def told(self, arrived=1000, rescues=0, waiting=0):
-        outcomes = [SimpleNamespace(arrived=arrived, rescues=rescues, waiting=(waiting, 600)) for _ in range(2)]
+        seen = {"arrived": arrived, "rescues": rescues, "waiting": (waiting, 600), "at_works": ()}
+        outcomes = [SimpleNamespace(**seen) for _ in range(2)]
         outcomes[1].arrived, outcomes[1].rescues = 1000, 0
         search = SimpleNamespace(ground=SimpleNamespace(until=9000), town=SimpleNamespace(works=()))
-        loaded = SimpleNamespace(run=SimpleNamespace(enters=[]), mapping=Map([], [], [], [], [], {}, []))
+        loaded = SimpleNamespace(run=Run("run", Line(1, "", {})), mapping=Map([], [], [], [], [], {}, []))
         judged = SimpleNamespace(outcomes=outcomes, loaded=loaded)
         return Diverted(None, range(1000), search, judged).named_doubts()
 
@@ -580,7 +602,7 @@ class Looking(Case):
 
     def seen(self, calls):
         ground = Ground(PROGRAM, None, self.town.graph, 300, 10_800)
-        with unittest.mock.patch("streetsim.client.most_calls", return_value=calls):
+        with unittest.mock.patch("streetsim.base.client.most_calls", return_value=calls):
             return watched(
                 ground, self.loaded.run, self.loaded.mapping, flat_costs(self.town.graph, self.loaded.free), 1, None
             )

@@ -8,14 +8,14 @@ from types import SimpleNamespace
 
 from support import PROGRAM, Case, lane, needs_package, needs_simulator, net
 from test_route import Commands, flow, lit, two_ways
-from streetsim.files import Fault
+from streetsim.base.files import Fault
+from streetsim.model.mapping import MapLink, read_map
 from streetsim.routes.closing import Closing, common, knows, turn_off
-from streetsim.routes.costs import flat_costs
 from streetsim.routes.diverting import within_gap
-from streetsim.routes.graph import Graph
-from streetsim.routes.trips import Trip
 from streetsim.routes.underway import Turning, Waiting, WaysRound, shut_edges, turning
-from streetsim.run.mapping import MapLink, read_map
+from streetsim.ways.costs import flat_costs
+from streetsim.ways.graph import Graph
+from streetsim.ways.trips import Trip
 
 # From p to z over q, r and x; q also leads to w and z, and p to y and z.
 GRAPH = Graph(

@@ -8,10 +8,12 @@ import subprocess
 import unittest
 
 from support import FORK, MAP, NUMBERED, PROGRAM, RED, TOOLS, Case, lane, needs_simulator, net
-from streetsim.run import tables
-from streetsim.files import Fault
-from streetsim.run.record import Recorder, Settings, standing
-from streetsim.run.runs import read_run, read_with_map
+from streetsim.base.files import Fault
+from streetsim.base.seeds import interval
+from streetsim.model import tables
+from streetsim.model.runs import read_run, read_with_map
+from streetsim.run.record import Recorder, standing
+from streetsim.run.settings import Settings
 from streetsim.scenario import Scenario
 
 
@@ -65,7 +67,7 @@ class Tables(Runs):
     def test_queue_at_red(self):
         self.given(RED, enter([0, 1]), enter([0, 1]), enter([0, 1]), enter([0], 1000), cars=["x", "y", "z", "later"])
         self.run_tool("--until", 100, "--every", 100, "--rescue", 0)
-        self.assertEqual(self.table("queues.csv"), [["100", "a", "0", "3", "22.5"]])
+        self.assertEqual(self.table("queues.csv"), [["100", "a", "0", "3", "22.5", "stop line"]])
         self.assertEqual([row[-1] for row in self.table("trips.csv")], ["cell", "cell", "cell", "not departed"])
 
     def test_rescue(self):
@@ -213,7 +215,7 @@ class Reading(Runs):
 
     def test_budget_is_checked_before_the_run(self):
         self.given()
-        from streetsim.run.mapping import read_map
+        from streetsim.model.mapping import read_map
 
         def asking(most, **words):
             settings = Settings(**words)
@@ -238,9 +240,9 @@ class Reading(Runs):
 
     def test_interval(self):
         # Mean 2, standard deviation 1, three values: 4.303 / sqrt(3).
-        mean, half = tables.interval([1, 2, 3])
+        mean, half = interval([1, 2, 3])
         self.assertEqual((mean, round(half, 3)), (2, 2.484))
-        self.assertEqual(tables.interval([5]), (5, None))
+        self.assertEqual(interval([5]), (5, None))
 
 
 @needs_simulator

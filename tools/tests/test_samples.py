@@ -7,8 +7,8 @@ from collections import defaultdict
 from statistics import fmean
 
 from support import DATA, PROGRAM, SCENARIOS, Case, needs_simulator, needs_sumo_tools
-from streetsim.run.compare import correlation, counts_of, geh, trips_of
-from streetsim.run.folder import read_folder
+from streetsim.model.folder import read_folder
+from streetsim.results.compare import correlation, counts_of, geh, trips_of
 
 QUARTERS = (900, 1800, 2700, 3600, 4500, 5400)
 

@@ -4,7 +4,7 @@ import unittest
 
 from support import FORK, PROGRAM, Case, needs_simulator
 from test_route import two_ways
-from streetsim.run.tables import TRIPS, read_table
+from streetsim.model.tables import TRIPS, read_table
 from streetsim.scenario import NOWHERE, NotHere, Scenario
 
 ROUTES = '<routes><vehicle id="v" depart="0"><route edges="a b"/></vehicle></routes>'

@@ -14,18 +14,18 @@ from unittest import mock
 from unittest.mock import Mock
 
 from support import MAP, NUMBERED, PROGRAM, TOOLS, Case, lane, needs_package, needs_simulator, needs_sumo, net
-from streetsim.files import Fault
+from streetsim.base.files import Fault
+from streetsim.base.seeds import runs_needed, seeds_for, seeds_of, student
+from streetsim.model.mapping import map_from, read_map
+from streetsim.model.runs import Line, Run, read_run
+from streetsim.model.trust import of_missing
+from streetsim.sessions.prepared import Outcome, outcome, session_of, vehicle_seconds
 from streetsim.signals.formulas import tree, webster_cycle
-from streetsim.signals.light_lines import LightLines, read_plans
-from streetsim.run.mapping import map_from, read_map
-from streetsim.signals.plans import Light, Timing, light_of, spread, whole
-from streetsim.run.runs import Line, Run, read_run
-from streetsim.run.trust import of_missing
 from streetsim.signals.found import doubts_of, verdict
 from streetsim.signals.in_sumo import mean_trip
+from streetsim.signals.light_lines import LightLines, read_plans
+from streetsim.signals.plans import Light, Timing, light_of, spread, whole
 from streetsim.signals.search import Search, climb, search_plan, shift_of
-from streetsim.study.seeds import runs_needed, seeds_for, seeds_of, student
-from streetsim.study.sessions import Outcome, outcome, session_of, vehicle_seconds
 from streetsim.sumo.net import Program
 
 CORRIDOR = TOOLS / "examples/corridor"

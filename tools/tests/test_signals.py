@@ -3,12 +3,12 @@ import unittest
 from itertools import groupby
 
 from support import PROGRAM, Case, lane, needs_simulator, net
-from streetsim.pictures import series
-from streetsim.client import Client
-from streetsim.files import Fault
-from streetsim.sumo.importing import convert
+from streetsim.base.client import Client
+from streetsim.base.files import Fault
+from streetsim.base.report import Report
+from streetsim.importing.convert import convert
+from streetsim.results import series
 from streetsim.sumo.network import Options, Turn
-from streetsim.sumo.report import Report
 from streetsim.sumo.signals import joined, run_lengths, shown_green
 from streetsim.sumo.yielding import gap_capacity
 
@@ -91,6 +91,14 @@ class Signals(Case):
         self.assertEqual(shown_green("g" * 20 + "r", {0: (8, 2)}, turn, 1, True), two * 2 + [False])
         self.assertEqual(shown_green("gggg", {}, turn, 1, True), [True] * 4)
 
+    def test_right_on_red(self):
+        """So many seconds as are told are shown in the red, by twos and evenly; none where nothing is told."""
+        turn = Turn(0, "L", 0, False, 13.9, 2)
+        for seconds, at in ((0, []), (2, [14, 15]), (5, [8, 9, 10, 19, 20])):
+            shown = shown_green("s" * 30 + "r" * 10, {0: (seconds, 2)}, turn, 1, True)
+            self.assertEqual([second for second, on in enumerate(shown) if on], at)
+        self.assertEqual(shown_green("ssr", {}, turn, 1, True), [False] * 3)
+
     def test_gaps(self):
         # 400 e^-0.5 / (1 - e^-0.2778) = 1,000 an hour.
         self.assertAlmostEqual(gap_capacity(400), 1000, delta=2)
@@ -164,7 +172,10 @@ class Signals(Case):
         _, warnings = self.made(street(phases((10, "r")), kind="actuated"))
         self.assertEqual(
             warnings,
-            ["light 'L': a turn is never green on edges a", "light 'L' is actuated: its listed durations are used"],
+            [
+                "light 'L': a turn is never green on edges a",
+                "light 'L' is actuated: its listed durations are used, but where streetsim-run drives it by detectors",
+            ],
         )
 
     def test_a_light_that_the_network_does_not_have(self):

@@ -9,14 +9,14 @@ from support import FORK, PROGRAM, STREET, Case, needs_simulator
 import test_pictures
 from test_pictures import Given, needs_chromium, needs_matplotlib
 from test_runs import Runs, enter
-from streetsim.pictures import series
-from streetsim.client import BadRange, Client
-from streetsim.files import Fault
-from streetsim.sumo.importing import convert
-from streetsim.sumo.network import Options
+from streetsim.base.client import BadRange, Client
+from streetsim.base.files import Fault
+from streetsim.base.report import Report
+from streetsim.importing.convert import convert
+from streetsim.results import series
 from streetsim.run.record import standing
-from streetsim.sumo.report import Report
 from streetsim.scenario import Scenario
+from streetsim.sumo.network import Options
 
 
 def vehicles(count, kind, first=0):
@@ -157,7 +157,7 @@ class Tables(Runs):
         red = {"cmd": "signal", "node": 1, "offset": 0, "phases": [[600, []]]}
         self.given(red, {**enter([0, 1]), "size": 3}, {**enter([0, 1]), "size": 2}, cars=["long", "bus"])
         self.run_tool("--until", 900, "--every", 100)
-        self.assertIn(["100", "a", "0", "2", "37.5"], self.table("queues.csv"))
+        self.assertIn(["100", "a", "0", "2", "37.5", "stop line"], self.table("queues.csv"))
         trips = self.table("trips.csv")
         self.assertEqual([trip[-2:] for trip in trips], [["1", "arrived"]] * 2)
         with gzip.open(self.folder / "out/lanes.jsonl.gz", "rt") as file:

@@ -215,6 +215,37 @@ class StarvedProgram(RefusingCase):
             run,
         )
 
+    def test_a_session_that_is_kept(self):
+        """Two lines are done again, and the others served: what was answered is in the file."""
+        self.keep_refused(lambda number: number)
+        self.keep_refused(lambda number: NEVER)
+
+    def keep_refused(self, last_of):
+        def file_of(number):
+            return self.folder / f"{number}-{last_of(number)}.jsonl"
+
+        def run_of(number):
+            file_of(number).write_bytes(b"".join(QUEUE[:2]))
+            words = [PROGRAM, "--keep", file_of(number)]
+            return self.run_refusing(words, number, last_of(number), b"".join(QUEUE[2:]))
+
+        self.assertGreater(self.refuse_each(run_of, lambda run: self.check_kept(run, file_of(run.number))), 50)
+
+    def check_kept(self, run, file):
+        again = f"streetsim: 2 lines of {file} were done again\n".encode()
+        self.assertIn((run.status, run.error), ((0, again), (1, again + ENDED), (1, ENDED)), run)
+        self.assertEqual(run.unfreed, 0, run)
+        told = run.output.splitlines(keepends=True)
+        self.assertTrue(are_replies(QUEUE, (*QUEUED[:2], *told)), run)
+        if run.status == 0:
+            self.assertEqual(len(told), len(QUEUE) - 2, run)
+        changes = [line for line, reply in zip(QUEUE[2:-1], told) if reply != STARVED]
+        kept = file.read_bytes()
+        self.assertTrue(kept.startswith(b"".join([*QUEUE[:2], *changes])), run)
+        # No advance that stopped short is answered, and the file is whole lines.
+        self.assertNotIn(b"short", run.output)
+        self.assertTrue(kept.endswith(b"\n"))
+
     def test_a_replay_and_an_upgrade(self):
         tape = (TOP / "docs/LINES.md").read_text()
         tape = tape[tape.index('{"calls":') :].partition("```")[0]

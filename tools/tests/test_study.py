@@ -16,8 +16,8 @@ from statistics import fmean, stdev
 
 from clusters import DEBIAN, ClusterCase, free_port, needs_distributed
 from support import MAP, NUMBERED, PROGRAM, RED, TOOLS, Case, needs_simulator
-from streetsim.files import Fault
-from streetsim.study.machines import result_of
+from streetsim.base.files import Fault
+from streetsim.sessions.machines import result_of
 
 CORRIDOR = TOOLS / "examples/corridor"
 
@@ -106,7 +106,7 @@ class Tables(Studies):
         for study, told in (
             (
                 self.text(more='color = "red"'),
-                "unknown key 'color'; known are base, map, rounds, run, seeds, until, variant",
+                "unknown key 'color'; known are base, lights, map, merge, rounds, run, seeds, until, variant",
             ),
             (
                 self.text(more='base = "old"'),
@@ -238,8 +238,9 @@ class Cluster(ClusterCase, Studies):
             shutil.copy(PROGRAM, program)
             study = self.study("1-2")
             # The program changes after the tool has looked at it: what the workers have is then another one.
-            words = ["import sys; sys.path.insert(0, sys.argv[1])", "from streetsim.study import machines, studying"]
-            words += ["study = studying.read_study(sys.argv[2], sys.argv[3])"]
+            words = ["import sys; sys.path.insert(0, sys.argv[1])", "from streetsim.sessions import machines"]
+            words += ["from streetsim.study.variants import read_study"]
+            words += ["study = read_study(sys.argv[2], sys.argv[3])"]
             words += [
                 "import os; os.unlink(sys.argv[3])" if change == "unlink" else "open(sys.argv[3], 'ab').write(b'x')"
             ]
@@ -271,7 +272,7 @@ class Given(unittest.TestCase):
 
     LOST = """
 import os, time
-from streetsim.study.machines import machines
+from streetsim.sessions.machines import machines
 def lost(_):
     time.sleep(0.5)
     os.kill(os.getpid(), 9)

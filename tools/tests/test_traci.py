@@ -18,14 +18,14 @@ from support import (
     DATA, FORK, PROGRAM, SCENARIOS, TOOLS, Case, lane, needs_package, needs_simulator, needs_sumo, needs_sumo_tools,
     net,
 )
-import streetsim.traci as traci
+from streetsim.results.compare import geh
 from streetsim.scenario import TrafficLight
-from streetsim.run.compare import geh
+from streetsim.simulation.endless import Endless
+from streetsim.simulation.lights import Light
+from streetsim.simulation.options import OUTPUT, SHORT, check_option
 from streetsim.traci import constants as tc
+import streetsim.traci as traci
 from streetsim.traci.advice import NOTHING
-from streetsim.traci.options import OUTPUT, SHORT, check_option
-from streetsim.traci.lights import Light
-from streetsim.traci.session import Endless
 
 SCRIPTS, ACTUATED = TOOLS / "examples/traci", TOOLS / "examples/actuated"
 USERS = DATA / "traci"  # scripts of users, for SUMO's traci
@@ -614,16 +614,13 @@ class Lights(Started):
     def test_a_state_is_sent_as_a_whole_program_of_it(self):
         """By setProgramLogic of Scenario, which looks at each second; in less than a millisecond, the least of many."""
         self.start()
-        session, sent = traci._now(), []
-        send = session.client.signal
-        session.client.signal = lambda *words: (sent.append(words), send(*words))
-        for clock, state in enumerate(("rr", "Gr", "yG", "GG", "sO", "uU", "or")):
+        session, states = traci._now(), ("rr", "Gr", "yG", "GG", "sO", "uU", "or")
+        for clock, state in enumerate(states):
             traci.simulationStep(3 * clock + 1)
             traci.trafficlight.setRedYellowGreenState("L", state)
             TrafficLight(session).setProgramLogic("L", [(600, state)], session.clock % 600)
-        for (node, phases, offset), (other, others, offset_of) in zip(sent[::2], sent[1::2], strict=True):
-            greens = [[seconds, [list(turn) for turn in green]] for seconds, green in phases]
-            self.assertEqual((node, greens, offset), (other, others, offset_of))
+        sent = [line for line in session.client.changes if line.startswith(b'{"cmd":"signal"')][-2 * len(states) :]
+        self.assertEqual(sent[::2], sent[1::2])
         times = []
         for state in 100 * ["GG", "rr"]:
             begin = time.perf_counter()

@@ -4,10 +4,10 @@ import unittest
 from collections import namedtuple
 
 from support import MAP, NUMBERED, PROGRAM, RED, Case, needs_simulator
-from streetsim.run import trust
-from streetsim.run.folder import NAME
-from streetsim.run.mapping import map_from
-from streetsim.run.runs import Line, Run
+from streetsim.model import trust
+from streetsim.model.folder import NAME
+from streetsim.model.mapping import map_from
+from streetsim.model.runs import Line, Run
 
 Census = namedtuple("Census", "clock waiting")
 
@@ -84,9 +84,9 @@ class Marks(unittest.TestCase):
             self.assertEqual([text.rpartition(": ")[2] for text in found], ["most of all L"] * len(told))
 
     def test_lengths(self):
-        """Street a has 75 m and 10 cells, b 10 cells for 50 m: over both 20 % more than in
-        SUMO, over a alone as many."""
-        mapping = map_from("map", {**MAP, "links": [MAP["links"][0], [*MAP["links"][1][:6], 50.0, MAP["links"][1][7]]]})
+        """Street a has 7.5 m and a cell, b a cell for 5 m: over both 20 % more than in SUMO, over a alone as many."""
+        short = [[*link[:4], 1, 5, metres, link[7]] for link, metres in zip(MAP["links"], (7.5, 5.0), strict=True)]
+        mapping = map_from("map", {**MAP, "links": short})
         for plan, told in (
             ([0], []),
             ([0, 1], ["routes are 20 % longer here than in SUMO, as edges are whole cells: most of all b"]),

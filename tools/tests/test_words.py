@@ -6,8 +6,8 @@ import subprocess
 import unittest
 
 from support import MAP, NUMBERED, PROGRAM, TOOLS, Case, needs_simulator
-from streetsim.cli.words import Parser, files_of, listed, time_within, within
-from streetsim.files import Fault, read_json
+from streetsim.base.files import Fault, read_json
+from streetsim.base.words import Parser, files_of, listed, time_within, within
 
 ENTER = {"cmd": "enter", "plan": [0, 1], "lane": 0, "depart": 0}
 

@@ -6,15 +6,15 @@ import unittest
 from collections import Counter
 
 from support import PROGRAM, Case, lane, needs_simulator, net
-import streetsim.traci as traci
-from streetsim.files import Fault
-from streetsim.run.mapping import read_map
-from streetsim.run.runs import read_run
-from streetsim.run.works import shut_links, sites_of, with_works, works_of
+from streetsim.base.files import Fault
+from streetsim.model.mapping import read_map
+from streetsim.model.runs import read_run
 from streetsim.scenario import Scenario
-from streetsim.sumo.net import Edge
-from streetsim.sumo.net import Lane as SumoLane
+from streetsim.sumo.net import Edge, Lane as SumoLane
 from streetsim.sumo.network import parallel
+import streetsim.traci as traci
+from streetsim.works.asked import sites_of, works_of
+from streetsim.works.sites import shut_links, with_works
 
 
 def fan(lanes):

@@ -2,52 +2,9 @@
 begin here."""
 import os
 import signal
+from functools import partial
 from importlib import import_module
 from typing import NoReturn
-
-
-def import_() -> NoReturn:
-    start("sumo.importing")
-
-
-def run() -> NoReturn:
-    start("run.running")
-
-
-def plot() -> NoReturn:
-    start("pictures.plots")
-
-
-def play() -> NoReturn:
-    start("pictures.playing")
-
-
-def compare() -> NoReturn:
-    start("run.compare")
-
-
-def signals() -> NoReturn:
-    start("signals.planning")
-
-
-def study() -> NoReturn:
-    start("study.studying")
-
-
-def live() -> NoReturn:
-    start("live.command")
-
-
-def route() -> NoReturn:
-    start("routes.routing")
-
-
-def report() -> NoReturn:
-    start("reports.reporting")
-
-
-def export() -> NoReturn:
-    start("gis.exporting")
 
 
 def start(module: str) -> NoReturn:
@@ -56,9 +13,9 @@ def start(module: str) -> NoReturn:
     hears = signal.getsignal(signal.SIGINT) is signal.default_int_handler
     if hears:
         signal.signal(signal.SIGINT, lambda *_: os._exit(130))
-    from ..files import run_tool
+    from streetsim.base.files import run_tool
 
-    main = import_module(f"..{module}", __package__).main
+    main = import_module(f"streetsim.cli.{module}").main
 
     def begun(words: list[str]) -> int:
         if hears:
@@ -66,3 +23,17 @@ def start(module: str) -> NoReturn:
         return main(words)
 
     run_tool(begun)
+
+
+import_ = partial(start, "import_")
+run = partial(start, "run")
+plot = partial(start, "plot")
+play = partial(start, "play")
+compare = partial(start, "compare")
+signals = partial(start, "signals")
+study = partial(start, "study")
+live = partial(start, "live")
+route = partial(start, "route")
+report = partial(start, "report")
+export = partial(start, "export")
+demand = partial(start, "demand")

@@ -1,18 +1,15 @@
-"""streetsim-export: edges and junctions with what is known of them, for geographic information systems."""
-import json
+"""Edges and junctions with their results as GeoJSON or GeoPackage."""
 import os
 import shutil
 import subprocess
 import tempfile
 from collections.abc import Iterator
-from typing import Any
 
-from ..cli.words import Parser
-from ..files import Fault, place_of, whole_file, whole_path
-from ..reports.reading import Row, Runs, read_any
-from ..run.mapping import Map
-from .places import Places, places_of
-from .values import Traffic, Values, intervals_of, values_of
+from streetsim.base.files import Fault, Json, whole_file, whole_path
+from streetsim.gis.places import Places
+from streetsim.model.mapping import Map
+from streetsim.results.reading import Row, Runs
+from streetsim.results.values import Traffic, Values, intervals_of, values_of
 
 EDGE, JUNCTION = "edge", "junction"
 LAYERS = ((EDGE, "edges"), (JUNCTION, "junctions"))
@@ -20,38 +17,8 @@ MEASURES = ("control_delay_s", "stops_per_vehicle", "queue_50_m", "queue_95_m", 
 FIXED = {"OGR_CURRENT_DATE": "2000-01-01T00:00:00.000Z"}  # so that equal runs give equal bytes
 
 
-def parser() -> Parser:
-    made = Parser(
-        prog="streetsim-export",
-        description="Writes the edges and junctions of a run with flow, speed, control delay, level of service, "
-        "v/c and queues by interval, in WGS84: GeoJSON, or a GeoPackage by GDAL's ogr2ogr. "
-        "With --seeds means over the seeds.",
-    )
-    made.add_argument("run", metavar="RUN", help="a folder that streetsim-run wrote, or one with seeds")
-    made.add_argument("-o", "--output", required=True, help="the file (.geojson, .gpkg)")
-    made.add_argument("--projection", help="of a network that tells none: EPSG:25832, '+proj=utm +zone=32', ..")
-    return made
-
-
-def main(arguments: list[str]) -> int:
-    words = parser().parse_args(arguments)
-    ending = os.path.splitext(words.output)[1].lower()
-    if ending not in (".geojson", ".gpkg"):
-        raise Fault(f"{words.output}: an export's name ends with .geojson or .gpkg")
-    if ending == ".gpkg" and not shutil.which("ogr2ogr"):
-        raise Fault("a GeoPackage needs ogr2ogr (Debian: apt install gdal-bin); a .geojson needs none")
-    place_of(words.output)
-    runs = read_any(words.run)
-    mapping = runs.first.mapping
-    found = list(features(runs, places_of(mapping.location, words.projection, runs.first.path)))
-    text = json.dumps({"type": "FeatureCollection", "features": found}, separators=(",", ":"))
-    (write_package if ending == ".gpkg" else write_text)(words.output, text)
-    print(told(words.output, runs, found))
-    return 0
-
-
 def told(path: str, runs: Runs, found: list) -> str:
-    """What was written, and what is missing in it."""
+    """What was written to a path, and what is missing in it, in one line."""
     count = len(intervals_of(runs))
     text = f"{path}: {len(found):,} rows of edges and junctions in {count} interval{'s' if count > 1 else ''}"
     doubts = [doubt for folder in runs.folders.values() for doubt in folder.doubts]
@@ -61,11 +28,11 @@ def told(path: str, runs: Runs, found: list) -> str:
 
 
 def features(runs: Runs, places: Places) -> Iterator[dict]:
-    """Each edge and junction in each interval."""
+    """Each edge and junction in each interval, as GeoJSON's features."""
     mapping = runs.first.mapping
     lines = {edge: places(mapping.links[links[len(links) // 2]].shape) for edge, links in mapping.links_of.items()}
     points = {name: places([(x, y)])[0] for name, x, y, _ in mapping.nodes}
-    content: dict[str, Any]
+    content: Json
     for begin, end in intervals_of(runs):
         for edge, values in values_of(runs, begin, end).items():
             content = {"begin": begin, "end": end, **of_edge(mapping, edge), **of_values(values)}
@@ -77,6 +44,7 @@ def features(runs: Runs, places: Places) -> Iterator[dict]:
 
 
 def feature(kind: str, shape: str, coordinates: list, content: dict) -> dict:
+    """A feature of GeoJSON; kind: EDGE or JUNCTION."""
     return {
         "type": "Feature",
         "geometry": {"type": shape, "coordinates": coordinates},
@@ -85,23 +53,26 @@ def feature(kind: str, shape: str, coordinates: list, content: dict) -> dict:
 
 
 def of_edge(mapping: Map, edge: str) -> dict:
+    """What the map says of an edge."""
     links = [mapping.links[link] for link in mapping.links_of[edge]]
     ends = {"from": mapping.nodes[links[0].begin][0], "to": mapping.nodes[links[0].end][0]}
     return {"name": edge, **ends, "lanes": sum(len(link.lanes) for link in links), "metres": round(links[0].metres, 1)}
 
 
 def of_values(values: Values) -> dict:
+    """What is known of an edge in an interval; none for what is not."""
     return {**of_traffic(values.traffic), **of_row(values.row)}
 
 
 def of_traffic(seen: Traffic | None) -> dict:
+    """Traffic, rounded; none for what is not known."""
     numbers = (None, None, None) if seen is None else (seen.flow, seen.speed, seen.density)
     names = "vehicles_per_hour", "mean_speed_kmh", "density_per_km"
     return {name: None if number is None else round(number, 1) for name, number in zip(names, numbers, strict=True)}
 
 
 def of_row(row: Row | None) -> dict:
-    """The columns of the junction tables, and the letter."""
+    """The columns of the junction tables and the letter, rounded; none for what is not known."""
     numbers = {name: row.values.get(name) if row else None for name in MEASURES}
     rounded = {name: None if number is None else round(number, 2) for name, number in numbers.items()}
     return {**rounded, "los": row.letter() if row else None}
@@ -113,7 +84,8 @@ def write_text(path: str, text: str) -> None:
 
 
 def write_package(path: str, text: str) -> None:
-    """A layer for edges, and one for junctions where there are some."""
+    """Writes GeoJSON's text as a GeoPackage: a layer for edges, and one for junctions where there are some; Fault where
+    ogr2ogr fails."""
     with tempfile.TemporaryDirectory() as folder:
         source, made = f"{folder}/all.geojson", f"{folder}/all.gpkg"
         write_text(source, text)

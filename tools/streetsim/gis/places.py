@@ -1,14 +1,15 @@
 """From the metres of a network to longitude and latitude (WGS84)."""
 from collections.abc import Callable, Iterable
 
-from ..files import Fault
+from streetsim.base.files import Fault
 
 NONE = "!"  # SUMO's word for a network without a projection
 Places = Callable[[Iterable], list]
 
 
 def places_of(location: dict, projection: str | None, path: str) -> Places:
-    """A conversion of points; projection: what the user says, in place of the map's own."""
+    """A conversion of points in a network's metres to (longitude, latitude); Fault where no projection is known.
+    location: of the map; projection: what the user says, in place of the map's own; path: for faults."""
     try:
         from pyproj import CRS, Transformer
         from pyproj.exceptions import CRSError
@@ -40,7 +41,7 @@ def places_of(location: dict, projection: str | None, path: str) -> Places:
 
 
 def on_earth(place: tuple[float, float], path: str, told: str) -> list[float]:
-    """A place to 0.1 m."""
+    """A (longitude, latitude) in degrees, rounded to some centimetres; Fault where it is nowhere on Earth."""
     if not (abs(place[0]) <= 180 and abs(place[1]) <= 90):
         raise Fault(f"{path}: {told!r} does not fit the network: it lies nowhere on Earth by it")
     return [round(value, 7) for value in place]

@@ -1,17 +1,12 @@
 """How much of what a lane can pass is used: v/c."""
-from __future__ import annotations
-
 from collections.abc import Iterable, Mapping, Sequence
 from dataclasses import dataclass
 from functools import partial
 from statistics import fmean
-from typing import TYPE_CHECKING
 
-from ..run.mapping import Place
-from .passages import Discharge, LaneLog, Passage, discharges
-
-if TYPE_CHECKING:
-    from .layout import Greens
+from streetsim.junctions.layout import Greens
+from streetsim.junctions.passages import Discharge, LaneLog, Passage, discharges
+from streetsim.model.mapping import Place
 
 QUEUES = 5  # of a lane, from which on its own saturation flow is taken
 # Vehicles an hour that leave a queue of a lane at 50 km/h, by the chance of slowing down (of 1,000),
@@ -29,7 +24,7 @@ class Use:
 
 
 def usual_flow(dawdle: float) -> float:
-    """The saturation flow of a chance of slowing down (of 1,000), where no queue tells it."""
+    """The saturation flow, vehicles an hour, of a chance of slowing down (of 1,000), where no queue tells it."""
     for (low, more), (high, less) in zip(BY_DAWDLE, BY_DAWDLE[1:]):
         if dawdle <= high:
             return more + (less - more) * (dawdle - low) / (high - low)
@@ -44,7 +39,7 @@ class Saturation:
     lost: float  # seconds of each green that are lost at its begin; less than 0: won
 
     def effective(self, open_: Sequence[bool]) -> float:
-        """Effective green, of what each second shows."""
+        """Seconds of effective green, of whether each second shows it; one at least."""
         greens = sum(here and not before for before, here in zip([False, *open_], open_))
         return max(1.0, sum(open_) - self.lost * greens)
 
@@ -61,6 +56,7 @@ class SaturationFlows:
         start: int,
         dawdle: float,
     ) -> None:
+        """start: the clock before the logs' first; dawdle: of 1,000."""
         found = {
             place: discharges(those, logs[place], start, partial(greens.begin_of, *place))
             for place, those in passed.items()
@@ -70,10 +66,12 @@ class SaturationFlows:
         self.own = {place: saturation(those) for place, those in found.items() if len(those) >= QUEUES}
 
     def of(self, place: Place) -> Saturation:
+        """How a lane passes queues."""
         return self.own.get(place, self.usual)
 
 
 def saturation(those: Sequence[Discharge]) -> Saturation:
+    """The mean of some discharges, one at least."""
     return Saturation(3600 / fmean(one.headway for one in those), fmean(one.lost for one in those))
 
 
@@ -97,7 +95,7 @@ class Capacity:
         self.greens, self.logs, self.passed, self.flows, self.start = greens, logs, passed, flows, start
 
     def use(self, place: Place, begin: int, end: int, taken: set[int]) -> Use:
-        """That of a lane from one clock to another; taken: the links to which vehicles go from it."""
+        """The use of a lane from one clock to another; taken: the links to which vehicles go from it."""
         passages = [one for one in self.passed.get(place, ()) if begin < one.line <= end]
         shown = [self.greens.at(*place, step)[0] for step in range(begin, end)]
         open_ = [green is None or bool(green & taken) for green in shown]
@@ -112,15 +110,15 @@ class Capacity:
 
     def used(self, place: Place, begin: int, passages: Iterable[Passage], open_: Sequence[bool], flow: float) -> float:
         """The share of green seconds in which a vehicle that has stood is on the lane, and a headway for each other one
-        that passes."""
+        that passes; open_: what each second from the begin shows; flow: vehicles an hour."""
         stood, offset = self.logs[place].stood, begin - self.start
         waiting = sum(shown and stood[offset + second] > 0 for second, shown in enumerate(open_))
         alone = sum(not one.stood and one.alone for one in passages)
         return min(1.0, (waiting + alone * 3600 / flow) / sum(open_))
 
     def growth(self, place: Place, begin: int, open_: Sequence[bool]) -> int:
-        """How many more want to pass than do: the queue that the last green leaves,
-        less that which the first one left."""
+        """How many more vehicles want to pass than do: the queue that the last green leaves, less that which the first
+        one left."""
         stood, offset = self.logs[place].stood, begin - self.start
         ends = [second for second in range(len(open_) - 1) if open_[second] and not open_[second + 1]]
         first, last = (ends[0], ends[-1]) if ends else (0, len(open_) - 1)

@@ -1,22 +1,18 @@
 """Minor streets that face each other at a junction without a light, and wait for each other."""
-from __future__ import annotations
-
 from collections import Counter, defaultdict
 from collections.abc import Iterable, Sequence
 from itertools import pairwise
-from typing import TYPE_CHECKING
 
-if TYPE_CHECKING:
-    from ..run.mapping import Map
-    from ..sumo.conflicts import Waiting
+from streetsim.model.mapping import Map
+from streetsim.model.waiting import Waiting
 
 LEAST = 30  # vehicles an hour that wait, and that are waited for, from which on it is told
 
 
 def facing(mapping: Map, plans: Iterable[Sequence[int]], hours: float) -> list[str]:
-    """The junctions where vehicles of a minor street, left turns mostly, wait for those of another one that
-    they cross. When these pass is taken from the run before, in which they passed in other gaps, so delays
-    of both are too small."""
+    """The names of junctions where vehicles of a minor street, left turns mostly, wait for those of another one that
+    they cross. When these pass is taken from the run before, in which they passed in other gaps, so delays of both are
+    too small. hours: over which the plans depart."""
     flows = Counter(pair for plan in plans for pair in pairwise(plan))
     edges = [link.edge for link in mapping.links]
     waits = {(link, following) for one in mapping.yields for link, _, following in one.turns}

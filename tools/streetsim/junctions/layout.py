@@ -1,62 +1,125 @@
 """Which junctions, approaches and movements a map has, and what their signals show."""
-from __future__ import annotations
-
 from collections import defaultdict
-from collections.abc import Collection, Iterable, Sequence
+from collections.abc import Collection, Iterable, Mapping, Sequence
 from dataclasses import dataclass, field
 from math import atan2, degrees
-from typing import TYPE_CHECKING, Any
+from typing import Any
 
-if TYPE_CHECKING:
-    from ..run.mapping import Map, Place, Shape
+from streetsim.model.mapping import Map, Place, Shape
+from streetsim.model.runs import Command, Sent
+from streetsim.model.service import PRIORITY, ROUNDABOUT, SIGNALS
 
-SIGNALS, PRIORITY = "signals", "priority"  # how a junction is controlled
 STRAIGHT, BACK = 45, 150  # degrees: less is straight on, more is a turn back
 
 
 @dataclass(slots=True)
 class Approach:
-    """An edge that leads to a junction."""
+    """The way to a junction: the edge that leads to it, and those before that this edge alone continues."""
 
     edge: str
     junction: str
-    control: str
+    control: str  # SIGNALS, PRIORITY or ROUNDABOUT
     links: list[int]  # that the edge became
-    metres: float
+    metres: float  # of its edge
     lanes: list[Place] = field(default_factory=list)
     movements: dict[str, str] = field(default_factory=dict)  # next edge: L, T, R or U
+    before: list[list[int]] = field(default_factory=list)  # links of each edge before, the nearest first
+    whole: float = 0.0  # metres, with the edges before
+
+    @property
+    def all_links(self) -> list[int]:
+        """The links of its edge, then of those before."""
+        return [*self.links, *(link for links in self.before for link in links)]
+
+
+def places_of(approaches: Mapping[str, Approach], mapping: Map) -> list[Place]:
+    """All (link, lane) of some approaches."""
+    links = [link for approach in approaches.values() for link in approach.all_links]
+    return [(link, lane) for link in links for lane in range(len(mapping.links[link].lanes))]
 
 
 def approaches_of(mapping: Map) -> dict[str, Approach]:
-    """The approaches by edge: of junctions with signals, and of others with two edges in, two out and five in all."""
-    ends, begins = defaultdict(set), defaultdict(set)
-    for link in mapping.links:
-        ends[link.end].add(link.edge)
-        begins[link.begin].add(link.edge)
-    lit = {node for _, node in mapping.signals}
-    real = {node for node in ends if len(ends[node]) >= 2 and len(begins[node]) >= 2}
-    real = {node for node in real if len(ends[node]) + len(begins[node]) >= 5}
+    """The approaches by edge: of junctions with signals, of others with two edges in, two out and five in all, and of
+    roundabouts, each one junction whose approaches are its entries."""
+    lit, rings = {node for _, node in mapping.signals}, rings_of(mapping)
+    real = real_nodes(mapping)
     found = {}
     for edge, links in mapping.links_of.items():
         node = mapping.links[links[0]].end
-        if node in lit or node in real:
-            control = SIGNALS if node in lit else PRIORITY
+        in_ring = node in rings and node not in lit
+        if node in lit or node in real or in_ring and edge not in mapping.rings:
+            control = SIGNALS if node in lit else ROUNDABOUT if in_ring else PRIORITY
+            name = mapping.nodes[rings[node] if in_ring else node][0]
             lanes = [(link, lane) for link in links for lane in range(len(mapping.links[link].lanes))]
-            found[edge] = Approach(edge, mapping.nodes[node][0], control, links, mapping.links[links[0]].metres, lanes)
+            found[edge] = Approach(edge, name, control, links, mapping.links[links[0]].metres, lanes)
     for turn in mapping.turns:
         source, target = mapping.links[turn.link], mapping.links[turn.next]
         if source.edge in found:
             found[source.edge].movements[target.edge] = turn_name(source.shape, target.shape)
-    return {edge: approach for edge, approach in found.items() if approach.movements}
+    made = {edge: approach for edge, approach in found.items() if approach.movements}
+    follow_back(mapping, made, lit | real | rings.keys())
+    return made
 
 
-def cut_short(mapping: Map, approaches: Collection[str]) -> list[str]:
-    """Those of the approaches that edges lead to of which no table has a row, as where an edge is cut for turn lanes:
-    the delay of a queue that goes on there is nowhere."""
+def real_nodes(mapping: Map) -> set[int]:
+    """The nodes with two edges in, two out and five in all."""
+    ends, begins = defaultdict(set), defaultdict(set)
+    for link in mapping.links:
+        ends[link.end].add(link.edge)
+        begins[link.begin].add(link.edge)
+    both = {node for node in ends if len(ends[node]) >= 2 and len(begins[node]) >= 2}
+    return {node for node in both if len(ends[node]) + len(begins[node]) >= 5}
+
+
+def rings_of(mapping: Map) -> dict[int, int]:
+    """The nodes of roundabouts, each with the least node of its roundabout."""
+    least: dict[int, int] = {}
+    edges = [link for link in mapping.links if link.edge in mapping.rings]
+    for link in edges:
+        for node in (link.begin, link.end):
+            least.setdefault(node, node)
+    for _ in edges:  # as often as a ring may be long
+        for link in edges:
+            least[link.begin] = least[link.end] = min(least[link.begin], least[link.end])
+    return least
+
+
+def follow_back(mapping: Map, approaches: Mapping[str, Approach], junctions: Collection[int]) -> None:
+    """Finds the edges before each approach that it alone continues, back to the last junction (nodes), and notes them
+    there."""
+    before, after = defaultdict(set), defaultdict(set)
+    for turn in mapping.turns:
+        source, target = mapping.links[turn.link], mapping.links[turn.next]
+        if turn_name(source.shape, target.shape) != "U":
+            before[target.edge].add(source.edge)
+            after[source.edge].add(target.edge)
+    for approach in approaches.values():
+        edge, passed = approach.edge, {approach.edge}
+        approach.whole = approach.metres
+        while mapping.links[mapping.links_of[edge][0]].begin not in junctions and len(before[edge]) == 1:
+            (sooner,) = before[edge]
+            if after[sooner] != {edge} or sooner in passed:
+                break
+            approach.before.append(mapping.links_of[sooner])
+            approach.whole += mapping.links[mapping.links_of[sooner][0]].metres
+            edge, passed = sooner, passed | {sooner}
+
+
+def ways_that_stop(mapping: Map) -> set[tuple[str, str]]:
+    """The ways (edge, next edge) of those who have to stop, at a sign or as all do."""
+    paced = (turn for one in mapping.yields if one.pace is not None for turn in one.turns)
+    return {(mapping.links[link].edge, mapping.links[following].edge) for link, _, following in paced}
+
+
+def cut_short(mapping: Map, approaches: Mapping[str, Approach]) -> list[str]:
+    """The edges of approaches to which edges lead of which no table has a row: the delay of a queue that goes on there
+    is nowhere."""
     before = defaultdict(set)
     for turn in mapping.turns:
         before[mapping.links[turn.next].edge].add(mapping.links[turn.link].edge)
-    return [edge for edge in approaches if not before[edge] <= set(approaches)]
+    own = {mapping.links[link].edge for approach in approaches.values() for link in approach.all_links}
+    firsts = {edge: mapping.links[one.all_links[-1]].edge for edge, one in approaches.items()}
+    return [edge for edge, first in firsts.items() if not before[first] - {edge} <= own]
 
 
 def turn_name(source: Shape, target: Shape) -> str:
@@ -75,10 +138,10 @@ def heading(begin: Sequence[float], end: Sequence[float]) -> float:
 class Greens:
     """What the signals of a run show to each lane; always green where there are none."""
 
-    def __init__(self, mapping: Map, signals: Iterable[Sequence[Any]]) -> None:
+    def __init__(self, mapping: Map, signals: Iterable[Sent]) -> None:
         self.mapping = mapping
         # For each node: (clock from which it holds, command).
-        self.plans: defaultdict[int, list[tuple[int, dict[str, Any]]]] = defaultdict(list)
+        self.plans: defaultdict[int, list[Sent]] = defaultdict(list)
         lit = {node for _, node in mapping.signals}
         for clock, command in sorted(signals, key=lambda pair: pair[0]):
             if command["node"] in lit:
@@ -86,13 +149,13 @@ class Greens:
         # (node, place of the plan, link, lane): for each second of the cycle the links that have green.
         self.shown: dict[tuple[int, int | None, int, int], list[frozenset[int]]] = {}
 
-    def plan_at(self, node: int, step: int) -> tuple[int | None, dict[str, Any] | None]:
-        """The place of the plan that holds in a step, and its command; none before the first."""
+    def plan_at(self, node: int, step: int) -> tuple[int | None, Command | None]:
+        """The place of the plan that holds in a step at a node, and its command; none for both before the first."""
         held = [(place, command) for place, (clock, command) in enumerate(self.plans[node]) if clock <= step]
         return held[-1] if held else (None, None)
 
     def at(self, link: int, lane: int, step: int) -> tuple[frozenset[int] | None, Any]:
-        """The links to which a lane has green in a step, and the cycle: (links or none for all, cycle)."""
+        """The links to which a lane has green in a step, none for all; and what names the cycle that the step is in."""
         node = self.mapping.links[link].end
         place, command = self.plan_at(node, step) if node in self.plans else (None, None)
         if command is None:
@@ -112,9 +175,7 @@ class Greens:
                 return back + 1 if back < step else None
         return None
 
-    def seconds(
-        self, node: int, place: int | None, command: dict[str, Any], link: int, lane: int
-    ) -> list[frozenset[int]]:
+    def seconds(self, node: int, place: int | None, command: Command, link: int, lane: int) -> list[frozenset[int]]:
         """For each second of a plan's cycle the links to which a lane has green."""
         key = node, place, link, lane
         if key not in self.shown:

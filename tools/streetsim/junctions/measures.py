@@ -1,27 +1,20 @@
 """What vehicles lost on approaches and how far lanes were used, from looks at every second."""
-from __future__ import annotations
-
 from collections import Counter, defaultdict
 from collections.abc import Collection, Iterable, Mapping, Sequence
 from dataclasses import dataclass, field
 from statistics import fmean
-from typing import TYPE_CHECKING, Any
+from typing import Any
 
-from ..run.freeflow import Alone
-from ..run.mapping import Place
-from .capacity import Capacity, SaturationFlows, Use
-from .layout import SIGNALS, Approach, Greens
-from .passages import Passage, Passages, by_place
-
-if TYPE_CHECKING:
-    from ..run.mapping import Map
+from streetsim.junctions.capacity import Capacity, SaturationFlows, Use
+from streetsim.junctions.layout import Approach, Greens, ways_that_stop
+from streetsim.junctions.passages import Passage, Passages, by_place
+from streetsim.model.freeflow import Alone
+from streetsim.model.mapping import Map, Place
+from streetsim.model.runs import Sent
+from streetsim.model.service import SIGNALS, STOP_LOSS
+from streetsim.sumo.losses import STOPPING
 
 Way = tuple[str, str]  # an edge and the next one
-
-# Seconds that a vehicle which stops loses beyond what is seen here, where vehicles brake and start at once: on an
-# approach of one lane, where in SUMO one who drives slowly holds up those behind, and of more. Measured on lone crosses
-# at four flows against SUMO's e3 (bench/delays --calibrate).
-STOP_LOSS = 2.5, 1.5
 
 
 @dataclass(slots=True)
@@ -33,7 +26,7 @@ class Crossing:
     place: Place
     delay: float  # control delay, seconds; less than 0 where it was lucky
     stops: int
-    stood: int
+    stood: int  # seconds
     following: int  # link
 
 
@@ -62,16 +55,17 @@ class Interval:
 
 
 def totals(crossings: Collection[Crossing]) -> Totals:
+    """The means of crossings, one at least."""
     return Totals(
         len(crossings),
-        max(0.0, fmean(one.delay for one in crossings)),
+        max(fmean(one.stood for one in crossings), fmean(one.delay for one in crossings)),
         fmean(one.stood for one in crossings),
         fmean(one.stops for one in crossings),
     )
 
 
 def together(parts: Iterable[Totals]) -> Totals:
-    """What the vehicles of several movements lost."""
+    """The means of the vehicles of several movements, of which some drive."""
     parts = [part for part in parts if part.vehicles]
     count = sum(part.vehicles for part in parts)
 
@@ -85,8 +79,8 @@ def together(parts: Iterable[Totals]) -> Totals:
 
 
 def stop_loss(approach: Approach, target: str) -> float:
-    """What a vehicle that stops loses beyond what is seen. Of those that turn at a light the import has put it into the
-    green, of which it leaves out seconds."""
+    """Seconds that a vehicle which stops loses beyond what is seen, by the next edge. Of those that turn at a light the
+    import has put it into the green, of which it leaves out seconds."""
     if approach.control == SIGNALS and approach.movements[target] != "T":
         return 0.0
     return STOP_LOSS[0] if len(approach.lanes) == 1 else STOP_LOSS[1]
@@ -99,13 +93,15 @@ class Measures:
         self,
         mapping: Map,
         approaches: Mapping[str, Approach],
-        signals: Iterable[Sequence[Any]],
+        signals: Iterable[Sent],
         dawdle: int,
         plans: Sequence[Sequence[int]],
         passages: Passages,
     ) -> None:
+        """dawdle: of 1,000; plans: links of vehicles, by number."""
         self.mapping, self.approaches, self.plans, self.passages = mapping, approaches, plans, passages
         self.alone, self.greens = Alone(mapping, dawdle / 1000), Greens(mapping, signals)
+        self.stopping = ways_that_stop(mapping)
         found = [(passage, self.crossing(passage)) for passage in passages.done]
         self.crossings = [crossing for _, crossing in found if crossing]
         self.taken: defaultdict[Place, set[int]] = defaultdict(set)  # (link, lane): links to which vehicles go
@@ -116,18 +112,22 @@ class Measures:
         self.capacity = Capacity(self.greens, passages.logs, passed, self.flows, passages.start)
 
     def crossing(self, passage: Passage) -> Crossing | None:
-        """None where the vehicle's plan ends on the edge."""
+        """What a passage lost; none where the vehicle's plan ends on the approach."""
         plan = self.plans[passage.car]
         at = next((at for at, link in enumerate(plan) if self.mapping.links[link].edge == passage.edge), None)
         if at is None or at + 1 == len(plan):
             return None
-        lost = passage.end - passage.begin - self.alone.approach(plan, at)
+        first = next((place for place in range(at, -1, -1) if plan[place] == passage.first), at)
+        alone = sum(self.alone.approach(plan, place) for place in range(first, at + 1))
+        lost = passage.end - passage.begin - alone
         movement = passage.edge, self.mapping.links[plan[at + 1]].edge
         delay = lost + stop_loss(self.approaches[movement[0]], movement[1]) * (passage.stops > 0)
+        delay += STOPPING * (movement in self.stopping)  # of which one alone has the mean of its junction
         place = passage.link, passage.lane
         return Crossing(movement, passage.end, place, delay, passage.stops, passage.stood, plan[at + 1])
 
     def interval(self, begin: int, end: int) -> Interval:
+        """What is known from one clock to another."""
         found = Interval(begin, end)
         crossings = defaultdict(list)
         for one in self.crossings:
@@ -143,7 +143,7 @@ class Measures:
         return found
 
     def queues(self, place: Place, begin: int, end: int) -> list[float]:
-        """The longest queue of a lane in each cycle of its signal, metres."""
+        """The longest queue of a lane in each cycle of its signal from one clock to another, metres."""
         longest: defaultdict[Any, float] = defaultdict(float)
         back = self.passages.logs[place].back
         for step in range(begin, end):

@@ -3,16 +3,14 @@ from __future__ import annotations
 
 from array import array
 from collections import defaultdict
-from collections.abc import Callable, Iterable, Mapping, Sequence
+from collections.abc import Callable, Iterable, Mapping
 from dataclasses import dataclass, field
-from typing import TYPE_CHECKING, Any
 
-from ..run.detectors import Cells, size_of
-from ..run.mapping import MapLink, Place
-
-if TYPE_CHECKING:
-    from ..run.mapping import Map
-    from .layout import Approach
+from streetsim.junctions.layout import Approach
+from streetsim.model.detectors import Cells, size_of
+from streetsim.model.folder import Frame
+from streetsim.model.mapping import Map, MapLink, Place
+from streetsim.model.service import fills
 
 REACH = 20.0  # metres: who stands within these of the stop line, or of the queue's rear, is of the queue
 GROUP_GAP = 8  # seconds without a vehicle end a group that leaves a queue
@@ -32,6 +30,7 @@ class Passage:
     line: int = 0  # clock from which on it was behind the stop line; 0: not yet
     link: int = 0
     lane: int = 0
+    first: int = 0  # link on which it was first seen
     stops: int = 0
     stood: int = 0  # seconds
     still: int = 0  # seconds for which it has stood now
@@ -52,20 +51,21 @@ class Passages:
     def __init__(self, mapping: Map, approaches: Mapping[str, Approach], start: int) -> None:
         self.mapping, self.start = mapping, start
         self.lanes = [place for approach in approaches.values() for place in approach.lanes]
-        self.edges = {link: edge for edge, approach in approaches.items() for link in approach.links}
+        self.edges = {link: edge for edge, approach in approaches.items() for link in approach.all_links}
+        self.before = {link: approach.before for approach in approaches.values() for link in approach.links}
         self.here: dict[int, Passage] = {}
         self.done: list[Passage] = []
         self.logs = {place: LaneLog() for place in self.lanes}
 
-    def see(self, frame: dict[str, Any]) -> None:
+    def see(self, frame: Frame) -> None:
         """Takes the look at a clock; the clocks of a run are given one after another."""
         clock, seen, shown = frame["clock"], set(), {}
         for link, lane, cells, buffer, *_ in frame["lanes"]:
             if link not in self.edges:
                 continue
-            for entry in cells:
+            for entry, standing in zip(cells, who_stand(cells, self.mapping.links[link]), strict=True):
                 seen.add(entry[0])
-                self.note(clock, entry[0], link, lane, not entry[2])
+                self.note(clock, entry[0], link, lane, standing)
             for car in buffer:
                 seen.add(car)
                 self.note_crossing(clock, car, link, lane)
@@ -75,27 +75,30 @@ class Passages:
         self.note_lanes(shown)
 
     def note(self, clock: int, car: int, link: int, lane: int, standing: bool) -> None:
+        """Notes a vehicle on the cells of an approach."""
         passage = self.passage(clock, car, link)
         passage.link, passage.lane = link, lane
         if clock == passage.begin:  # who departs stands then, which is no stop
             return
         passage.still = passage.still + 1 if standing else 0
         passage.stops += passage.still == STILL
-        passage.stood += standing
+        passage.stood += passage.still >= STILL if self.mapping.links[link].limit == 1 else standing
 
     def passage(self, clock: int, car: int, link: int) -> Passage:
-        """That of a vehicle on an edge; a new one where it comes from another."""
+        """The passage of a vehicle on a link's edge; a new one where it comes from another."""
         passage, edge = self.here.get(car), self.edges[link]
         if passage is not None and passage.edge == edge:
             return passage
         if passage is not None:
             self.finish(car, clock)
-        made = self.here[car] = Passage(car, edge, clock, link=link)
+        made = self.here[car] = Passage(car, edge, clock, link=link, first=link)
         return made
 
     def note_crossing(self, clock: int, car: int, link: int, lane: int) -> None:
-        """A vehicle in the junction behind a lane."""
+        """Notes a vehicle in the junction behind a lane."""
         passage = self.passage(clock, car, link)
+        if link not in self.before:  # between two edges of the approach
+            return
         if not passage.line:
             passage.line, passage.link, passage.lane = clock, link, lane
             log = self.logs[link, lane]
@@ -105,22 +108,48 @@ class Passages:
             passage.stood += 1  # waits before the next edge
 
     def finish(self, car: int, clock: int) -> None:
+        """Ends the passage of a vehicle that is no longer there at a clock."""
         passage = self.here.pop(car)
         passage.end = clock
         passage.line = passage.line or clock
         self.done.append(passage)
 
     def note_lanes(self, shown: Mapping[Place, Cells]) -> None:
+        """Notes the queue of each lane; shown: the cells of those on which anything is."""
         for place, log in self.logs.items():
-            cells = shown.get(place, ())
-            still = [entry for entry in cells if self.here[entry[0]].still >= STILL]
-            log.back.append(queue_metres(still, self.mapping.links[place[0]]))
-            log.stood.append(sum(self.here[entry[0]].stood > 0 for entry in cells))
+            log.back.append(self.queue_at(place, shown))
+            log.stood.append(sum(self.here[entry[0]].stood > 0 for entry in shown.get(place, ())))
+
+    def queue_at(self, place: Place, shown: Mapping[Place, Cells]) -> float:
+        """Metres of the queue of a lane; where it fills the lane, with those on the edges before."""
+        metres = self.queue_on(place, shown)
+        full = self.mapping.links[place[0]].metres
+        for links in self.before[place[0]]:
+            if not fills(metres, full):
+                break
+            places = [(link, lane) for link in links for lane in range(len(self.mapping.links[link].lanes))]
+            metres = full + max(self.queue_on(place, shown) for place in places)
+            full += self.mapping.links[links[0]].metres
+        return metres
+
+    def queue_on(self, place: Place, shown: Mapping[Place, Cells]) -> float:
+        """Metres of the queue from a lane's end, on this lane alone."""
+        still = [entry for entry in shown.get(place, ()) if self.here[entry[0]].still >= STILL]
+        return queue_metres(still, self.mapping.links[place[0]])
+
+
+def who_stand(cells: Cells, link: MapLink) -> list[bool]:
+    """Of the vehicles of a lane, from the greatest cell, whether each stands. Where they move by one cell a step who
+    dawdles has no speed either: there only those stand who have another, or the lane's end, right before them."""
+    if link.limit > 1:
+        return [not entry[2] for entry in cells]
+    rears = [link.cells, *(entry[1] - size_of(entry) + 1 for entry in cells)]
+    return [not entry[2] and entry[1] + 1 == rear for entry, rear in zip(cells, rears)]
 
 
 def queue_metres(still: Cells, link: MapLink) -> float:
-    """Metres from the stop line to the rear of the last vehicle of the queue; the cells of those who stand, from the
-    greatest."""
+    """Metres from the stop line to the rear of the last vehicle of the queue; still: the entries of those who stand,
+    from the greatest cell."""
     size, back, reach = link.metres / link.cells, 0.0, REACH
     for entry in still:
         ahead = (link.cells - 1 - entry[1]) * size
@@ -153,8 +182,8 @@ class Discharge:
 def discharges(
     passages: Iterable[Passage], log: LaneLog, start: int, green_begin: Callable[[int], int | None]
 ) -> list[Discharge]:
-    """Those of a lane's queues of eight vehicles and more; passages: of the lane.
-    green_begin gives the step in which the green of a step began, or none."""
+    """The discharges of a lane's queues of eight vehicles and more; passages: of the lane; start: the clock before the
+    log's first. green_begin gives the step in which the green of a step began, or none."""
     found: list[Discharge] = []
     group: list[Passage] = []
     for passage in [*passages, None]:

@@ -1,77 +1,61 @@
 """Makes the junction tables of a run, from further runs that repeat it."""
-from __future__ import annotations
+from collections.abc import Sequence
 
-from collections.abc import Callable, Sequence
-from contextlib import AbstractContextManager
-from typing import TYPE_CHECKING
-
-from ..outputs.watching import watch, windows
-from ..sumo.report import some
-from .facing import facing
-from .layout import approaches_of, cut_short
-from .measures import Measures
-from .passages import Passages
-from .rows import Tables
-from .sampling import Sampled, moments
-
-if TYPE_CHECKING:
-    from ..client import Client
-    from ..run.mapping import Map
-    from ..run.record import Records, Settings
-    from ..run.runs import Run
+from streetsim.base.report import some
+from streetsim.junctions.facing import facing
+from streetsim.junctions.layout import approaches_of, cut_short, places_of
+from streetsim.junctions.measures import Measures
+from streetsim.junctions.passages import Passages
+from streetsim.junctions.rows import Tables
+from streetsim.junctions.sampling import Sampled, moments
+from streetsim.run.records import Recorded, Records
+from streetsim.run.watching import watch, windows
 
 # At most so many further runs look at every second; where these are too few, looks are at random moments.
 EXACT_RUNS = 8
 
 
-def write_junctions(
-    serving: Callable[[], AbstractContextManager[Client]],
-    run: Run,
-    mapping: Map,
-    settings: Settings,
-    records: Records,
-    folder: str,
-    jobs: int,
-    interval: int,
-) -> tuple[list[str], list[str]]:
-    """Writes movements.csv, approaches.csv and junctions.csv into a folder; serving() gives a program.
+def write_junctions(made: Recorded, interval: int) -> tuple[list[str], list[str]]:
+    """Writes movements.csv, approaches.csv and junctions.csv into the folder of a run, with rows of so many seconds.
     Gives what is to be told of how they were made, and why they are not to be trusted, if anything."""
-    approaches, start = approaches_of(mapping), run.start()
-    lanes = [place for approach in approaches.values() for place in approach.lanes]
-    clocks: Sequence[int] = range(start + 1, settings.until + 1)
-    with serving() as sim:
-        exact = len(windows(run, clocks, lanes, len(records.rescued), settings.calls or sim.calls)) <= EXACT_RUNS
-    signals = [[start, line.command] for line in run.first if line.command["cmd"] == "signal"]
-    signals += [[clock, line.command] for clock, line in run.timed if line.command["cmd"] == "signal"]
-    plans, dawdle = [line.command["plan"] for line in run.enters], run.load.command["dawdle"]
+    run, start, until = made.run, made.run.start(), made.settings.until
+    approaches = approaches_of(made.mapping)
+    lanes = places_of(approaches, made.mapping)
+    clocks: Sequence[int] = range(start + 1, until + 1)
+    exact = len(windows(made, clocks, lanes)) <= EXACT_RUNS
     seen: Passages | Sampled
     if exact:
-        seen = Passages(mapping, approaches, start)
+        seen = Passages(made.mapping, approaches, start)
     else:
-        clocks = moments(start, settings.until)
-        departs = [line.command["depart"] for line in run.enters]
-        ends = (end.step if end is not None and end.state == "arrived" else None for end in records.ends)
-        arrivals = [None if step is None else step + 1 for step in ends]
-        seen = Sampled(mapping, approaches, signals, dawdle, plans, departs, arrivals, interval, start)
-    for frame in watch(serving, run, mapping, settings, records.rescued, clocks, lanes, folder, jobs):
+        clocks = moments(start, until)
+        seen = Sampled(made.mapping, approaches, run, arrivals_of(made.records), interval)
+    for frame in watch(made, clocks, lanes):
         seen.see(frame)
+    plans, dawdle = [line.command["plan"] for line in run.enters], run.load.command["dawdle"]
     measures: Measures | Sampled
-    measures = (
-        Measures(mapping, approaches, signals, dawdle, plans, seen) if isinstance(seen, Passages) else seen.finish()
-    )
-    made = Tables(approaches)
-    for begin in range(start, settings.until, interval):
-        made.add(measures.interval(begin, min(begin + interval, settings.until)))
-    made.write(folder)
+    if isinstance(seen, Passages):
+        measures = Measures(made.mapping, approaches, run.signals(), dawdle, plans, seen)
+    else:
+        measures = seen.finish()
+    tables = Tables(approaches)
+    for begin in range(start, until, interval):
+        tables.add(measures.interval(begin, min(begin + interval, until)))
+    tables.write(made.folder)
     told = (
         []
         if exact
         else ["junctions: lanes are looked at at random moments, as the program takes no more calls (error_s)"]
     )
-    if found := facing(mapping, plans, (settings.until - start) / 3600):
+    if found := facing(made.mapping, plans, (until - start) / 3600):
         told.append(f"junctions: delays are too small where minor streets wait for each other: {some(found)}")
-    beyond, doubts = of_queues(sorted(made.filled() & set(cut_short(mapping, approaches))))
+    beyond, doubts = of_queues(sorted(tables.filled() & set(cut_short(made.mapping, approaches))))
     return told + beyond, doubts
+
+
+def arrivals_of(records: Records) -> list[int | None]:
+    """The clock at which each vehicle arrived, or none."""
+    ends = (end.step if end is not None and end.state == "arrived" else None for end in records.ends)
+    return [None if step is None else step + 1 for step in ends]
 
 
 def of_queues(approaches: Sequence[str]) -> tuple[list[str], list[str]]:
@@ -79,6 +63,6 @@ def of_queues(approaches: Sequence[str]) -> tuple[list[str], list[str]]:
     if not approaches:
         return [], []
     small, found = "delays, letters and queues are too small", some(approaches)
-    where = "where a queue fills an approach, as of turn lanes, and goes on in the edge before it, which no table has"
+    where = "where a queue fills an approach and goes on in the edge before it, which no table has"
     doubt = f"junction tables: {small} at {found}, as queues go on in the edges before, which no table has"
     return [f"junctions: {small} {where}: {found}"], [doubt]

@@ -1,25 +1,13 @@
 """The tables movements.csv, approaches.csv and junctions.csv."""
-from __future__ import annotations
-
 from collections import defaultdict
 from collections.abc import Collection, Mapping, Sequence
-from typing import Any
 
-from ..limits import GAP_METRES
-from ..run import tables
-from .layout import Approach
-from .measures import Interval, Totals, together
-from .service import level, percentile
+from streetsim.junctions.layout import Approach
+from streetsim.junctions.measures import Interval, Totals, together
+from streetsim.model import tables
+from streetsim.model.service import fills, level, percentile
+from streetsim.model.tables import APPROACHES, JUNCTIONS, MOVEMENTS, Entry
 
-LOST = ("vehicles", "vehicles_per_hour", "control_delay_s", "error_s", "stopped_delay_s", "stops_per_vehicle")
-QUEUED = ("queue_50_m", "queue_95_m", "queue_max_m", "storage_m")
-MOVEMENTS = (
-    *("begin", "end", "junction", "control", "approach", "to", "movement", *LOST, *QUEUED),
-    *("saturation_flow", "capacity_per_hour", "v_c", "los"),
-)
-APPROACHES = ("begin", "end", "junction", "control", "approach", *LOST, *QUEUED, "v_c", "los")
-JUNCTIONS = ("begin", "end", "junction", "control", *LOST, "queue_max_m", "v_c", "los")
-ROUNDED = 0.1  # metres by which a queue and its edge may be off in the tables
 MOVEMENT_SHARE = 0.05  # of a movement's vehicles, from which on a lane counts for its queue
 
 
@@ -30,11 +18,12 @@ class Tables:
         self.by_junction: defaultdict[str, list[Approach]] = defaultdict(list)
         for approach in approaches.values():
             self.by_junction[approach.junction].append(approach)
-        self.movements: list[tuple[Any, ...]] = []
-        self.approaches: list[tuple[Any, ...]] = []
-        self.junctions: list[tuple[Any, ...]] = []
+        self.movements: list[Entry] = []
+        self.approaches: list[Entry] = []
+        self.junctions: list[Entry] = []
 
     def add(self, interval: Interval) -> None:
+        """Adds the rows of an interval."""
         for junction, approaches in sorted(self.by_junction.items()):
             found = [one for approach in approaches if (one := self.add_approach(interval, approach))]
             if found:
@@ -44,8 +33,8 @@ class Tables:
                 self.junctions.append((interval.begin, interval.end, junction, control, *told(lost, interval), *last))
 
     def add_approach(self, interval: Interval, approach: Approach) -> tuple[Totals, float, float] | None:
-        """Gives what its vehicles lost, its longest queue and the greatest v/c of its movements;
-        none where nobody is."""
+        """Adds the rows of an approach and its movements; gives what its vehicles lost, its longest queue and the
+        greatest v/c of its movements; none where nobody is."""
         parts, ratios = [], []
         for target, name in sorted(approach.movements.items()):
             if (approach.edge, target) in interval.lost:
@@ -56,11 +45,11 @@ class Tables:
         lost, queues = together(parts), [interval.queues[place] for place in approach.lanes]
         head = interval.begin, interval.end, approach.junction, approach.control, approach.edge
         last = f"{max(ratios):.2f}", level(lost.delay, approach.control)
-        self.approaches.append((*head, *told(lost, interval), *worst(queues, approach.metres), *last))
+        self.approaches.append((*head, *told(lost, interval), *worst(queues, approach.whole), *last))
         return lost, max((queue for lane in queues for queue in lane), default=0.0), max(ratios)
 
     def add_movement(self, interval: Interval, approach: Approach, target: str, name: str) -> float:
-        """Gives its v/c."""
+        """Adds the row of a movement, by the next edge and its letter; gives its v/c."""
         lost, lanes = interval.lost[approach.edge, target], interval.lanes[approach.edge, target]
         count = max(1, sum(lanes.values()))
         hours = (interval.end - interval.begin) / 3600
@@ -74,7 +63,7 @@ class Tables:
         head = interval.begin, interval.end, approach.junction, approach.control, approach.edge, target, name
         last = f"{flow:.0f}", f"{capacity:.0f}" if capacity else "", f"{ratio:.2f}"
         letter = level(lost.delay, approach.control, ratio)
-        self.movements.append((*head, *told(lost, interval), *worst(used, approach.metres), *last, letter))
+        self.movements.append((*head, *told(lost, interval), *worst(used, approach.whole), *last, letter))
         return ratio
 
     def filled(self) -> set[str]:
@@ -84,18 +73,14 @@ class Tables:
         return {edge for edge, queue, metres in rows if fills(float(queue), float(metres))}
 
     def write(self, folder: str) -> None:
+        """Writes the three tables into a folder."""
         tables.write_table(f"{folder}/movements.csv", MOVEMENTS, self.movements)
         tables.write_table(f"{folder}/approaches.csv", APPROACHES, self.approaches)
         tables.write_table(f"{folder}/junctions.csv", JUNCTIONS, self.junctions)
 
 
-def fills(queue: float, metres: float) -> bool:
-    """Whether a queue leaves no room on an edge but the gap behind its last vehicle."""
-    return queue >= metres - GAP_METRES - ROUNDED
-
-
 def told(lost: Totals, interval: Interval) -> tuple:
-    """The columns LOST."""
+    """The columns LOST, as texts."""
     hourly = lost.vehicles * 3600 / (interval.end - interval.begin)
     error = "" if lost.error is None else f"{lost.error:.1f}"
     stops = "" if lost.stops is None else f"{lost.stops:.2f}"
@@ -103,7 +88,8 @@ def told(lost: Totals, interval: Interval) -> tuple:
 
 
 def worst(lanes: Collection[Sequence[float]], metres: float) -> tuple:
-    """The columns QUEUED, of the lane with the longest queue by its 95 %."""
+    """The columns QUEUED, of the lane with the longest queue by its 95 %; lanes: metres of the queues of each; metres:
+    of the approach."""
     queues = max(lanes, key=lambda lane: percentile(lane, 0.95), default=[])
     values = percentile(queues, 0.5), percentile(queues, 0.95), max(queues, default=0.0), metres
     return tuple(f"{value:.1f}" for value in values)

@@ -1,19 +1,20 @@
 """Delays by Little's law, from looks at random moments: vehicles on an approach are their flow by their time on it."""
-from __future__ import annotations
-
 from collections import Counter, defaultdict
-from collections.abc import Iterable, Mapping, Sequence
+from collections.abc import Mapping, Sequence
 from random import Random
 from statistics import fmean, stdev
-from typing import Any, Self
+from typing import Self
 
-from .capacity import Use, is_alike, usual_flow
-from ..run.detectors import Cells
-from ..run.freeflow import Alone
-from ..run.mapping import Map, Place
-from .layout import Approach, Greens
-from .measures import Interval, Totals, Way, stop_loss
-from .passages import queue_metres
+from streetsim.junctions.capacity import Use, is_alike, usual_flow
+from streetsim.junctions.layout import Approach, Greens, ways_that_stop
+from streetsim.junctions.measures import Interval, Totals, Way, stop_loss
+from streetsim.junctions.passages import queue_metres, who_stand
+from streetsim.model.detectors import Cells
+from streetsim.model.folder import Frame
+from streetsim.model.freeflow import Alone
+from streetsim.model.mapping import Map, Place
+from streetsim.model.runs import Run
+from streetsim.sumo.losses import STOPPING
 
 LOOKS = 30  # a quarter hour
 QUARTER = 900  # seconds
@@ -35,19 +36,19 @@ class Sampled:
         self,
         mapping: Map,
         approaches: Mapping[str, Approach],
-        signals: Iterable[Sequence[Any]],
-        dawdle: int,
-        plans: Sequence[Sequence[int]],
-        departs: Sequence[int],
+        run: Run,
         arrivals: Sequence[int | None],
         interval: int,
-        start: int,
     ) -> None:
-        self.mapping, self.approaches = mapping, approaches
-        self.plans, self.departs, self.arrivals = plans, departs, arrivals
-        self.dawdle, self.greens, self.width, self.start = dawdle, Greens(mapping, signals), interval, start
-        self.alone = Alone(mapping, dawdle / 1000)
-        self.edges = {link: edge for edge, approach in approaches.items() for link in approach.links}
+        """arrivals: the clock at which each vehicle of the run arrived, or none; interval: seconds of a row."""
+        self.mapping, self.approaches, self.arrivals = mapping, approaches, arrivals
+        self.plans: list[Sequence[int]] = [line.command["plan"] for line in run.enters]
+        self.departs: list[int] = [line.command["depart"] for line in run.enters]
+        self.dawdle: int = run.load.command["dawdle"]
+        self.greens, self.width, self.start = Greens(mapping, run.signals()), interval, run.start()
+        self.alone, self.stopping = Alone(mapping, self.dawdle / 1000), ways_that_stop(mapping)
+        self.edges = {link: edge for edge, approach in approaches.items() for link in approach.all_links}
+        self.lasts = {link for approach in approaches.values() for link in approach.links}
         self.lanes = [place for approach in approaches.values() for place in approach.lanes]
         self.last: dict[int, tuple[int, int]] = {}  # vehicle: (place in its plan, clock) where it was seen last
         self.passed: defaultdict[int, Counter[Way]] = defaultdict(Counter)  # by interval, vehicles
@@ -63,7 +64,8 @@ class Sampled:
         self.taken: defaultdict[Place, set[int]] = defaultdict(set)  # (link, lane): links to which vehicles go
         self.unlike: set[Place] = set()  # (link, lane) of which not all vehicles have the same green
 
-    def see(self, frame: dict[str, Any]) -> None:
+    def see(self, frame: Frame) -> None:
+        """Takes the look at a clock."""
         clock = frame["clock"]
         at = (clock - 1 - self.start) // self.width
         seen: defaultdict[Way, list[int]] = defaultdict(lambda: [0, 0])
@@ -72,47 +74,58 @@ class Sampled:
         for link, lane, cells, buffer, *_ in frame["lanes"]:
             if link in self.edges:
                 shown[link, lane] = cells
-                for entry in cells:
-                    self.note(at, clock, entry[0], link, lane, not entry[2], seen)
+                for entry, standing in zip(cells, who_stand(cells, self.mapping.links[link]), strict=True):
+                    self.note(at, clock, entry[0], (link, lane), standing, seen)
                 for car in buffer:
-                    self.note(at, clock, car, link, lane, False, seen)
+                    self.note(at, clock, car, (link, lane), False, seen)
         for movement, counts in seen.items():
             self.present[at, movement].append((counts[0], counts[1]))
         for place in self.lanes:
             self.note_lane(at, clock, place, shown.get(place, ()))
 
     def note(
-        self, at: int, clock: int, car: int, link: int, lane: int, standing: bool, seen: defaultdict[Way, list[int]]
+        self, at: int, clock: int, car: int, place: Place, standing: bool, seen: defaultdict[Way, list[int]]
     ) -> None:
-        """A vehicle on an approach: it has passed all before it since it was seen last."""
-        plan = self.plans[car]
+        """Notes a vehicle on an approach, in an interval by its number: it has passed all before it since it was seen
+        last. seen: of each movement vehicles and standing ones at this look."""
+        plan, link = self.plans[car], place[0]
         before, since = self.last.get(car, (0, self.departs[car]))
-        here = next((place for place in range(before, len(plan)) if plan[place] == link), None)
+        here = next((step for step in range(before, len(plan)) if plan[step] == link), None)
         if here is None:
             return
         self.pass_by(plan, before, since, here, clock)
         self.last[car] = here, clock
-        if here + 1 < len(plan):
-            movement = self.edges[link], self.mapping.links[plan[here + 1]].edge
+        if movement := self.movement(plan, here):
             seen[movement][0] += 1
             seen[movement][1] += standing
-            self.on_lanes[at, movement][link, lane] += 1
-            self.taken[link, lane].add(plan[here + 1])
+            if place[0] in self.lasts:
+                self.on_lanes[at, movement][place] += 1
+                self.taken[place].add(plan[here + 1])
+
+    def movement(self, plan: Sequence[int], place: int) -> Way | None:
+        """The way over the junction behind the approach on which a vehicle is at a place of its plan; none where that
+        ends before."""
+        edge = self.edges.get(plan[place])
+        last = next((at for at in range(place, len(plan) - 1) if plan[at] in self.lasts), None)
+        if edge is None or last is None or self.edges[plan[last]] != edge:
+            return None
+        return edge, self.mapping.links[plan[last + 1]].edge
 
     def pass_by(self, plan: Sequence[int], before: int, since: float, here: int, clock: float) -> None:
-        """The approaches that a vehicle left from one place of its plan to another, evenly between two clocks."""
+        """Notes the approaches that a vehicle left from one place of its plan to another, evenly between two clocks."""
         for step, place in enumerate(range(before, here)):
             moment = since + (step + 0.5) * (clock - since) / (here - before)
-            edge = self.edges.get(plan[place])
-            if edge is not None:
+            if movement := self.movement(plan, place):
                 at = int(moment - self.start) // self.width
-                movement = edge, self.mapping.links[plan[place + 1]].edge
-                self.passed[at][movement] += 1
+                if plan[place] in self.lasts:
+                    self.passed[at][movement] += 1
                 self.free[at, movement] += self.alone.approach(plan, place)
 
     def note_lane(self, at: int, clock: int, place: Place, cells: Cells) -> None:
+        """Notes a lane's queue at a look, and whether its green is used; cells: of its reply."""
         link = self.mapping.links[place[0]]
-        queue = queue_metres([entry for entry in cells if not entry[2]], link)
+        still = [entry for entry, standing in zip(cells, who_stand(cells, link), strict=True) if standing]
+        queue = queue_metres(still, link)
         if queue:
             self.queues[at, *place].append(queue)
         green, taken = self.greens.at(*place, clock - 1)[0], self.taken[place]
@@ -131,6 +144,7 @@ class Sampled:
         return self
 
     def interval(self, begin: int, end: int) -> Interval:
+        """What is known of an interval, of the width that was asked for."""
         at, found = (begin - self.start) // self.width, Interval(begin, end)
         looks = self.looks[at]
         for movement, count in self.passed[at].items():
@@ -148,7 +162,8 @@ class Sampled:
         return found
 
     def ratio(self, at: int, place: Place, hourly: float) -> float:
-        """v/c of a lane: by its saturation flow, or by how often a vehicle was near the stop line at green."""
+        """v/c of a lane in an interval, by its number, by its saturation flow, or by how often a vehicle was near the
+        stop line at green. hourly: vehicles that pass."""
         seen = self.greens_seen[at, *place]
         if not seen:
             return 0.0
@@ -157,21 +172,23 @@ class Sampled:
         return hourly / (usual_flow(self.dawdle) * seen / self.looks[at])
 
     def lost(self, at: int, movement: Way, count: int, looks: int, seconds: int) -> Totals:
-        """By Little's law; the share that stops is that of even arrivals."""
+        """What vehicles of a movement lost in an interval, by its number, by Little's law; the share that stops is that
+        of even arrivals. count: vehicles that passed; looks: in the interval; seconds: of it."""
         seen = self.present[at, movement]
         vehicles = [number for number, _ in seen] + [0] * (looks - len(seen))
         if not looks:
             return Totals(count, 0.0, 0.0, None)
         rate = count / seconds
-        delay = max(0.0, fmean(vehicles) / rate - self.free[at, movement] / count)
         stood = sum(standing for _, standing in seen) / looks / rate
+        delay = max(0.0, fmean(vehicles) / rate - self.free[at, movement] / count)
         error = NORMAL * stdev(vehicles) / looks**0.5 / rate if looks > 1 else None
         loss = stop_loss(self.approaches[movement[0]], movement[1])
+        delay += STOPPING * (movement in self.stopping)
         return Totals(count, delay + loss * self.share_stopping(at, movement, rate), stood, None, error)
 
     def share_stopping(self, at: int, movement: Way, rate: float) -> float:
-        """Of even arrivals those stop that come at red, or while its queue leaves: red over 1 less flow over saturation
-        flow, both as shares of the cycle."""
+        """The share of a movement's vehicles that stop. Of even arrivals those do that come at red, or while its queue
+        leaves: red over 1 less flow over saturation flow, both as shares of the cycle. rate: vehicles a second."""
         lanes = self.on_lanes[at, movement]
         looks = sum(self.looks[at] for _ in lanes)
         green = sum(self.greens_seen[at, *place] for place in lanes) / looks if looks else 1.0

@@ -4,23 +4,25 @@ The page's address holds a token that only who started the bridge knows, so that
 site can reach the simulator: the token, the host and the origin of each request are checked, and what a
 request may send is bounded.
 """
-from __future__ import annotations
-
 import hmac
 import json
 import secrets
+import sys
 import threading
-from collections.abc import Callable
+from collections.abc import Callable, Iterable, Sequence
 from http import HTTPStatus
 from http.server import BaseHTTPRequestHandler, ThreadingHTTPServer
 
-from ..client import ProgramEnded
-from ..files import Fault
-from .engine import Engine
+from streetsim.base.client import ProgramEnded
+from streetsim.base.files import Fault
+from streetsim.live.engine import Engine
 
 HOST = "127.0.0.1"
 MOST_LINE = 1 << 20  # bytes: streetsim answers a longer line by a fault
 MOST_BODY = 8 << 20  # bytes of one request
+HEARD_EVERY = 1.0  # seconds between the bytes by which the bridge notices that its page is gone
+VERBS = ("begin", "lines", "stay", "take", "leave", "join")
+Join = Callable[[Iterable[str]], tuple[bytes, list[bytes]]]  # the page and a run's own lines with some lanes joint
 POLICY = (
     "default-src 'none'; script-src 'unsafe-inline'; style-src 'unsafe-inline'; img-src data: blob:; connect-src 'self'"
 )
@@ -35,40 +37,63 @@ class Refusal(Exception):
 
 
 class Bridge(ThreadingHTTPServer):
-    """Serves one page, and passes its lines to the engine."""
+    """Serves one page, and passes its lines to its engines: the traffic as it is, and as it was without changes."""
 
     daemon_threads = True
 
-    def __init__(self, engine: Engine, page: bytes, port: int = 0) -> None:
+    def __init__(self, engines: Sequence[Engine], page: bytes, port: int = 0, join: Join | None = None) -> None:
         super().__init__((HOST, port), Handler)
-        self.engine, self.page = engine, page
-        self.token, self.owner, self.lock = secrets.token_urlsafe(24), "", threading.Lock()
+        self.engines, self.page, self.join = engines, page, join
+        self.token, self.owner, self.lock = secrets.token_urlsafe(24), "", threading.Condition()
 
     @property
     def address(self) -> str:
         return f"http://{HOST}:{self.server_port}/{self.token}/"
 
-    def take(self, name: str) -> None:
-        """The page of this name becomes the one that is served."""
+    def handle_error(self, request: object, client_address: object) -> None:
+        """A page that goes in the middle of an answer is no fault."""
+        if not isinstance(sys.exc_info()[1], OSError):
+            super().handle_error(request, client_address)  # type: ignore[arg-type]
+
+    def take(self, name: str, from_another: bool = False) -> None:
+        """The page of this name becomes the one that is served; from another one only where it asks for that."""
         with self.lock:
-            if self.owner not in ("", name):
-                raise Refusal(HTTPStatus.CONFLICT, "another page is open at this bridge: close it, and reload this one")
+            if self.owner not in ("", name) and not from_another:
+                raise Refusal(
+                    HTTPStatus.CONFLICT,
+                    "another page is open at this bridge: close it and reload this one, or take over from it",
+                )
             self.owner = name
+            self.lock.notify_all()
+
+    def join_lanes(self, names: Iterable[str]) -> None:
+        """Has the run imported anew with more lanes joint: for the page when it is loaded again."""
+        if self.join is None:
+            raise Refusal(HTTPStatus.NOT_FOUND, "this run is not imported anew")
+        self.page, lines = self.join(names)
+        for engine in self.engines:
+            engine.take(lines)
 
     def give_up(self, name: str) -> None:
         with self.lock:
             if self.owner == name:
                 self.owner = ""
+                self.lock.notify_all()
+
+    def is_owner(self, name: str, wait: float = 0) -> bool:
+        """Whether a page is the one that is served, and is still so in some seconds."""
+        with self.lock:
+            return not self.lock.wait_for(lambda: self.owner != name, wait) if name else False
 
     def check_owner(self, name: str) -> None:
-        with self.lock:
-            if not name or self.owner != name:
-                raise Refusal(HTTPStatus.CONFLICT, "this page is not the one that the bridge serves: reload it")
+        if not self.is_owner(name):
+            raise Refusal(HTTPStatus.CONFLICT, "this page is not the one that the bridge serves: reload it")
 
 
 class Handler(BaseHTTPRequestHandler):
-    """A request: GET /TOKEN/ is the page; POST /TOKEN/PAGE/begin, lines and leave are what the
-    page of that name sends."""
+    """A request: GET /TOKEN/ is the page; POST /TOKEN/PAGE/VERB is what the page of that name sends. begin and lines go
+    to an engine, which a number behind them names; stay is answered for as long as the page is the one that is served;
+    take makes it that one in the place of another; join has lanes joint, which the request names."""
 
     protocol_version = "HTTP/1.1"
     # An answer goes out at once and in one piece: the system else holds the second piece back for 40 ms.
@@ -82,9 +107,11 @@ class Handler(BaseHTTPRequestHandler):
     def do_POST(self) -> None:
         self.serve(self.post)
 
-    def serve(self, answer: Callable[[list[str]], tuple[bytes, str]]) -> None:
+    def serve(self, answer: Callable[[list[str]], tuple[bytes, str] | None]) -> None:
         try:
-            self.send(HTTPStatus.OK, *answer(self.checked_path()))
+            answered = answer(self.checked_path())
+            if answered:
+                self.send(HTTPStatus.OK, *answered)
         except Refusal as refusal:
             self.refuse(refusal.status, refusal.why)
         except (Fault, ProgramEnded) as fault:
@@ -110,19 +137,44 @@ class Handler(BaseHTTPRequestHandler):
             raise Refusal(HTTPStatus.NOT_FOUND, "there is one page, at the address that streetsim-live printed")
         return self.server.page, "text/html; charset=utf-8"
 
-    def post(self, words: list[str]) -> tuple[bytes, str]:
+    def post(self, words: list[str]) -> tuple[bytes, str] | None:
         body = self.body()
-        if len(words) != 2 or words[1] not in ("begin", "lines", "leave"):
-            raise Refusal(HTTPStatus.NOT_FOUND, "a page sends begin, lines and leave")
-        name, verb = words
+        name, verb, *which = [*words, "", ""][: max(2, len(words))]
+        if verb not in VERBS or not name or which not in ([], ["0"], ["1"]):
+            raise Refusal(HTTPStatus.NOT_FOUND, f"a page sends {', '.join(VERBS)}")
+        engine = self.server.engines[int(which[0]) if which else 0]
         if verb == "leave":
             self.server.give_up(name)
-            return b"", "text/plain"
-        if verb == "begin":
+        elif verb == "take":
+            self.server.take(name, True)
+        elif verb == "begin":
             self.server.take(name)
-            return b"".join(self.server.engine.begin()), "text/plain"
-        self.server.check_owner(name)
-        return b"".join(self.server.engine.ask(lines_of(body))), "text/plain"
+            return b"".join(engine.begin()), "text/plain"
+        else:
+            self.server.check_owner(name)
+            if verb == "lines":
+                return b"".join(engine.ask(lines_of(body))), "text/plain"
+            if verb == "stay":
+                self.stay(name)
+                return None
+            self.server.join_lanes(body.decode(errors="replace").split())
+        return b"", "text/plain"
+
+    def stay(self, name: str) -> None:
+        """Sends a byte now and then until the page is no longer the one that is served. A page whose browser was killed
+        is gone as soon as one cannot be sent."""
+        self.close_connection = True
+        self.send_response(HTTPStatus.OK)
+        self.send_header("Content-Type", "text/plain")
+        self.send_header("Cache-Control", "no-store")
+        self.send_header("Connection", "close")
+        self.end_headers()
+        try:
+            while self.server.is_owner(name, HEARD_EVERY):
+                self.wfile.write(b".")
+                self.wfile.flush()
+        except OSError:
+            self.server.give_up(name)
 
     def body(self) -> bytes:
         length = self.headers.get("Content-Length", "")

@@ -1,21 +1,31 @@
-// The two engines of a page. Each has begin(), which starts from nothing and serves the run's own lines, and ask(lines); both give
+// The two kinds of engines of a page. Each has begin(), which starts from nothing and serves the run's own lines, and ask(lines); both give
 // replies as texts, in the order of the lines.
 
-// The program on this machine, by the bridge that served the page.
+// The program on this machine, by the bridge that served the page. All engines of a page go by one name.
 class BridgeEngine {
-  constructor() {
-    this.page = crypto.randomUUID();
-    addEventListener("pagehide", () => navigator.sendBeacon(`${this.page}/leave`, ""));
+  static page = crypto.randomUUID();
+
+  constructor(which = 0) {
+    this.which = which;
+    if (!which) addEventListener("pagehide", () => navigator.sendBeacon(`${BridgeEngine.page}/leave`, ""));
   }
 
-  async send(verb, body) {
-    const answer = await fetch(`${this.page}/${verb}`, { method: "POST", body }), text = await answer.text();
-    if (!answer.ok) throw new Error(answer.headers.get("Content-Type") === "application/json" ? JSON.parse(text).fault : `the bridge answers ${answer.status}`);
-    return text.split("\n").slice(0, -1);
+  async answered(verb, body) {
+    const answer = await fetch(`${BridgeEngine.page}/${verb}`, { method: "POST", body });
+    if (answer.ok) return answer;
+    const told = answer.headers.get("Content-Type") === "application/json" ? (await answer.json()).fault : `the bridge answers ${answer.status}`;
+    throw Object.assign(new Error(told), { isTaken: answer.status === 409 });
   }
+
+  async send(verb, body) { return (await (await this.answered(`${verb}/${this.which}`, body)).text()).split("\n").slice(0, -1); }
 
   begin() { return this.send("begin", ""); }
   ask(lines) { return this.send("lines", lines.join("\n") + "\n"); }
+  take() { return this.answered("take", ""); }
+  join(name) { return this.answered("join", name); }
+
+  // Until this page is no longer the one that the bridge serves.
+  async stay() { try { await (await this.answered("stay", "")).text(); } catch { /* the bridge has ended */ } }
 }
 
 // The program inside this page, as WebAssembly: its `read` waits for the next lines of the page, and what it writes answers the oldest

@@ -3,13 +3,26 @@ import base64
 import gzip
 import json
 from pathlib import Path
+from typing import Any
 
-from ..files import Fault
-from ..run.mapping import Map
-from ..run.runs import Run
+from streetsim.base.files import Fault, FilePath
+from streetsim.live.facts import departures_and_ends, streets_and_areas
+from streetsim.model.mapping import Map
+from streetsim.model.runs import Run
 
 PLACE = Path(__file__).parent
 PICTURES = PLACE.parent / "pictures"
+# In the order in which they stand in the page.
+SCRIPTS = (
+    PICTURES / "drawing.js",
+    *(
+        PLACE / f"{name}.js"
+        for name in (
+            "engines", "merging", "ledger", "session", "movements", "bars", "colours", "elements", "world", "view",
+            "plan_editor", "charts", "tables", "works", "chosen", "wave", "controls", "live",
+        )
+    ),
+)
 MOST_BYTES = 100_000_000  # of the packed data; browsers are slow with more
 
 
@@ -18,29 +31,54 @@ def own_lines(run: Run) -> list[bytes]:
     return [line.text.encode() + b"\n" for line in (run.load, *run.first, *run.enters)]
 
 
-def data_of(run: Run, mapping: Map) -> dict:
-    """What the page knows of a run beside the replies: names, shapes, turns,
-    signal plans and the lines that are sent later."""
-    load = run.load.command
-    links = [
+def links_of(run: Run, mapping: Map, streets: dict[str, str]) -> list[dict[str, Any]]:
+    return [
         {
-            "number": number, "name": link.edge, "lanes": lanes, "names": list(link.lanes), "cells": cells,
-            "begin": begin, "end": end, "points": link.shape,
+            "number": number, "name": link.edge, "street": streets.get(link.edge, ""), "lanes": lanes,
+            "names": list(link.lanes), "cells": cells, "metres": link.metres, "limit": limit, "begin": begin,
+            "end": end, "points": link.shape,
         }
-        for link, (number, begin, end, lanes, cells, _limit) in zip(mapping.links, load["links"], strict=True)
+        for link, (number, begin, end, lanes, cells, limit) in zip(
+            mapping.links, run.load.command["links"], strict=True
+        )
     ]
-    nodes = [
-        {"number": number, "name": name, "x": x, "y": y}
-        for (number, *_), (name, x, y, *_) in zip(load["nodes"], mapping.nodes, strict=True)
+
+
+def nodes_of(run: Run, mapping: Map, areas: dict[str, list]) -> list[dict[str, Any]]:
+    lights: dict[int, dict[str, Any]] = {node: {"name": name, "size": 0} for name, node in mapping.signals}
+    for turn in mapping.turns:
+        node = mapping.links[turn.link].end
+        if node in lights and turn.light == lights[node]["name"]:
+            lights[node]["size"] = max(lights[node]["size"], turn.index + 1)
+    return [
+        {"number": number, "name": name, "x": x, "y": y, "area": areas.get(name, []), "light": lights.get(number)}
+        for (number, *_), (name, x, y, *_) in zip(run.load.command["nodes"], mapping.nodes, strict=True)
     ]
+
+
+def data_of(
+    run: Run, mapping: Map, single: bool = False, map_path: FilePath = "", proved: bool = False
+) -> dict[str, Any]:
+    """What the page knows of a run beside the replies: names, shapes, turns,
+    signal plans and the lines that are sent later. single: whether it is one file; proved: whether its program is the
+    one that ./build made."""
+    streets, areas = streets_and_areas(mapping, map_path) if map_path else ({}, {})
+    departs, free = departures_and_ends(run, mapping)
     return {
-        "links": links,
-        "nodes": nodes,
-        "turns": load["turns"],
+        "links": links_of(run, mapping, streets),
+        "nodes": nodes_of(run, mapping, areas),
+        "turns": [[one.link, one.lane, one.next, one.next_lane, one.light, one.index] for one in mapping.turns],
         "cars": mapping.cars,
+        "departs": departs,
+        "free": free,
         "start": run.start(),
+        "dawdle": run.load.command.get("dawdle", 0) / 1000,
         "signals": [line.command for line in run.first if line.command["cmd"] == "signal"],
         "timed": [[clock, line.text] for clock, line in run.timed],
+        "works": [line.command for line in run.first if line.command["cmd"] in ("close", "reopen")],
+        "yields": len(mapping.yields),
+        "single": single,
+        "proved": proved,
     }
 
 
@@ -49,17 +87,16 @@ def packed(value: bytes) -> str:
     return base64.b64encode(gzip.compress(value, mtime=0)).decode()
 
 
-def page_of(run: Run, mapping: Map, engine: bytes | None = None) -> bytes:
+def page_of(
+    run: Run, mapping: Map, engine: bytes | None = None, map_path: FilePath = "", proved: bool = False
+) -> bytes:
     """The page: with an engine it is one file that runs by itself; else it asks the bridge that serves it."""
-    data = json.dumps(data_of(run, mapping), separators=(",", ":")).encode()
+    known = data_of(run, mapping, engine is not None, map_path, proved)
     parts = {
-        "@DATA@": packed(data),
+        "@DATA@": packed(json.dumps(known, separators=(",", ":")).encode()),
         "@LINES@": packed(b"".join(own_lines(run))),
         "@ENGINE@": packed(engine) if engine else "",
-        "/*DRAWING*/": (PICTURES / "drawing.js").read_text(encoding="utf-8"),
-        "/*ENGINES*/": (PLACE / "engines.js").read_text(encoding="utf-8"),
-        "/*SESSION*/": (PLACE / "session.js").read_text(encoding="utf-8"),
-        "/*LIVE*/": (PLACE / "live.js").read_text(encoding="utf-8"),
+        "/*SCRIPTS*/": "\n".join(path.read_text(encoding="utf-8") for path in SCRIPTS),
     }
     text = (PLACE / "live.html").read_text(encoding="utf-8")
     for mark, part in parts.items():

@@ -16,18 +16,27 @@ function refusalOf(reply) {
 const MOST_STEPS = 10_000; // of one advance
 const MOST_LOOKS = 700; // lanes asked in one step because they are in view
 const ROUND = 10; // steps in which each lane of the network is asked once
+const MOST_BATCH = 500; // steps of one request
+const COUNT = '{"cmd":"count"}';
+const CHANGING = new Set(["signal", "close", "reopen", "takeout"]); // commands that change what traffic does
 
 class Session {
   constructor(engine, data, own) {
     this.engine = engine; this.data = data; this.own = own;
+    this.joint = new Map(data.links.filter(link => link.lanes === 2).map(link => [link.number, link.cells]));
     this.lanes = data.links.flatMap(link => Array.from({ length: link.lanes }, (_, lane) => ({ link, lane, ask: JSON.stringify({ cmd: "lane", link: link.number, lane }), state: null, seen: -1 })));
+    this.changes = []; // {text, made: clock, commands: [{clock, command}]}, in the order of their making
   }
 
   // From nothing: the run's own lines. Gives the first refusal in words, or nothing.
   async begin() {
     const replies = (await this.engine.begin()).map(reply => JSON.parse(reply));
     this.clock = this.data.start; this.timed = 0; this.turn = 0;
-    this.sent = []; this.actions = []; this.detectors = []; this.count = null;
+    this.merges = new Merges(this.joint);
+    for (const command of this.data.works) this.merges.done(this.clock, command);
+    this.sent = []; this.changes = []; this.detectors = []; this.count = null;
+    this.pending = []; // commands of changes whose second is still to come, {clock, command}
+    this.ledger = new Ledger(this.data);
     this.plans = new Map();
     for (const command of this.data.signals) this.takePlan(command);
     const at = replies.findIndex(reply => refusalOf(reply));
@@ -36,32 +45,72 @@ class Session {
 
   takePlan({ node, offset, phases }) { this.plans.set(node, { node, offset, phases }); }
 
-  // The lines of so many steps: timed lines of the run are sent as their second comes.
+  // The lines of so many steps, or of those until lanes with works are to be looked at: timed lines of the run are sent as their second comes.
   linesOf(steps) {
     const lines = [];
     let clock = this.clock, left = steps;
     for (let next = this.timed; left || this.data.timed[next]?.[0] <= clock;) {
-      const due = this.data.timed[next];
-      if (due && due[0] <= clock) { lines.push({ line: due[1], timed: true }); next++; continue; }
-      const part = Math.min(left, MOST_STEPS, due ? due[0] - clock : left);
-      lines.push({ line: JSON.stringify({ cmd: "advance", steps: part }), timed: false });
-      clock += part; left -= part;
+      const due = this.data.timed[next], merging = this.merges.next();
+      if (clock > this.clock && merging !== null && merging <= clock) break;
+      if (due && due[0] <= clock) { lines.push(...this.timedLines(clock, due[1])); next++; continue; }
+      lines.push({ line: '{"cmd":"advance","steps":1}' }, { line: COUNT, counts: true });
+      clock++; left--;
     }
     return lines;
   }
 
-  // Makes steps, and looks at lanes: those in view where they are few, and a part of all, so that each is seen once in a round.
-  async advance(steps, isInView = () => false) {
-    const lines = this.linesOf(steps), looks = this.looks(isInView);
-    const replies = await this.engine.ask([...lines.map(one => one.line), '{"cmd":"count"}', ...looks.map(lane => lane.ask)]);
-    lines.forEach((one, i) => this.took(one, replies[i]));
-    this.count = JSON.parse(replies[lines.length]);
-    this.saw(looks, replies.slice(lines.length + 1));
+  // A line of the run, and before a close or reopen what leaves nothing closed that merging has closed.
+  timedLines(clock, line) {
+    const command = JSON.parse(line), before = this.merges.before(command).map(own => ({ line: JSON.stringify(own), own: true }));
+    this.merges.done(clock, command);
+    return [...before, { line, timed: true }];
   }
 
-  took({ line, timed }, reply) {
+  // Makes steps, and looks at lanes: those in view where they are few, and a part of all, so that each is seen once in a round.
+  async advance(steps, isInView = () => false) {
+    const target = this.clock + steps, looks = this.looks(isInView);
+    let seen = null;
+    await this.tellDue();
+    do {
+      const next = Math.min(target, this.pending[0]?.clock ?? target, this.clock + MOST_BATCH);
+      seen = await this.go(next - this.clock, next === target ? looks : []);
+      await this.tellDue();
+    } while (this.clock < target || this.data.timed[this.timed]?.[0] <= this.clock);
+    if (seen?.length) this.saw(looks, seen); else await this.lookAt(looks);
+  }
+
+  // Sends the lines of steps, and asks some lanes behind them where nothing else comes first; gives their replies, or nothing.
+  async go(steps, looks) {
+    const target = this.clock + steps, lines = this.linesOf(steps), merging = this.merges.next();
+    const isLast = (merging === null || merging > target) && (this.pending[0]?.clock ?? Infinity) > target && !lines.some(one => one.timed), asked = isLast ? looks : [];
+    const replies = lines.length + asked.length ? await this.engine.ask([...lines.map(one => one.line), ...asked.map(lane => lane.ask)]) : [];
+    lines.forEach((one, i) => this.took(one, replies[i]));
+    await this.merge();
+    return isLast && this.clock === target ? replies.slice(lines.length) : null;
+  }
+
+  // Sends what changes wanted at this second.
+  async tellDue() {
+    while (this.pending.length && this.pending[0].clock <= this.clock) {
+      const refused = refusalOf(await this.tell(this.pending.shift().command));
+      if (refused) throw new Error(refused);
+    }
+  }
+
+  // Looks at works that are due, and has vehicles merge before them.
+  async merge() {
+    const links = this.merges.due(this.clock);
+    if (!links.length) return;
+    const states = (await this.engine.ask(links.flatMap(link => [0, 1].map(lane => JSON.stringify({ cmd: "lane", link, lane }))))).map(reply => JSON.parse(reply));
+    const lines = links.flatMap((link, i) => this.merges.told(this.clock, link, states.slice(2 * i, 2 * i + 2))).map(command => ({ line: JSON.stringify(command), own: true }));
+    if (lines.length) (await this.engine.ask(lines.map(one => one.line))).forEach((reply, i) => this.took(lines[i], reply));
+  }
+
+  took({ line, timed, own, counts }, reply) {
     const read = JSON.parse(reply);
+    if (counts) { this.count = read; this.ledger.note(read); return; }
     this.sent.push([line, reply]);
+    if (own) { if (refusalOf(read)) throw new Error(refusalOf(read)); return; }
     if (timed) { this.timed++; if (!refusalOf(read)) this.did(JSON.parse(line), read); return; }
     if (refusalOf(read)) throw new Error(refusalOf(read));
     this.clock = read.clock;
@@ -84,39 +133,77 @@ class Session {
   }
 
   // Looks at all lanes in view, or at all of the network.
-  async look(isInView = () => true) {
-    const looks = this.lanes.filter(lane => isInView(lane.link));
-    const [count, ...replies] = await this.engine.ask(['{"cmd":"count"}', ...looks.map(lane => lane.ask)]);
+  look(isInView = () => true) { return this.lookAt(this.lanes.filter(lane => isInView(lane.link))); }
+
+  async lookAt(looks) {
+    const [count, ...replies] = await this.engine.ask([COUNT, ...looks.map(lane => lane.ask)]);
     this.count = JSON.parse(count);
     this.saw(looks, replies);
   }
 
-  // Sends a command that may change something, and gives its reply; a refused one is not part of the session.
+  // Why a lane cannot be closed as the run is: nobody could change to the lane beside it. Nothing where it can.
+  whyParallel(link) {
+    const beside = this.data.links.filter(other => other.name === link.name);
+    if (link.lanes > 1 || beside.length === 1) return "";
+    const name = `${link.name}_${link.names[0]}`, word = `--joint ${name}`;
+    const how = this.data.single ? `this page is one file and cannot import: make it anew by streetsim-live with ${word}` : `start streetsim-live with ${word}, which imports it anew`;
+    return `${name} is a link of its own, and nobody changes lane between the parallel links of an edge: its vehicles would stand. To close it, ${how}`;
+  }
+
+  // Makes a change: commands of this second, and of later ones, which are sent as these come. Gives the reply to the last that was sent;
+  // a refused one is not part of the session, and nothing behind it is sent.
+  async change(text, commands) {
+    const now = commands.filter(one => one.clock <= this.clock), later = commands.filter(one => one.clock > this.clock);
+    const done = [];
+    let reply = {};
+    for (const { command } of now) {
+      reply = await this.tell(command);
+      if (refusalOf(reply)) break;
+      done.push({ clock: this.clock, command });
+    }
+    const coming = refusalOf(reply) ? [] : later;
+    if (done.length + coming.length) this.changes.push({ text, made: this.clock, commands: [...done, ...coming] });
+    this.pending = [...this.pending, ...coming].sort((one, other) => one.clock - other.clock);
+    return reply;
+  }
+
+  // Sends a command that may change something, and gives its reply.
   async tell(command) {
-    const line = JSON.stringify(command), [reply] = await this.engine.ask([line]), read = JSON.parse(reply);
+    const line = JSON.stringify(command), own = this.merges.before(command).map(one => ({ line: JSON.stringify(one), own: true }));
+    const replies = await this.engine.ask([...own.map(one => one.line), line]), reply = replies.pop(), read = JSON.parse(reply);
+    own.forEach((one, i) => this.took(one, replies[i]));
     if (!refusalOf(read)) {
-      this.sent.push([line, reply]); this.actions.push({ clock: this.clock, line });
+      this.merges.done(this.clock, command);
+      this.sent.push([line, reply]);
       this.did(command, read);
     }
     return read;
   }
 
-  // Asks something that changes nothing.
-  async ask(command) { return JSON.parse((await this.engine.ask([JSON.stringify(command)]))[0]); }
+  // Asks what changes nothing.
+  async askAll(commands) { return (await this.engine.ask(commands.map(command => JSON.stringify(command)))).map(reply => JSON.parse(reply)); }
+  async ask(command) { return (await this.askAll([command]))[0]; }
 
   // As it was when a second began: all is run anew, with what was done before that second. Exact, as equal lines give equal replies.
-  async backTo(second) {
-    const actions = this.actions.filter(action => action.clock < second), target = Math.max(this.data.start, second);
+  backTo(second) { return this.anew(this.changes.filter(change => change.made < second), Math.max(this.data.start, second)); }
+
+  // As it is now, but for one change.
+  without(undone) { return this.anew(this.changes.filter(change => change !== undone), this.clock); }
+
+  async anew(changes, target) {
     await this.begin();
-    for (const { clock, line } of actions) {
-      await this.run(clock);
-      await this.tell(JSON.parse(line));
+    for (const change of changes) {
+      await this.run(change.made);
+      await this.change(change.text, change.commands);
     }
     await this.run(target);
     await this.look();
   }
 
   async run(clock) { if (clock > this.clock) await this.advance(clock - this.clock); }
+
+  // Whether traffic is another one than that of the run as it was.
+  isChanged() { return this.changes.some(({ commands }) => commands.some(({ command }) => CHANGING.has(command.cmd))); }
 
   // What was sent and answered, steps that follow each other as one line.
   record() {

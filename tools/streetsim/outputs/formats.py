@@ -1,15 +1,13 @@
 """SUMO's output files that are made second by second: each class writes one, from what a second shows."""
-from __future__ import annotations
-
 from bisect import bisect_right
 from collections.abc import Sequence
 from xml.sax.saxutils import quoteattr
 
-from .. import limits
-from ..files import TextFile
-from ..run.mapping import Place
-from .places import Places
-from .seconds import At, Second, Trip
+from streetsim.base import limits
+from streetsim.base.files import TextFile
+from streetsim.model.mapping import Place
+from streetsim.outputs.places import Places
+from streetsim.outputs.seconds import At, Second, Trip
 
 SCHEMAS = "http://sumo.dlr.de/xsd/"
 HALTING = 0.1  # metres a second, SUMO's: below it a vehicle stands
@@ -32,6 +30,7 @@ class XmlFile:
         """Takes a second; all seconds of a run are given one after another."""
 
     def end(self) -> None:
+        """Writes the end of the root; the file is closed by who opened it."""
         self.file.write(f"</{self.root}>\n")
 
 
@@ -52,6 +51,7 @@ class Tripinfo(XmlFile):
             self.file.write(f"    <tripinfo {self.row(trip, second.clock)}/>\n")
 
     def row(self, trip: Trip, arrival: int) -> str:
+        """The attributes of a trip that arrived at a clock."""
         names, duration = self.places.names, arrival - trip.depart
         return attributes(
             id=trip.name,
@@ -142,9 +142,11 @@ class Fcd(XmlFile):
         self.file.write("".join([*rows, "    </timestep>\n"]))
 
     def named(self, trip: Trip) -> tuple[str, str]:
+        """A trip's name and type, as attributes have them."""
         return quoteattr(trip.name), quoteattr(trip.kind)
 
     def text(self, at: At) -> tuple[str, str]:
+        """The attributes of a place before the vehicle's type and after it."""
         x, y, angle = self.places.point(at)
         lane = self.places.names[at.link, at.lane]
         after = attributes(speed=self.places.speed(at), pos=self.places.metres(at), lane=lane, slope=0.0)
@@ -188,5 +190,5 @@ class Queue(XmlFile):
 
 
 def vehicle_metres(at: At) -> float:
-    """The length of a vehicle without its gap."""
+    """Metres of a vehicle without its gap."""
     return at.size * limits.CELL_METRES - limits.GAP_METRES

@@ -1,26 +1,25 @@
 """SUMO's output files that are sums over intervals: edgeData, e1, e2."""
-from __future__ import annotations
-
-from collections.abc import Collection, Sequence
+from collections.abc import Sequence
 from dataclasses import dataclass, field
 from typing import Any
 
-from ..files import TextFile
-from ..run.detectors import E1, E2, Detector, longest_jam
-from ..run.mapping import Place
-from .formats import XmlFile, attributes, vehicle_metres
-from .places import Places
-from .seconds import At, Second
+from streetsim.base.files import TextFile
+from streetsim.model.detectors import E1, E2, Detector, longest_jam
+from streetsim.model.mapping import Place
+from streetsim.outputs.formats import XmlFile, attributes, vehicle_metres
+from streetsim.outputs.places import Places
+from streetsim.outputs.seconds import At, Second
+Sums = Any  # of a kind of detector: its own
 
 
 @dataclass(slots=True)
 class EdgeSums:
     """What an edge saw in an interval."""
 
-    seconds: int = 0  # of vehicles
-    metres: float = 0.0
-    waiting: int = 0
-    loss: float = 0.0
+    seconds: int = 0  # of vehicles on it
+    metres: float = 0.0  # driven
+    waiting: int = 0  # seconds of standing
+    loss: float = 0.0  # seconds
     covered: float = 0.0  # metres of vehicles, summed over seconds
     departed: int = 0
     arrived: int = 0
@@ -41,6 +40,7 @@ class Edgedata(XmlFile):
         self.sums: dict[str, EdgeSums] = {}  # by edge
 
     def of(self, link: int) -> EdgeSums:
+        """The sums of a link's edge in this interval."""
         return self.sums.setdefault(self.links[link].edge, EdgeSums())
 
     def step(self, second: Second) -> None:
@@ -62,7 +62,7 @@ class Edgedata(XmlFile):
             self.of(trip.last.link).arrived += 1
 
     def drive(self, at: At) -> None:
-        """A vehicle on an edge for a second."""
+        """Adds a vehicle on an edge for a second."""
         sums, link = self.of(at.link), self.links[at.link]
         sums.seconds += 1
         sums.metres += self.places.speed(at)
@@ -81,6 +81,7 @@ class Edgedata(XmlFile):
         self.begin, self.sums = end, {}
 
     def row(self, edge: str, sums: EdgeSums, seconds: int) -> str:
+        """The attributes of an edge over an interval of so many seconds."""
         links = [self.links[link] for link in self.places.mapping.links_of[edge]]
         lanes, metres = sum(len(link.lanes) for link in links), links[0].metres
         seen = {}
@@ -115,17 +116,17 @@ class Detectors(XmlFile):
         super().__init__(file, places)
         self.detectors = [one for one in places.mapping.detectors if one.kind == self.kind]
         self.begins, self.clock = {one.name: start for one in self.detectors}, start
-        self.sums: dict[str, Any] = {one.name: self.empty(one, None) for one in self.detectors}
+        self.sums: dict[str, Sums] = {one.name: self.empty(one, None) for one in self.detectors}
 
-    def empty(self, one: Detector, before: Any) -> Any:
-        """What an interval begins with, behind another one or first."""
+    def empty(self, one: Detector, before: Sums) -> Sums:
+        """The sums with which an interval begins; before: those of the one before it, none where it is the first."""
         raise NotImplementedError
 
-    def note(self, one: Detector, sums: Any, second: Second, here: Sequence[tuple[int, At]]) -> None:
+    def note(self, one: Detector, sums: Sums, second: Second, here: Sequence[tuple[int, At]]) -> None:
         """Adds a second, in which these vehicles are on the detector's lane."""
         raise NotImplementedError
 
-    def row(self, one: Detector, sums: Any, seconds: int) -> str:
+    def row(self, one: Detector, sums: Sums, seconds: int) -> str:
         """The attributes of an interval that lasted so long."""
         raise NotImplementedError
 
@@ -141,6 +142,7 @@ class Detectors(XmlFile):
             self.note(one, self.sums[one.name], second, by_place.get((one.link, one.lane), ()))
 
     def write(self, one: Detector) -> None:
+        """Writes a detector's interval that has ended, and begins the next."""
         begin, end = self.begins[one.name], min(self.clock, self.begins[one.name] + one.period)
         row = self.row(one, self.sums[one.name], end - begin)
         self.file.write(f"    <interval {attributes(begin=float(begin), end=float(end), id=one.name)} {row}/>\n")
@@ -155,6 +157,8 @@ class Detectors(XmlFile):
 
 @dataclass(slots=True)
 class LoopSums:
+    """What a loop saw in an interval."""
+
     speeds: list[float] = field(default_factory=list)  # metres a second of those that passed
     metres: list[float] = field(default_factory=list)  # of these vehicles
     occupied: int = 0  # seconds
@@ -206,9 +210,9 @@ class AreaSums:
     entered: int = 0
     left: int = 0
     seconds: int = 0
-    metres: float = 0.0
+    metres: float = 0.0  # driven
     loss: float = 0.0
-    most: int = 0
+    most: int = 0  # in one second
     covered: list[float] = field(default_factory=list)  # share of the area, by second
     jams: list[int] = field(default_factory=list)  # vehicles in the longest jam, by second
     standing: int = 0  # vehicles, summed over seconds
@@ -245,6 +249,7 @@ class Areas(Detectors):
         self.note_halts(sums, {car for car, at in inside.items() if not at.speed})
 
     def note_halts(self, sums: AreaSums, standing: set[int]) -> None:
+        """Notes which cars stand in an area in a second."""
         for car in sums.halts.keys() - standing:
             sums.ended.append((sums.halts.pop(car), sums.interval_halts.pop(car)))
         sums.started += len(standing - sums.halts.keys())

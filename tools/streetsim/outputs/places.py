@@ -1,14 +1,10 @@
 """Where cells lie: SUMO's lane names, metres along a lane, points and angles."""
-from __future__ import annotations
-
 from bisect import bisect_right
 from itertools import accumulate
 from math import atan2, degrees, dist
-from typing import TYPE_CHECKING
 
-if TYPE_CHECKING:
-    from ..run.mapping import Map, Shape
-    from .seconds import At
+from streetsim.model.mapping import Map, Shape
+from streetsim.outputs.seconds import At
 
 LANE_WIDTH = 3.2  # metres, SUMO's default
 
@@ -28,7 +24,7 @@ class Places:
         return link.metres if at.cell is None else (at.cell + 1) * self.cell_metres[at.link]
 
     def speed(self, at: At) -> float:
-        """Metres a second."""
+        """Metres a second, of a vehicle's cells a second."""
         return at.speed * self.cell_metres[at.link]
 
     def point(self, at: At) -> tuple[float, float, float]:
@@ -47,7 +43,8 @@ class Line:
         self.ends = list(accumulate(self.sizes))
 
     def at(self, share: float, side: float = 0.0) -> tuple[float, float, float]:
-        """The point at a share of the length, so many metres to the right of the line, and the angle there."""
+        """The point at a share of the length (0 to 1), so many metres to the right of the line, and the angle there, in
+        degrees clockwise from north."""
         way = share * self.ends[-1]
         piece = min(bisect_right(self.ends, way), len(self.sizes) - 1)
         (x, y), (following_x, following_y) = self.points[piece : piece + 2]

@@ -1,13 +1,11 @@
 """What each second of a run shows, vehicle by vehicle: who departed, entered an edge, left it, arrived."""
-from __future__ import annotations
-
 from collections.abc import Iterable, Sequence
 from dataclasses import dataclass, field
 from typing import Any
 
-from ..run.detectors import size_of
-from ..run.freeflow import Alone
-from ..run.mapping import Map
+from streetsim.model.detectors import size_of
+from streetsim.model.freeflow import Alone
+from streetsim.model.mapping import Map
 
 
 @dataclass(slots=True, frozen=True)
@@ -22,7 +20,7 @@ class At:
 
     @property
     def front(self) -> int:
-        """The cell of one that is in a cell."""
+        """The cell of its front, of one that is in a cell."""
         assert self.cell is not None
         return self.cell
 
@@ -69,6 +67,7 @@ class Follower:
     """Follows the vehicles of a run from second to second."""
 
     def __init__(self, mapping: Map, dawdle: float) -> None:
+        """dawdle: the chance to go on by a cell less, 0 to 1."""
         self.mapping, self.alone = mapping, Alone(mapping, dawdle)
         self.trips: dict[int, Trip] = {}
         self.expected: dict[int, tuple[str, int, str]] = {}  # name, wished second, type
@@ -76,7 +75,7 @@ class Follower:
         self.entered_at: dict[int, int] = {}  # car: the clock since which it is in a junction
 
     def expect(self, car: int, name: str, wished: int, kind: str = "DEFAULT_VEHTYPE") -> None:
-        """A vehicle that may depart from a second on; all are told before they are seen."""
+        """Tells of a vehicle that would depart at a second, with its name and type; before it is seen."""
         self.expected[car] = name, wished, kind
 
     def see(self, clock: int, lanes: Iterable[Sequence[Any]], arrived: Iterable[int]) -> Second:
@@ -99,7 +98,8 @@ class Follower:
         return second
 
     def in_junction(self, car: int, link: int, lane: int, clock: int) -> At:
-        """A vehicle in the buffer of a lane: it drives for as long as the junction takes at least, and then stands."""
+        """Where a vehicle in the buffer of a lane is: it drives for as long as the junction takes at least, and then
+        stands."""
         last = self.before.get(car)
         if last is None or last.cell is not None or last.link != link:
             self.entered_at[car] = clock
@@ -126,14 +126,15 @@ class Follower:
         trip.last = at
 
     def add_link(self, trip: Trip, link: int) -> None:
-        """SUMO counts as lost what a vehicle loses by gaining speed, so it comes at the link's own."""
+        """Adds a link that a vehicle comes to. SUMO counts as lost what a vehicle loses by gaining speed, so it comes
+        at the link's own."""
         trip.free += trip.crossing + self.alone.on_link(link, link)
         trip.crossing = self.alone.across(link)
         trip.metres += self.mapping.links[link].metres
 
 
 def note_standing(trip: Trip, at: At) -> None:
-    """Counts seconds of standing and stops."""
+    """Counts a trip's seconds of standing and stops, by where it is in this second."""
     if at.speed:
         trip.standing = 0
         return

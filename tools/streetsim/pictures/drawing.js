@@ -2,6 +2,9 @@
 "use strict";
 const SPEED_COLOURS = ["#a50026", "#f08000", "#3b7fc4"]; // standing, 27 km/h, faster
 const GREEN = "#1a9641", RED = "#d7191c", LANE_METRES = 3.2;
+// What a picture is drawn with; a page may have others.
+const LIGHT = { ground: "#fff", street: "#ccc", mark: "#fff", ink: "#222", label: "#ffffe0", green: GREEN, red: RED, speeds: SPEED_COLOURS };
+const FARTHEST_HOP = 60; // metres between two places of a vehicle that it is drawn between
 const clockText = seconds => [seconds / 3600, seconds / 60 % 60, seconds % 60].map(part => String(Math.floor(part)).padStart(2, "0")).join(":");
 const metresText = metres => metres < 1000 ? `${metres} m` : `${metres / 1000} km`;
 
@@ -25,12 +28,22 @@ function distance([x, y], [ax, ay], [bx, by]) {
   return Math.hypot(x - ax - share * (bx - ax), y - ay - share * (by - ay));
 }
 
+// The point and the direction at a share of a link's length, moved to the lane's side.
+function placeOnLane(link, lane, share) {
+  let left = share * link.total, i = 0;
+  while (i < link.lengths.length - 1 && left > link.lengths[i]) left -= link.lengths[i++];
+  const [a, b] = [link.points[i], link.points[i + 1]], size = link.lengths[i] || 1, dx = (b[0] - a[0]) / size, dy = (b[1] - a[1]) / size;
+  const side = ((link.lanes - 1) / 2 - lane) * LANE_METRES;
+  return [a[0] + dx * left + dy * side, a[1] + dy * left - dx * side, dx, dy];
+}
+
 // Links on a canvas, seen from a place at a scale (pixels a metre).
 class Scene {
   constructor(canvas, links) {
     this.canvas = canvas;
     this.pen = canvas.getContext("2d");
     this.links = links;
+    this.colours = LIGHT;
     this.x = this.y = 0;
     this.scale = 1;
     this.moved = false; // whether somebody has chosen the place and the scale
@@ -65,14 +78,7 @@ class Scene {
     return box[0] < this.x + wide && box[2] > this.x - wide && box[1] < this.y + high && box[3] > this.y - high;
   }
 
-  // The point and the direction at a share of a link's length, moved to the lane's side.
-  place(link, lane, share) {
-    let left = share * link.total, i = 0;
-    while (i < link.lengths.length - 1 && left > link.lengths[i]) left -= link.lengths[i++];
-    const [a, b] = [link.points[i], link.points[i + 1]], size = link.lengths[i] || 1, dx = (b[0] - a[0]) / size, dy = (b[1] - a[1]) / size;
-    const side = ((link.lanes - 1) / 2 - lane) * LANE_METRES;
-    return [a[0] + dx * left + dy * side, a[1] + dy * left - dx * side, dx, dy];
-  }
+  place(link, lane, share) { return placeOnLane(link, lane, share); }
 
   // The link whose line is nearest to a place, within some pixels; none where there is none.
   nearestLink(point, pixels = 12) {
@@ -84,7 +90,7 @@ class Scene {
     return found;
   }
 
-  clear() { this.pen.fillStyle = "#fff"; this.pen.fillRect(0, 0, this.canvas.width, this.canvas.height); }
+  clear() { this.pen.fillStyle = this.colours.ground; this.pen.fillRect(0, 0, this.canvas.width, this.canvas.height); }
 
   line(points, colour, width) {
     this.pen.strokeStyle = colour; this.pen.lineWidth = width; this.pen.beginPath();
@@ -92,23 +98,26 @@ class Scene {
     this.pen.stroke();
   }
 
-  drawLink(link, colour = "#ccc") { this.line(link.points, colour, Math.max(1, LANE_METRES * link.lanes * this.scale)); }
+  drawLink(link, colour = this.colours.street) { this.line(link.points, colour, Math.max(1, LANE_METRES * link.lanes * this.scale)); }
 
   // A stretch of cells of a lane, ends included.
   drawCells(link, lane, first, last, colour, width = Math.max(4, 2.6 * this.scale)) {
     this.line([this.place(link, lane, first / link.cells), this.place(link, lane, (last + 1) / link.cells)], colour, width);
   }
 
-  // Vehicles, [link, lane, rear, front, speed]: one stroke a colour.
+  // Vehicles, [link, lane, rear, front, speed]: one stroke a colour. A sixth value is a place before the link, from which they come, and the
+  // share of the way that they have made.
   drawCars(cars) {
     const paths = SPEED_COLOURS.map(() => []);
-    for (const [link, lane, rear, front, speed] of cars) {
-      const [x, y, dx, dy] = this.place(link, lane, (rear + front + 1) / 2 / link.cells), half = Math.max(2.5 + (front - rear) * 3.75, 3 / this.scale);
+    for (const [link, lane, rear, front, speed, hop] of cars) {
+      let [x, y, dx, dy] = this.place(link, lane, (rear + front + 1) / 2 / link.cells);
+      if (hop && Math.hypot(x - hop.x, y - hop.y) < FARTHEST_HOP) [x, y] = [hop.x + (x - hop.x) * hop.share, hop.y + (y - hop.y) * hop.share];
+      const half = Math.max(2.5 + (front - rear) * 3.75, 3 / this.scale);
       paths[Math.min(2, speed)].push([x - dx * half, y - dy * half, x + dx * half, y + dy * half]);
     }
     this.pen.lineWidth = Math.max(4, 2.6 * this.scale);
     paths.forEach((path, i) => {
-      this.pen.strokeStyle = SPEED_COLOURS[i]; this.pen.beginPath();
+      this.pen.strokeStyle = this.colours.speeds[i]; this.pen.beginPath();
       for (const [ax, ay, bx, by] of path) { this.pen.moveTo(...this.screen(ax, ay)); this.pen.lineTo(...this.screen(bx, by)); }
       this.pen.stroke();
     });
@@ -117,7 +126,7 @@ class Scene {
   // The stop line at a link's end.
   drawStopLine(link, isGreen) {
     const [x, y, dx, dy] = this.place(link, (link.lanes - 1) / 2, 1), half = LANE_METRES / 2 * link.lanes + 1 / this.scale;
-    this.line([[x + dy * half, y - dx * half], [x - dy * half, y + dx * half]], isGreen ? GREEN : RED, Math.max(2, 1.5 * this.scale));
+    this.line([[x + dy * half, y - dx * half], [x - dy * half, y + dx * half]], isGreen ? this.colours.green : this.colours.red, Math.max(2, 1.5 * this.scale));
   }
 
   // The greatest 1, 2 or 5 times a power of ten of metres that is at most 200 pixels long.
@@ -128,7 +137,7 @@ class Scene {
 
   drawScale() {
     const metres = this.scaleMetres(), y = this.canvas.height - 16;
-    this.pen.fillStyle = "#222"; this.pen.fillRect(16, y, metres * this.scale, 4);
+    this.pen.fillStyle = this.colours.ink; this.pen.fillRect(16, y, metres * this.scale, 4);
     this.pen.font = "12px sans-serif"; this.pen.fillText(metresText(metres), 20, y - 5);
   }
 
@@ -136,7 +145,7 @@ class Scene {
   drawName(name, [px, py]) {
     const [x, y] = this.screen(px, py);
     this.pen.font = "12px sans-serif";
-    this.pen.fillStyle = "#ffffe0"; this.pen.fillRect(x + 10, y - 26, this.pen.measureText(name).width + 8, 18);
-    this.pen.fillStyle = "#222"; this.pen.fillText(name, x + 14, y - 13);
+    this.pen.fillStyle = this.colours.label; this.pen.fillRect(x + 10, y - 26, this.pen.measureText(name).width + 8, 18);
+    this.pen.fillStyle = this.colours.ink; this.pen.fillText(name, x + 14, y - 13);
   }
 }

@@ -1,19 +1,16 @@
 """The streets of a run by what is known of them: density, delay, level of service, v/c, flow, queue."""
-from __future__ import annotations
-
-import argparse
 from collections.abc import Iterable, Sequence
 from dataclasses import dataclass
 from typing import Any
 
-from ..files import Fault
-from ..gis.values import Values, intervals_of, values_of
-from ..junctions.service import LETTERS
-from ..reports.drawing import COLOURS, LIGHT
-from ..reports.reading import Runs, read_any
-from ..run.folder import Folder
-from ..run.mapping import Shape
-from . import series
+from streetsim.base.files import Fault
+from streetsim.model.folder import Folder
+from streetsim.model.mapping import Shape
+from streetsim.model.service import COLOURS, LETTERS, LIGHT
+from streetsim.pictures.drawing import Axes, Figure, Lines, Pyplot
+from streetsim.results import series
+from streetsim.results.reading import Runs, read_any
+from streetsim.results.values import Values, intervals_of, values_of
 
 WHAT = ("density", "delay", "los", "vc", "flow", "queue")
 MEASURES = {"delay": "control_delay_s", "vc": "v_c", "queue": "queue_95_m"}  # of the junction tables
@@ -29,30 +26,29 @@ ROUND = (0.5, 1, 2, 5, 10, 20, 50, 100, 200, 500, 1000, 2000, 5000, 10_000)
 
 @dataclass(slots=True)
 class Shown:
-    """An edge: its shape, its value or letter, none where it has none."""
+    """An edge: its shape, and its value or letter; none where it has none."""
 
     shape: Shape
-    value: Any
+    value: Any  # a number or a letter
 
 
-def draw(pyplot: Any, source: Any, words: argparse.Namespace) -> Any:
-    """source: a folder that was read, for density; else the path of a run."""
-    if words.what == "density":
-        return draw_density(pyplot, source)
-    runs = read_any(source)
-    begin, end = interval_of(runs, words)
+def draw(pyplot: Pyplot, path: str, what: str, second: int | None) -> Figure:
+    """The streets of a folder, or of one of seeds, by one of WHAT but the density, in the interval that begins at a
+    second, or the busiest one."""
+    runs = read_any(path)
+    begin, end = interval_of(runs, what, second)
     values = values_of(runs, begin, end)
     shapes = [
         (edge, runs.first.mapping.links[links[len(links) // 2]].shape)
         for edge, links in runs.first.mapping.links_of.items()
     ]
-    shown = [Shown(shape, value_of(values[edge], words.what)) for edge, shape in shapes]
+    shown = [Shown(shape, value_of(values[edge], what)) for edge, shape in shapes]
     if all(one.value is None for one in shown):
-        raise Fault(f"{source}: nothing is known of {words.what} from {begin} to {end} s")
+        raise Fault(f"{path}: nothing is known of {what} from {begin} to {end} s")
     figure, axes, beside = canvas(pyplot, [one.shape for one in shown])
-    title, label = LABELS[words.what]
+    title, label = LABELS[what]
     axes.set(title=f"{title}, {clock(begin)} to {clock(end)}")
-    if words.what == "los":
+    if what == "los":
         draw_letters(axes, shown, runs, (begin, end))
     else:
         figure.colorbar(draw_lines(axes, shown), ax=axes, label=label, extend="max", shrink=0.7, **beside)
@@ -60,22 +56,22 @@ def draw(pyplot: Any, source: Any, words: argparse.Namespace) -> Any:
     return figure
 
 
-def interval_of(runs: Runs, words: argparse.Namespace) -> tuple[int, int]:
-    """The one that begins where the words say, else the busiest, else the first."""
-    if words.what != "flow" and not runs.rows:
-        raise Fault(f"{runs.first.path}: a map of {words.what} needs streetsim-run --junctions")
+def interval_of(runs: Runs, what: str, second: int | None) -> tuple[int, int]:
+    """The interval that begins at a second, else the busiest, else the first; Fault where there is none, or what is
+    wanted needs junction tables."""
+    if what != "flow" and not runs.rows:
+        raise Fault(f"{runs.first.path}: a map of {what} needs streetsim-run --junctions")
     found = intervals_of(runs)
-    if words.begin is None:
+    if second is None:
         return runs.busiest() if runs.rows else found[0]
-    those = [one for one in found if one[0] == words.begin]
+    those = [one for one in found if one[0] == second]
     if not those:
-        raise Fault(
-            f"--begin {words.begin}: no interval begins there, of {', '.join(str(begin) for begin, _ in found)}"
-        )
+        raise Fault(f"--begin {second}: no interval begins there, of {', '.join(str(begin) for begin, _ in found)}")
     return those[0]
 
 
-def value_of(values: Values, what: str) -> Any:
+def value_of(values: Values, what: str) -> float | str | None:
+    """The value of an edge, by one of WHAT: a number or a letter; none where it is not known."""
     if what == "flow":
         return values.traffic.flow if values.traffic else None
     if values.row is None:
@@ -84,11 +80,12 @@ def value_of(values: Values, what: str) -> Any:
 
 
 def clock(second: int) -> str:
+    """A second of the day as hours and minutes."""
     return f"{second // 3600:d}:{second // 60 % 60:02d}"
 
 
-def canvas(pyplot: Any, shapes: Sequence[Shape]) -> tuple[Any, Any, dict[str, Any]]:
-    """A picture of all streets in grey; and where a bar of colours lies."""
+def canvas(pyplot: Pyplot, shapes: Sequence[Shape]) -> tuple[Figure, Axes, dict[str, str | float]]:
+    """A picture of all streets in grey, its axes, and where a bar of colours lies."""
     from matplotlib.collections import LineCollection
 
     width, height = (max(places) - min(places) for places in zip(*(point for shape in shapes for point in shape)))
@@ -102,8 +99,9 @@ def canvas(pyplot: Any, shapes: Sequence[Shape]) -> tuple[Any, Any, dict[str, An
     return figure, axes, {"orientation": "horizontal", "pad": 0.18} if wide else {}
 
 
-def draw_lines(axes: Any, shown: Iterable[Shown], colours: str = "YlOrRd") -> Any:
-    """Edges by their values, wider where they are higher; gives what a bar of colours is of."""
+def draw_lines(axes: Axes, shown: Iterable[Shown], colours: str = "YlOrRd") -> Lines:
+    """Draws edges by their values, wider where they are higher; gives the lines, which a bar of colours is of. One at
+    least has a value."""
     from matplotlib.collections import LineCollection
 
     known = sorted((one for one in shown if one.value is not None), key=lambda one: one.value)
@@ -119,8 +117,8 @@ def draw_lines(axes: Any, shown: Iterable[Shown], colours: str = "YlOrRd") -> An
     return lines
 
 
-def draw_letters(axes: Any, shown: Sequence[Shown], runs: Runs, interval: tuple[int, int]) -> None:
-    """Edges and junctions by letter, darker and wider where it is worse."""
+def draw_letters(axes: Axes, shown: Sequence[Shown], runs: Runs, interval: tuple[int, int]) -> None:
+    """Draws edges and junctions by letter, darker and wider where it is worse, in an interval, with the legend."""
     from matplotlib.collections import LineCollection
     from matplotlib.lines import Line2D
 
@@ -140,8 +138,8 @@ def draw_letters(axes: Any, shown: Sequence[Shown], runs: Runs, interval: tuple[
     axes.legend(handles=marks, loc="upper center", bbox_to_anchor=(0.5, -0.1), ncol=6, frameon=False)
 
 
-def draw_density(pyplot: Any, folder: Folder) -> Any:
-    """By mean density over all polls, of each link."""
+def draw_density(pyplot: Pyplot, folder: Folder) -> Figure:
+    """The streets by mean density over all polls, of each link."""
     densities = series.densities(folder)
     shown = [Shown(link.shape, value) for value, link in zip(densities, folder.mapping.links, strict=True)]
     figure, axes, beside = canvas(pyplot, [one.shape for one in shown])
@@ -154,8 +152,8 @@ def draw_density(pyplot: Any, folder: Folder) -> Any:
     return figure
 
 
-def scale_bar(axes: Any) -> None:
-    """A bar of a round number of metres, about a fifth of the width, below all that is shown."""
+def scale_bar(axes: Axes) -> None:
+    """Draws a bar of a round number of metres, about a fifth of the width, below all that is shown."""
     left, right = axes.get_xlim()
     width = max(right - left, 1)
     metres = series.round_length(width / 5.5)

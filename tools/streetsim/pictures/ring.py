@@ -1,8 +1,8 @@
 """One lane in a ring: the fundamental diagram of the rules themselves."""
 from dataclasses import dataclass
 
-from .. import limits
-from ..client import Client
+from streetsim.base import limits
+from streetsim.base.client import Client
 
 CELLS = 1_000
 LAPS = 1_000
@@ -13,21 +13,26 @@ ROWS = 10
 
 @dataclass(slots=True, frozen=True)
 class Point:
+    """One density in a ring, and what was measured there."""
+
     density: float  # vehicles a cell, of the whole ring
     flow: float  # vehicles a step, at a detector
     speed: float  # cells a step, of those who passed it
 
     @property
     def per_km(self) -> float:
+        """Vehicles a kilometre."""
         return self.density / limits.CELL_METRES * 1000
 
     @property
     def per_hour(self) -> float:
+        """Vehicles an hour."""
         return self.flow * 3600
 
 
 def measure(program: str | None, vehicles: int, limit: int = 5, dawdle: int = 0, seed: int = 1) -> Point:
-    """A point of the diagram, of a ring of 1,000 cells, over ten rows of 300 steps."""
+    """A point of the diagram, of a ring of 1,000 cells, over ten rows of 300 steps; limit: cells a step; dawdle: of
+    1,000."""
     with Client(program) as sim:
         sim.load(nodes=[[0, 1, 2]], links=[[0, 0, 0, 1, CELLS, limit]], turns=[[0, 0, 0, 0]], dawdle=dawdle, seed=seed)
         sim.signal(0, [[600, []]])

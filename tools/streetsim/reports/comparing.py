@@ -1,16 +1,14 @@
 """Before and after: differences of two plans, paired by seed."""
-from __future__ import annotations
-
-from collections.abc import Iterable, Mapping
+from collections.abc import Iterable
 from dataclasses import dataclass
 
-from ..run.tables import interval
-from .reading import Row
+from streetsim.base.seeds import interval
+from streetsim.results.reading import Row
 
 
 @dataclass(slots=True)
 class Difference:
-    """Means over the seeds that both plans have, and the 95 % interval of their difference."""
+    """Means over the seeds that both plans have, the change from before to after, and its 95 % interval."""
 
     before: float
     after: float
@@ -30,7 +28,7 @@ class Difference:
 
 
 def paired(before: dict, after: dict) -> Difference | None:
-    """Of values by seed; none where no seed is common."""
+    """The difference of values by seed; none where no seed is common."""
     seeds = sorted(before.keys() & after.keys())
     if not seeds:
         return None
@@ -40,12 +38,12 @@ def paired(before: dict, after: dict) -> Difference | None:
 
 
 def by_seed(row: Row, name: str) -> dict:
-    """The values of a measure."""
+    """The values of a measure, by its column, of the seeds that have it."""
     return {seed: values[name] for seed, values in row.by_seed.items() if name in values}
 
 
 def total_delay(rows: Iterable[Row]) -> dict:
-    """By seed the mean control delay over all of some rows, by vehicles."""
+    """By seed the mean control delay over all of some rows, in seconds a vehicle."""
     sums: dict[int, tuple[float, float]] = {}
     for row in rows:
         for seed, values in row.by_seed.items():

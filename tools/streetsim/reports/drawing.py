@@ -1,16 +1,11 @@
 """Pictures of a report, as SVG: the map by delay, and queues beside the room that they have."""
-from __future__ import annotations
-
 from collections.abc import Mapping, Sequence
 from html import escape
 from math import hypot
 
-from ..junctions.rows import fills
-from ..run.mapping import Map, Shape
+from streetsim.model.mapping import Map, Shape
+from streetsim.model.service import COLOURS, LIGHT, fills
 
-# Darker is worse, so that the letters differ in grey too.
-COLOURS = {"A": "#ffffcc", "B": "#fed976", "C": "#feb24c", "D": "#fd8d3c", "E": "#e31a1c", "F": "#800026"}
-LIGHT = "EF"  # letters that are written in white
 WIDE, MOST_HIGH, SIDE = 900, 640, 4  # pixels
 
 
@@ -50,14 +45,14 @@ def map_picture(
 
 
 def aside(shape: Shape) -> tuple[float, float]:
-    """Pixels to the right of a line, so that the directions of a street lie side by side."""
+    """Pixels, across and down the page, to the right of a line, so that the directions of a street lie side by side."""
     (x, y), (end_x, end_y) = shape[0], shape[-1]
     size = hypot(end_x - x, end_y - y) or 1.0
     return SIDE * (end_y - y) / size, SIDE * (end_x - x) / size
 
 
 def junction_mark(name: str, letter: str, text: str, across: str, down: str) -> str:
-    """A circle with the letter, which leads to the junction's table."""
+    """A circle with the letter, at pixels across and down, which leads to the junction's table."""
     colour = "#fff" if letter in LIGHT else "#000"
     circle = f'<circle cx="{across}" cy="{down}" r="11" fill="{COLOURS[letter]}" stroke="#000"/>'
     write = f'<text x="{across}" y="{down}" dy="4" text-anchor="middle" fill="{colour}" class="letter">{letter}</text>'
@@ -65,7 +60,7 @@ def junction_mark(name: str, letter: str, text: str, across: str, down: str) -> 
 
 
 def anchor(name: str) -> str:
-    """The place of a junction in the page."""
+    """The name by which the page's links find a junction."""
     return "junction-" + "".join(sign if sign.isalnum() else f"-{ord(sign):x}-" for sign in name)
 
 

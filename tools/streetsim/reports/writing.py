@@ -1,17 +1,15 @@
 """The sections of a report, as HTML."""
-from __future__ import annotations
-
 import base64
-from collections.abc import Callable, Iterable, Mapping, Sequence
+from collections.abc import Iterable, Sequence
 from html import escape
 from pathlib import Path
 
-from ..junctions.measures import STOP_LOSS
-from ..limits import GAP_METRES
-from ..run.tables import interval
-from .comparing import Difference, by_seed, paired, total_delay
-from .drawing import COLOURS, LIGHT, anchor, letter_mark, map_picture, queue_picture
-from .reading import Row, Rows, Runs
+from streetsim.base.limits import GAP_METRES
+from streetsim.base.seeds import interval
+from streetsim.model.service import COLOURS, LIGHT, STOP_LOSS
+from streetsim.reports.comparing import Difference, by_seed, paired, total_delay
+from streetsim.reports.drawing import anchor, letter_mark, map_picture, queue_picture
+from streetsim.results.reading import Row, Rows, Runs
 
 WEIGHTS = (
     ("skipped:", "Left out: vehicles that do not drive"),
@@ -49,6 +47,7 @@ def table(head: Sequence[str], rows: Iterable[Sequence[str]], names: int = 1) ->
 
 
 def clock(second: int) -> str:
+    """A second of the day as hours, minutes and seconds."""
     return f"{second // 3600:d}:{second // 60 % 60:02d}:{second % 60:02d}"
 
 
@@ -66,10 +65,7 @@ def what_was_run(all_runs: Sequence[Runs]) -> str:
         )
         seeds = ", ".join(map(str, runs.folders))
         rows += [
-            [
-                f"<b>{escape(runs.name)}</b>",
-                escape(made.get("run", "")),
-            ],
+            [f"<b>{escape(runs.name)}</b>", escape(made.get("run", ""))],
             ["files of the import", files or "not told by the map"],
             [
                 "network",
@@ -118,15 +114,16 @@ def warnings(all_runs: Sequence[Runs]) -> str:
 
 
 def figures(all_runs: Sequence[Runs], interval_of: tuple[int, int]) -> str:
-    """Mean trip and mean control delay of each plan."""
+    """Mean trip and mean control delay of each plan in an interval, as a table."""
     rows = []
     for runs in all_runs:
-        trips, delays = runs.trips(), total_delay(runs.rows["junctions", *interval_of].values())
+        trips, delays = runs.mean_trips(), total_delay(runs.rows["junctions", *interval_of].values())
         rows.append([escape(runs.name), mean_told(trips.values()), mean_told(delays.values())])
     return table(["", "mean trip, s", "mean control delay of a junction, s"], rows)
 
 
 def mean_told(values: Iterable[float]) -> str:
+    """The mean of values with its 95 % interval, in words."""
     values = list(values)
     if not values:
         return "none"
@@ -135,6 +132,7 @@ def mean_told(values: Iterable[float]) -> str:
 
 
 def map_section(runs: Runs, interval_of: tuple[int, int]) -> str:
+    """The map of a run in an interval, by level of service, with its legend."""
     approaches = {
         row.key[1]: (row.letter(), f"{row.key[1]}: {row.delay:.1f} s, {row.letter()}")
         for row in runs.rows["approaches", *interval_of].values()
@@ -188,6 +186,7 @@ def junction_section(runs: Runs, name: str, interval_of: tuple[int, int]) -> str
 
 
 def movement_row(row: Row) -> list[str]:
+    """The cells of a movement in its junction's table."""
     values = row.values
     stops = f"{values['stops_per_vehicle']:.2f}" if "stops_per_vehicle" in values else ""
     queues = [
@@ -204,7 +203,7 @@ def movement_row(row: Row) -> list[str]:
 
 def before_and_after(before: Runs, after: Runs, interval_of: tuple[int, int]) -> str:
     """Mean trip, junctions and movements of two plans, with paired 95 % intervals over seeds."""
-    lines = [("mean trip, s", paired(before.trips(), after.trips()))]
+    lines = [("mean trip, s", paired(before.mean_trips(), after.mean_trips()))]
     rows = [side.rows["junctions", *interval_of] for side in (before, after)]
     lines.append(("mean control delay of a junction, s", paired(*(total_delay(side.values()) for side in rows))))
     parts = [difference_table(lines)]
@@ -219,11 +218,13 @@ def before_and_after(before: Runs, after: Runs, interval_of: tuple[int, int]) ->
 
 
 def difference_table(lines: Iterable[tuple[str, Difference | None]]) -> str:
+    """A table of named differences; those of none are left out."""
     rows = [[escape(name), f"{one.before:.1f}", f"{one.after:.1f}", change_told(one)] for name, one in lines if one]
     return table(["", "before", "after", "change, 95 % interval"], rows)
 
 
 def difference_rows(before: Rows, after: Rows) -> str:
+    """The table of control delays of what both runs have, before and after."""
     rows = []
     for key in sorted(before.keys() & after.keys()):
         first, second = before[key], after[key]
@@ -236,15 +237,17 @@ def difference_rows(before: Rows, after: Rows) -> str:
 
 
 def change_told(one: Difference) -> str:
+    """A change, bold where its sign is sure."""
     return f'<span class="sure">{one.told()}</span>' if one.is_sure() else one.told()
 
 
 def image(content: bytes, text: str) -> str:
-    """A picture in the page itself."""
+    """A PNG, of its bytes, in the page itself; text: what it shows."""
     return f'<img alt="{escape(text)}" src="data:image/png;base64,{base64.b64encode(content).decode()}">'
 
 
 def letter_styles() -> str:
+    """The styles of letters on their colours, as CSS."""
     return "\n".join(
         f".los-{letter} {{ background: {colour}; color: {'#fff' if letter in LIGHT else '#000'} }}"
         for letter, colour in COLOURS.items()

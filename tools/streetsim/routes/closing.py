@@ -1,18 +1,17 @@
 """Road works as a router sees them: when edges are shut, who knows of it, and where the others turn off."""
-from __future__ import annotations
-
 import random
 from collections.abc import Collection, Iterable, Sequence
 from dataclasses import dataclass
 
-from ..files import Fault
-from ..run.freeflow import FreeFlow
-from ..run.mapping import Map
-from ..run.works import Works, shut_links, sites_of
-from .costs import Costs, flat_costs
-from .graph import Graph
-from .router import FAR, Path, Router, Shut
-from .trips import Trip
+from streetsim.base.files import Fault
+from streetsim.model.freeflow import FreeFlow
+from streetsim.model.mapping import Map
+from streetsim.ways.costs import Costs, flat_costs
+from streetsim.ways.graph import Graph
+from streetsim.ways.router import FAR, Path, Router, Shut
+from streetsim.ways.trips import Trip
+from streetsim.works.asked import Works, sites_of
+from streetsim.works.sites import shut_links
 
 
 Times = tuple[float, float]  # first and last second
@@ -20,8 +19,8 @@ Times = tuple[float, float]  # first and last second
 
 @dataclass(frozen=True, slots=True)
 class Closing:
-    """signs: edges on which those who do not know of the works are told of them;
-    free: seconds of movements without traffic."""
+    """Works as the router sees them. shut: times by edge; signs: edges on which those who do not know of the works are
+    told of them; free: seconds of movements without traffic."""
 
     shut: Shut
     signs: frozenset[int]
@@ -31,8 +30,8 @@ class Closing:
 def shut_edges(
     works: Iterable[Works], graph: Graph, mapping: Map, dawdle: float
 ) -> dict[int, list[tuple[float, float]]]:
-    """The times in which an edge is not to be entered: while all its lanes are closed, and so shortly before that one
-    would not come past the works."""
+    """By edge's number the times in which it is not to be entered: while all its lanes are closed, and so shortly
+    before that one would not come past the works; dawdle: a chance, 0 to 1."""
     driving, links = FreeFlow(mapping, dawdle).driving, shut_links(sites_of(works, mapping), mapping)
     found = {}
     for edge in dict.fromkeys(mapping.links[link].edge for link in links):
@@ -52,7 +51,8 @@ def common(one: Iterable[Times], other: Collection[Times]) -> list[Times]:
 
 
 def knows(name: str, share: float, seed: int) -> bool:
-    """Whether the driver of a trip knows of the works; whoever does with a share does with each greater one."""
+    """Whether the driver of a trip knows of the works, as a share (0 to 1) of all do; whoever does with a share does
+    with each greater one."""
     return random.Random(f"knowing {seed} {name}").random() < share
 
 
@@ -74,9 +74,9 @@ def turn_off(trips: Iterable[Trip], closing: Closing, graph: Graph, costs: Costs
 
 
 def way_round(trip: Trip, shut: int, signs: Collection[int], router: Router, free: Router) -> Path:
-    """The way of a trip that turns off on its first edge with a sign, or at the last crossing before the
-    shut edge; none: empty. free: without the shut edge at any time, as who comes later than without traffic
-    would come to it again."""
+    """The way of a trip that turns off on its first edge with a sign, or at the last crossing before the shut edge,
+    which is at a place of its path; empty where there is none. free: without the shut edge at any time, as who comes
+    later than without traffic would come to it again."""
     clocks = router.clocks(trip.path[:shut], trip.entry)
     signed = (at for at in range(shut) if trip.path[at] in signs)
     for at in (*signed, *reversed(range(shut))):

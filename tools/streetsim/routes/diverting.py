@@ -1,6 +1,4 @@
 """Ways round road works: the ways without them, and for each share of drivers who know of the works those with them."""
-from __future__ import annotations
-
 import copy
 import dataclasses
 import os
@@ -10,17 +8,20 @@ from functools import partial
 from itertools import pairwise
 from statistics import fmean
 
-from ..files import Fault
-from ..run import trust
-from ..run.crowding import crowded
-from ..run.works import sites_of, works_of
-from ..study.seeds import interval
-from ..study.sessions import all_gone
-from .closing import Closing, knows, shut_edges, why_not
-from .graph import Graph
-from .loading import Town
-from .search import Asked, Iteration, Judged, Search
-from .trips import Trip, Trips
+from streetsim.base.files import Fault
+from streetsim.base.seeds import interval
+from streetsim.model import trust
+from streetsim.routes.closing import Closing, knows, shut_edges, why_not
+from streetsim.routes.loading import Town
+from streetsim.routes.search import Asked, Iteration, Judged, Search
+from streetsim.sessions.prepared import all_gone
+from streetsim.ways.empty import map_without_routes
+from streetsim.ways.graph import Graph
+from streetsim.ways.trips import Trip, Trips
+from streetsim.works.closures import closures_of
+from streetsim.works.crowding import beyond_joint
+from streetsim.works.watched import in_runs
+from streetsim.works.asked import works_of
 
 SHARES = (
     *(
@@ -42,9 +43,11 @@ class Diverted:
 
     @property
     def label(self) -> str:
+        """What tables and lines call it."""
         return "before" if self.share is None else f"knowing {self.share:g}"
 
     def means(self) -> list[float]:
+        """The mean trips of its check runs, seconds, by seed."""
         return [one.mean for one in self.judged.outcomes]
 
     def doubts(self) -> Iterator[str]:
@@ -60,17 +63,19 @@ class Diverted:
         yield from trust.of_lengths(until, run, mapping)
         yield from trust.of_actuated(until, run, mapping, mapping.actuated)
         works = [works_of(text, mapping) for text in self.search.town.works]
-        yield from crowded(run, mapping, sites_of(works, mapping))
+        yield from in_runs([one.at_works for one in outcomes])
+        yield from beyond_joint(run, mapping, closures_of(run, until))
         if works:
             ends = [(until, all_gone(one.ends, run.start())) for one in outcomes]
             yield from trust.of_works([(one.lane, one.first) for one in works], ends)
 
     def named_doubts(self) -> list[str]:
+        """What speaks against its runs, with its label where there are works."""
         return [f"{self.label}: {text}" if self.search.town.works else text for text in self.doubts()]
 
 
 def placed(path: str, share: float | None, many: bool) -> str:
-    """Where an output of a share goes: where there are several shares, their number stands before the ending."""
+    """The path of an output of a share: where there are several shares, their number stands before the ending."""
     if not many:
         return path
     folder, name = os.path.split(path)
@@ -79,7 +84,8 @@ def placed(path: str, share: float | None, many: bool) -> str:
 
 
 def give_ways(trips: Sequence[Trip], before: Trips, graph: Graph, where: str) -> None:
-    """Gives trips the ways that they have in another file."""
+    """Gives trips the ways that they have, by name, in another file; Fault where one has none there, or another begin
+    or end. where: that file."""
     ways = {trip.name: trip for trip in before.all}
     for trip in trips:
         found = ways.get(trip.name)
@@ -97,7 +103,7 @@ def give_ways(trips: Sequence[Trip], before: Trips, graph: Graph, where: str) ->
 def check_works(texts: Sequence[str], signs: Sequence[str], trips: Sequence[Trip], town: Town, until: int) -> None:
     """Refuses works that can not be, before anything runs; who ends on a closed edge is known after
     the runs without works."""
-    mapping = town.mapped()
+    mapping = map_without_routes(town.net, town.options)
     works = [works_of(text, mapping) for text in texts]
     if over := [one.text for one in works if one.last <= town.options.begin]:
         raise Fault(f"--close {over[0]!r}: ends at the start, {town.options.begin:,} s, or earlier")
@@ -112,14 +118,14 @@ def check_works(texts: Sequence[str], signs: Sequence[str], trips: Sequence[Trip
 
 
 def closing_of(texts: Sequence[str], signs: Sequence[str], graph: Graph, before: Search, judged: Judged) -> Closing:
+    """The works of some --close and --sign as a router sees them, by the run of ways without works that was judged."""
     mapping = judged.loaded.mapping
     shut = shut_edges([works_of(text, mapping) for text in texts], graph, mapping, before.town.dawdle)
     return Closing(shut, frozenset(graph.number[name] for name in signs), judged.loaded.free)
 
 
 def diverted(
-    before: Search,
-    judged: Judged,
+    before: Diverted,
     closing: Closing,
     texts: Sequence[str],
     asked: Asked,
@@ -128,22 +134,24 @@ def diverted(
     told: Callable[[str, Iteration], bool],
 ) -> Iterator[Diverted]:
     """What each share of drivers who know of the works gives; all begin with the ways before."""
-    town = copy.copy(before.town)
+    first = before.search
+    town = copy.copy(first.town)
     town.works = tuple(texts)
     for share in shares:
         trips = [
             dataclasses.replace(trip, changes=trip.changes and knows(trip.name, share, asked.seeds[0]))
-            for trip in before.trips
+            for trip in first.trips
         ]
         label = f"knowing {share:g}, "
-        search = Search(town, before.ground, trips, before.team, partial(told, label), closing)
-        search.turn_off(judged.observed, strict=True)
+        search = Search(town, first.ground, trips, first.team, partial(told, label), closing)
+        search.turn_off(before.judged.observed, strict=True)
         search.improve(asked)
         yield Diverted(share, trips, search, search.judged(check))
 
 
 def within_gap(one: Diverted, before: Diverted) -> str | None:
-    """Says where works add less to the mean trip than what all could gain by other ways, without them or with them."""
+    """Says where works add less to the mean trip than what all could gain by other ways, without them or with them;
+    none where they add more."""
     apart = fmean(one.means()) - fmean(before.means())
     seconds = {where: each.judged.gap * fmean(each.means()) for where, each in (("without", before), ("with", one))}
     where = max(seconds, key=lambda where: seconds[where])

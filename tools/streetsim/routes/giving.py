@@ -1,12 +1,10 @@
 """Giving way without a light in the runs of a search: those who wait find the gaps that the run before showed."""
-from __future__ import annotations
-
 from collections import defaultdict
 from collections.abc import Mapping, Sequence
 
-from ..run.gaps import gap_lines
-from ..run.mapping import Map
-from ..run.runs import Line
+from streetsim.model.mapping import Map
+from streetsim.model.runs import Line
+from streetsim.run.gaps import gap_lines
 
 Passed = dict[tuple[str, int], list[tuple[float, str]]]  # by edge and lane, as SUMO names them: (second, next edge)
 
@@ -21,7 +19,8 @@ def named(found: Mapping[tuple[int, int], Sequence[tuple[float, int]]], mapping:
 
 
 def waiting_lines(passed: Passed, mapping: Map, start: int) -> list[tuple[int, Line]]:
-    """The signal lines by which vehicles wait for those who passed first, (clock, line)."""
+    """The signal lines, (clock, line), by which vehicles wait for those who passed first in another run; start: of the
+    run."""
     places = {
         (mapping.links[link].edge, mapping.links[link].lanes[lane]): (link, lane) for link, lane in mapping.lanes()
     }

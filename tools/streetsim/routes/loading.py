@@ -1,24 +1,24 @@
 """The run of the ways that trips have at present, as streetsim-import makes it of a file of them."""
-from __future__ import annotations
-
 import json
 from array import array
 from collections.abc import Sequence
 from dataclasses import dataclass, replace
 
-from ..files import Fault
-from ..run.mapping import Map, map_of
-from ..run.runs import Line, Run, run_of
-from ..run.works import closed, lanes_to_join, works_of
-from ..sumo.importing import converted, refuse_over_limits
-from ..sumo.net import SumoNet, read_additional, read_net
-from ..sumo.network import Network, Options
-from ..sumo.report import Report
-from ..sumo.signals import signals
-from ..sumo.types import Types
-from .graph import Graph, graph_of_net
-from .seconds import capacities, free_seconds
-from .trips import Trip, vehicles_of
+from streetsim.base.files import Fault, whole_file
+from streetsim.base.report import Report
+from streetsim.model.mapping import Map
+from streetsim.model.runs import Line, Run, run_of
+from streetsim.sumo.additional import read_additional
+from streetsim.sumo.converting import converted, map_of, refuse_over_limits
+from streetsim.sumo.net import SumoNet, read_net
+from streetsim.sumo.network import Options
+from streetsim.sumo.types import Types
+from streetsim.ways.graph import Graph, graph_of_net
+from streetsim.ways.minor import Minor
+from streetsim.ways.seconds import free_seconds
+from streetsim.ways.trips import Trip, vehicles_of
+from streetsim.works.asked import works_of
+from streetsim.works.sites import closed, lanes_to_join
 
 
 @dataclass(slots=True)
@@ -36,19 +36,22 @@ class Town:
     def __init__(self, net: SumoNet, types: Types, options: Options) -> None:
         self.net, self.types, self.options = net, types, options
         self.graph: Graph = graph_of_net(net)
+        self.minor = Minor(self.graph, net)
         self.works: tuple[str, ...] = ()  # as streetsim-run --close takes them
 
     @property
     def dawdle(self) -> float:
+        """The chance to go on by a cell less, 0 to 1."""
         return self.options.dawdle / 1000
 
     def loaded(self, trips: Sequence[Trip]) -> Loaded:
-        """The run of trips that have ways. Permissive greens and the choice of lanes follow the routes,
-        so it is imported anew."""
+        """The run of trips that have ways, with the town's works. Permissive greens and the choice of lanes follow the
+        routes, so it is imported anew; Fault where a trip cannot drive."""
         run, mapping = self.imported(trips, ())
         if self.works:
             run, mapping = self.with_works(trips, run, mapping)
-        return Loaded(run, mapping, self.free(mapping, [line.command for line in run.first]))
+        free = free_seconds(self.graph, mapping, [line.command for line in run.first], self.dawdle)
+        return Loaded(run, mapping, free)
 
     def imported(self, trips: Sequence[Trip], joint: Sequence[str]) -> tuple[Run, Map]:
         """The run and its map, with some further lanes joint."""
@@ -65,35 +68,31 @@ class Town:
         return run_of("the routes", lines), map_of(network, lights, names, report)
 
     def with_works(self, trips: Sequence[Trip], run: Run, mapping: Map) -> tuple[Run, Map]:
-        """The run and its map with the town's works."""
+        """The run and its map with the town's works, imported anew where lanes must be joint."""
         works = [works_of(text, mapping) for text in self.works]
         if names := lanes_to_join(works, mapping):
             run, mapping = self.imported(trips, names)
         return closed(run, mapping, works)
 
-    def free(self, mapping: Map, commands: Sequence[dict]) -> array:
-        return free_seconds(self.graph, mapping, commands, self.dawdle)
-
-    def empty(self) -> tuple[array, list[float]]:
-        """Free seconds of movements, and vehicles an hour that they let pass, where no route is known yet."""
-        report = Report()
-        network = Network(self.net, self.options, report, {})
-        made = [command for _, command in signals(self.net, network, {}, report) if "at" not in command]
-        mapping = map_of(network, [], [], report)
-        return self.free(mapping, made), capacities(self.graph, mapping, made)
-
-    def mapped(self) -> Map:
-        """The map where no route is known yet."""
-        report = Report()
-        return map_of(Network(self.net, self.options, report, {}), [], [], report)
-
 
 def read_town(net_path: str, additional: Sequence[str], options: Options, report: Report) -> Town:
+    """The network of a file, with the programs and types of additional ones."""
     net, types = read_net(net_path, options.classes, report), Types(options.seed, report)
     for path in additional:
         read_additional(path, net, types, report)
     return Town(net, types, options)
 
 
+def write_loaded(loaded: Loaded, run_path: str, map_path: str) -> None:
+    """Writes a run and its map, as streetsim-import makes them, with the lines of its works."""
+    run = loaded.run
+    timed = [json.dumps({"at": clock, **line.command}, separators=(",", ":")) for clock, line in run.timed]
+    texts = [run.load.text, *(line.text for line in run.first), *timed, *(line.text for line in run.enters)]
+    with whole_file(run_path) as file, whole_file(map_path) as mapped:
+        file.writelines(f"{text}\n" for text in texts)
+        json.dump(loaded.mapping.written(), mapped, separators=(",", ":"))
+
+
 def lines_of(commands: Sequence[dict]) -> list[Line]:
+    """Commands as lines of no file."""
     return [Line(0, json.dumps(command, separators=(",", ":")), command) for command in commands]

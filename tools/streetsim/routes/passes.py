@@ -1,13 +1,11 @@
 """When vehicles came on the links of their plans, from where they were seen now and then."""
-from __future__ import annotations
-
 from collections.abc import Sequence
 from typing import NamedTuple
 
-from ..run.freeflow import FreeFlow
-from ..run.mapping import Map
-from .costs import Costs, Table
-from .graph import END, Graph
+from streetsim.model.freeflow import FreeFlow
+from streetsim.model.mapping import Map
+from streetsim.ways.costs import Costs, Table
+from streetsim.ways.graph import END, Graph
 
 LEAST_DELAY = 0.1  # seconds that are expected of any movement, so that what is lost can be dealt out
 
@@ -36,7 +34,8 @@ class Passes:
     that are expected there."""
 
     def __init__(self, graph: Graph, mapping: Map, costs: Costs, dawdle: float, every: int) -> None:
-        """costs: what is expected; every: seconds from one time at which vehicles are seen to the next."""
+        """costs: what is expected; dawdle: a chance, 0 to 1; every: seconds from one time at which vehicles are seen to
+        the next."""
         self.graph, self.every = graph, every
         self.edges = [graph.number[link.edge] for link in mapping.links]
         free = FreeFlow(mapping, dawdle)
@@ -44,11 +43,12 @@ class Passes:
         self.table = Table(costs)
 
     def movement(self, plan: Sequence[int], place: int) -> int:
+        """The graph's movement at a place of a plan; at the last one that of ending there."""
         following = self.edges[plan[place + 1]] if place + 1 < len(plan) else END
         return self.graph.movement_of[self.edges[plan[place]], following]
 
     def expected(self, plan: Sequence[int], place: int, clock: float) -> float:
-        """The seconds that are lost by and large at a place of a plan."""
+        """The seconds that are lost by and large at a place of a plan, by one that comes at a clock."""
         seconds, link = self.table.at(self.movement(plan, place), clock), plan[place]
         return max(LEAST_DELAY, seconds - self.driving[link] - self.crossing[link])
 
@@ -69,14 +69,14 @@ class Passes:
         return clocks
 
     def entry(self, plan: Sequence[int], depart: int, seen: Sequence[Sight]) -> float:
-        """When a vehicle came on the road: at its wished departure, or since it was last not seen."""
+        """The clock at which a vehicle came on the road: its wished departure, or later as it was not seen before."""
         if not seen or seen[0].link != plan[0]:
             return float(depart)
         before = (seen[0].clock - 1) // self.every * self.every
         return float(depart) if depart >= before else max(float(before), seen[0].clock - seen[0].driven)
 
     def between(self, plan: Sequence[int], sooner: Point, later: Point) -> list[float]:
-        """When the links after one point and up to another were reached."""
+        """The clocks at which the links after one point and up to another were reached."""
         places = range(sooner.place, later.place)
         if not places:
             return []

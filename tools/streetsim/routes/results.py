@@ -1,19 +1,18 @@
 """The files of a search: its iterations, the check by other seeds, movements, trips and the setting."""
-from __future__ import annotations
-
 import json
 from collections import Counter
 from collections.abc import Iterator, Sequence
 from statistics import fmean
 
-from ..files import whole_file
-from ..run.tables import interval, write_table
-from .costs import mean_of
-from .diverting import Diverted
-from .graph import END, Graph
-from .loading import Town
-from .search import Iteration, Judged
-from .trips import Trip
+from streetsim.base.files import whole_file
+from streetsim.base.seeds import interval
+from streetsim.model.tables import write_table
+from streetsim.routes.diverting import Diverted
+from streetsim.routes.loading import Town
+from streetsim.routes.search import Iteration, Judged
+from streetsim.ways.costs import mean_of
+from streetsim.ways.graph import END, Graph
+from streetsim.ways.trips import Trip
 
 NAME = "setting.json"
 ITERATIONS = (
@@ -32,6 +31,7 @@ TRIPS = ("id", "depart", "edges", "may_change", "mean_trip_s", "way_s", "shortes
 def write_results(
     folder: str, town: Town, trips: Sequence[Trip], iterations: Sequence[Iteration], judged: Judged, setting: dict
 ) -> None:
+    """Writes the tables and the setting of a search into a folder."""
     write_table(f"{folder}/iterations.csv", ITERATIONS, iteration_rows(iterations))
     write_table(f"{folder}/check.csv", CHECK, check_rows(judged))
     write_table(f"{folder}/movements.csv", MOVEMENTS, movement_rows(town, judged, setting["slice"]))
@@ -42,6 +42,7 @@ def write_results(
 
 
 def iteration_rows(iterations: Sequence[Iteration]) -> Iterator[tuple]:
+    """The rows of iterations.csv."""
     for one in iterations:
         yield (
             *(
@@ -53,12 +54,14 @@ def iteration_rows(iterations: Sequence[Iteration]) -> Iterator[tuple]:
 
 
 def check_rows(judged: Judged) -> Iterator[tuple]:
+    """The rows of check.csv."""
     for seed, one in zip(judged.seeds, judged.outcomes, strict=True):
         yield seed, f"{one.mean:.3f}", one.arrived, one.rescues
 
 
 def movement_rows(town: Town, judged: Judged, width: int) -> Iterator[tuple]:
-    """For each slice and movement that was seen in the check runs vehicles and mean seconds, of one run by the mean."""
+    """For each slice, of so many seconds, and movement that was seen in the check runs vehicles and mean seconds, of
+    one run by the mean."""
     graph, observed = town.graph, mean_of([one.observed for one in judged.outcomes])
     for slice_ in range(observed.slices):
         for movement, (edge, following) in enumerate(graph.movements):

@@ -1,20 +1,19 @@
 """The search for routes from which nobody gains much by leaving them: router, run, router, .."""
-from __future__ import annotations
-
 from collections.abc import Callable, Sequence
 from dataclasses import dataclass, field, replace
 from statistics import fmean
 
-from .. import limits
-from .closing import Closing, turn_off
-from .costs import Costs, costs_of, flat_costs, mean_of
-from .giving import Passed
-from .loading import Loaded, Town
-from .router import FAR, Found, Path, Wish
-from .start import first_ways, no_way
-from .team import Team
-from .trips import Trip
-from .watching import Ground, Outcome
+from streetsim.base import limits
+from streetsim.routes.closing import Closing, turn_off
+from streetsim.routes.giving import Passed
+from streetsim.routes.loading import Loaded, Town
+from streetsim.routes.team import Team
+from streetsim.routes.watching import Ground, Outcome
+from streetsim.ways.costs import Costs, costs_of, flat_costs, mean_of
+from streetsim.ways.empty import times_without_routes
+from streetsim.ways.router import FAR, Found, Path, Wish
+from streetsim.ways.start import first_ways, no_way
+from streetsim.ways.trips import Trip
 
 LEAST_GAIN = 0.5  # seconds for which a trip changes its way
 SLOWER = 0.9  # by which the share of those who change falls from iteration to iteration
@@ -67,6 +66,7 @@ class Iteration:
     processor: float  # seconds, of the simulator
 
     def line(self, trips: int) -> str:
+        """What is told of it, of so many trips in all."""
         back = ", taken back" if self.taken_back else ""
         return (
             f"{self.number}: mean trip {self.mean:.1f} s, gap {100 * self.gap:.2f} %{back}, "
@@ -124,9 +124,9 @@ class Search:
         self.passed: list[Passed] = []  # by seed, when those passed who go first, in the last run
 
     def start(self, seed: int) -> None:
-        """Gives first ways to the trips that have none."""
+        """Gives first ways to the trips that have none; Fault where one has no way."""
         if any(not trip.path for trip in self.trips):
-            free, capacity = self.town.empty()
+            free, capacity = times_without_routes(self.town.net, self.town.graph, self.town.options)
             if lost := first_ways(self.town.graph, self.trips, free, capacity, seed, self.team.search):
                 raise no_way(self.town.graph, lost[0])
 
@@ -140,7 +140,8 @@ class Search:
             back = self.best.is_below(seen.lacking, seen.gap, TRUST)
             if not self.best.is_below(seen.lacking, seen.gap):
                 self.best = Best(seen.lacking, seen.gap, number, seen.ways, seen.passed)
-            last = number == asked.iterations or seen.gap <= OWN_SEED * asked.gap
+            near = seen.gap <= OWN_SEED * asked.gap and (number or not any(gain(one) > LEAST_GAIN for one in found))
+            last = number == asked.iterations or near
             if back and not last:
                 give(self.trips, self.best.ways)
                 self.passed = self.best.passed
@@ -187,10 +188,11 @@ class Search:
         return Seen(ways, outcomes, costs, found, [one.passed for one in outcomes], gap_of(found), lacking)
 
     def noted(self, loaded: Loaded, outcomes: Sequence[Outcome]) -> Costs:
-        """The costs that runs showed; the trips then have their entries."""
+        """The costs that runs showed; notes each trip's mean entry in them."""
         for at, trip in enumerate(self.trips):
             trip.entry = fmean(one.entries[at] for one in outcomes)
-        return costs_of(self.town.graph, loaded.free, mean_of([one.observed for one in outcomes]), self.ground.width)
+        observed = mean_of([one.observed for one in outcomes])
+        return costs_of(self.town.graph, loaded.free, observed, self.ground.width, self.town.minor)
 
     def searched(self, costs: Costs) -> list[Found]:
         """The best ways of the trips that may change."""
@@ -202,15 +204,15 @@ class Search:
         return self.team.search(wishes, costs, self.closing.shut if self.closing else None)
 
     def turn_off(self, costs: Costs, strict: bool = False) -> int:
-        """Those who would wait before works turn off before them;
-        of those who may change a search finds better ways yet."""
+        """Those who would wait before works turn off before them, and of those who may change a search finds better
+        ways yet; gives how many have other ways. strict: all trips, and a Fault where one has no way round."""
         if self.closing is None:
             return 0
         trips = self.trips if strict else [trip for trip in self.trips if not trip.changes]
         return turn_off(trips, self.closing, self.town.graph, costs, strict)
 
     def judged(self, seeds: Sequence[int]) -> Judged:
-        """The present ways by seeds of which the search knows nothing, each by rounds of its own."""
+        """What the present ways are worth, by seeds of which the search knows nothing, each by rounds of its own."""
         loaded = self.town.loaded(self.trips)
         outcomes = self.team.checks(loaded, self.expected or flat_costs(self.town.graph, loaded.free), seeds)
         costs = self.noted(loaded, outcomes)
@@ -230,7 +232,7 @@ def give(trips: Sequence[Trip], ways: Sequence[tuple[Path, float]]) -> None:
 
 
 def paths_after(trips: Sequence[Trip], step: Sequence[Found]) -> list[Path]:
-    """The ways of trips, of whom some change."""
+    """The ways of trips, of whom those of a step change."""
     paths = [trip.path for trip in trips]
     for one in step:
         paths[one.trip] = one.path
@@ -238,6 +240,7 @@ def paths_after(trips: Sequence[Trip], step: Sequence[Found]) -> list[Path]:
 
 
 def gain(found: Found) -> float:
+    """The seconds that a trip would gain by its best way; 0 where no way was found."""
     return max(0.0, found.own - found.least) if found.path else 0.0
 
 
@@ -248,8 +251,8 @@ def gap_of(found: Sequence[Found]) -> float:
 
 
 def changes(found: Sequence[Found], share: float) -> list[Found]:
-    """Those who change: of those who gain at all the ones with the greatest relative loss,
-    a share of all at most, or one."""
+    """Those who change: of those who gain at all the ones with the greatest relative loss, a share (0 to 1) of all at
+    most, or one."""
     worth = sorted(
         (one for one in found if gain(one) > LEAST_GAIN), key=lambda one: (-gain(one) / max(1.0, one.least), one.trip)
     )
@@ -265,6 +268,8 @@ def steps_of(found: Sequence[Found], share: float, tried: int) -> list[list[Foun
 def iteration_of(
     number: int, outcomes: Sequence[Outcome], found: Sequence[Found], gap: float, changed: int, back: bool
 ) -> Iteration:
+    """What is kept of an iteration: of its runs, searches and how many change; back: whether its routes were taken
+    back."""
     return Iteration(
         number=number,
         mean=fmean(one.mean for one in outcomes),

@@ -1,56 +1,48 @@
 """A run of a study whose vehicles take other ways: by a search, or round the works of a variant."""
-from __future__ import annotations
-
 import sys
-from collections.abc import Iterator, Sequence
-from dataclasses import replace
-from typing import Any
+from collections.abc import Iterable, Iterator, Sequence
+from dataclasses import dataclass, replace
 
-from ..run.mapping import Map
-from ..run.runs import Run
-from ..study.jobs import CORES
-from ..study.sessions import digest_of
-from ..sumo.network import Options
-from ..sumo.report import Report
-from ..sumo.sources import sources_of
-from .diverting import closing_of, diverted
-from .loading import read_town
-from .search import Asked, Iteration, Search
-from .team import team
-from .trips import connected, read_trips
-from .watching import Ground
+from streetsim.base.jobs import CORES
+from streetsim.base.report import Report
+from streetsim.model.mapping import Map
+from streetsim.model.runs import Run
+from streetsim.model.sources import digest_of, sources_of
+from streetsim.routes.diverting import Diverted, closing_of, diverted
+from streetsim.routes.loading import read_town
+from streetsim.routes.search import Asked, Iteration, Search
+from streetsim.routes.team import team
+from streetsim.routes.watching import Ground
+from streetsim.sumo.converting import options_again
+from streetsim.ways.trips import connected, read_trips
 
 ASKED = Asked(iterations=10, gap=0.02, share=0.2, seeds=range(1, 2))
 CHECK = range(101, 104)
 SLICE = 300
 
 
-def routed(
-    run: Run,
-    mapping: Map,
-    map_path: str,
-    works: Sequence[str],
-    knowing: float,
-    joint: Sequence[str],
-    program: str,
-    until: int,
-    rounds: int,
-    where: str,
-    seeds: Sequence[int],
-) -> tuple[Run, Map, list[str]]:
+@dataclass(frozen=True, slots=True)
+class Wished:
+    """What a variant of a study asks of its ways, and how its runs are made."""
+
+    close: Sequence[str]  # works, which a share of drivers know of
+    knowing: float
+    joint: Iterable[str]  # further lanes that are joint, as in the variants to compare with
+    program: str
+    until: int
+    rounds: int  # by which vehicles give way
+    seeds: Sequence[int]  # of the study
+
+
+def routed(run: Run, mapping: Map, map_path: str, wished: Wished, where: str) -> tuple[Run, Map, list[str]]:
     """The run and its map with ways by feedback for the vehicles of its import, and what speaks against them; with
-    works, round these for a share of drivers who know of them. joint: further lanes that are joint, as in the variants
-    to compare with; rounds: by which vehicles give way; seeds: of the study."""
+    works, round these. where: the variant, for what is told."""
     sources = sources_of(mapping.sources, map_path, run.path)
-    known: dict[str, Any] = {
-        name: tuple(value) if isinstance(value, list) else value for name, value in mapping.options.items()
-    }
-    known["joint"] = (*known.get("joint", ()), *joint)
-    options = Options(**known)
+    options = options_again(mapping, wished.joint)
     town = read_town(sources.net, sources.additional, options, Report())
     trips = read_trips([*sources.routes, *sources.trips], town.net, town.graph, town.types, options, Report())
     trips.all = connected(trips.all, town.net, town.graph, options.ignore_route_errors, Report())
-    ground = Ground(program, digest_of(program), town.graph, SLICE, until, rounds)
+    ground = Ground(wished.program, digest_of(wished.program), town.graph, SLICE, wished.until, wished.rounds)
 
     def told(label: str, one: Iteration) -> bool:
         print(f"{where}: {label}{one.line(len(trips.all))}", file=sys.stderr, flush=True)
@@ -59,18 +51,18 @@ def routed(
     with team(ground, CORES, None) as workers:
         search = Search(town, ground, trips.all, workers, lambda one: told("", one))
         search.start(ASKED.seeds[0])
-        if works:
-            judged = search.judged(CHECK)
-            closing = closing_of(works, (), town.graph, search, judged)
-            search = next(diverted(search, judged, closing, works, ASKED, CHECK, [knowing], told)).search
+        if wished.close:
+            before = Diverted(None, trips.all, search, search.judged(CHECK))
+            closing = closing_of(wished.close, (), town.graph, search, before.judged)
+            search = next(diverted(before, closing, wished.close, ASKED, CHECK, [wished.knowing], told)).search
         else:
             search.improve(ASKED)
     loaded = search.town.loaded(search.trips)
-    return replace(loaded.run, path=run.path), loaded.mapping, list(doubts(search, seeds))
+    return replace(loaded.run, path=run.path), loaded.mapping, list(doubts(search, wished.seeds))
 
 
 def doubts(search: Search, seeds: Sequence[int]) -> Iterator[str]:
-    """What speaks against ways that were found for runs with some seeds."""
+    """What speaks against ways that a search found, for runs with some seeds."""
     if search.best.gap > ASKED.gap:
         yield (
             f"its ways have a gap of {100 * search.best.gap:.1f} % by the search's own seed, of {100 * ASKED.gap:g} "

@@ -1,15 +1,13 @@
 """The tasks of a search, on processes of this machine or on a cluster: parts of the routing, and runs."""
-from __future__ import annotations
-
 import contextlib
 from collections.abc import Iterator, Sequence
 
-from ..study.machines import Machines, machines
-from .costs import Costs
-from .giving import Passed
-from .loading import Loaded
-from .router import Found, Router, Shut, Wish, parts_of
-from .watching import Ground, Outcome, checked, watched
+from streetsim.routes.giving import Passed
+from streetsim.routes.loading import Loaded
+from streetsim.routes.watching import Ground, Outcome, checked, watched
+from streetsim.sessions.machines import Machines, machines
+from streetsim.ways.costs import Costs
+from streetsim.ways.router import Found, Router, Shut, Wish, parts_of
 
 CLUSTER_PARTS = 16  # of a search
 
@@ -21,7 +19,7 @@ class Team:
         self.workers, self.parts = workers, parts
 
     def search(self, wishes: Sequence[Wish], costs: Costs, shut: Shut | None = None) -> list[Found]:
-        """What the router finds, by trip."""
+        """What the router finds for wishes, by trip; shut: times by edge."""
         parts = parts_of(wishes, self.parts)
         tasks = [(f"part {at} of a search", search_part, 0, part, costs, shut) for at, part in enumerate(parts, 1)]
         return sorted((found for part in self.workers.ordered(tasks) for found in part), key=lambda found: found.trip)
@@ -29,8 +27,8 @@ class Team:
     def runs(
         self, cases: Sequence[Loaded], expected: Costs, seeds: Sequence[int], passed: Sequence[Passed | None]
     ) -> list[list[Outcome]]:
-        """What runs of some cases with some seeds show, in their order; passed: of each seed,
-        when those passed who go first."""
+        """What runs of some cases with some seeds show, by case and seed; passed: of each seed, when those passed who
+        go first, none where nobody waits."""
         pairs = list(zip(seeds, passed, strict=True))
         tasks = [
             (f"the run with seed {seed}", watched, 0, loaded.run, loaded.mapping, expected, seed, before)
@@ -49,10 +47,12 @@ class Team:
 
 @contextlib.contextmanager
 def team(ground: Ground, jobs: int, cluster: str | None) -> Iterator[Team]:
+    """So many processes of this machine, or the workers of a cluster (HOST:PORT)."""
     with machines(jobs, cluster, [ground]) as workers:
         yield Team(workers, CLUSTER_PARTS if cluster else jobs)
 
 
 def search_part(ground: Ground, wishes: Sequence[Wish], costs: Costs, shut: Shut | None) -> list[Found]:
+    """What the router finds for wishes; a task of a worker."""
     router = Router(ground.graph, costs, shut)
     return [router.found(wish) for wish in wishes]

@@ -1,17 +1,15 @@
 """Ways round road works in a run under way, for those who have not departed and for those on the road."""
-from __future__ import annotations
-
 from collections.abc import Collection, Iterable, Mapping, Sequence
 from dataclasses import dataclass, replace
 
-from ..run.freeflow import FreeFlow
-from ..run.mapping import Map, MapLink
-from .costs import Costs, flat_costs
-from .graph import graph_of_map
-from .router import FAR, Found, Path, Router, Shut, Wish
-from .seconds import capacities, free_seconds
-from .start import first_ways
-from .trips import Trip
+from streetsim.model.freeflow import FreeFlow
+from streetsim.model.mapping import Map, MapLink
+from streetsim.ways.costs import Costs, flat_costs
+from streetsim.ways.graph import graph_of_map
+from streetsim.ways.router import FAR, Found, Path, Router, Shut, Wish
+from streetsim.ways.seconds import capacities, free_seconds
+from streetsim.ways.start import first_ways
+from streetsim.ways.trips import Trip
 
 
 @dataclass(frozen=True, slots=True)
@@ -33,14 +31,14 @@ class Turning:
     due: int
 
     def soonest(self, links: Sequence[MapLink], link: int, cell: int | None) -> int:
-        """Steps, at least, until a vehicle is behind the links ahead. cell: None at the end of its link."""
+        """Steps, at least, until a vehicle on a link is behind the links ahead. cell: none at the end of its link."""
         left = self.ahead[self.ahead.index(link) :]
         cells = sum(links[at].cells for at in left) - (links[link].cells if cell is None else cell + 1)
         return max(1, int(cells / max(links[at].limit for at in left)))
 
 
 def turning(plan: Path, way: Path, clock: int) -> Turning:
-    """How a vehicle leaves its plan for a way from the same link on, or from one beside it."""
+    """How a vehicle leaves its plan at a clock for a way from the same link on, or from one beside it."""
     both = enumerate(zip(plan, way))
     common = max(1, next((at for at, (one, other) in both if one != other), min(len(plan), len(way))))
     return Turning(plan[:common], way[common:], clock)
@@ -52,6 +50,7 @@ class WaysRound:
     cannot be added under way."""
 
     def __init__(self, mapping: Map, dawdle: float) -> None:
+        """dawdle: the chance to go on by a cell less, 0 to 1."""
         links = [replace(link, edge=str(at)) for at, link in enumerate(mapping.links)]
         self.mapping, self.by_link, self.dawdle = mapping, replace(mapping, links=links, links_of={}), dawdle
         self.graph = graph_of_map(self.by_link)
@@ -88,8 +87,8 @@ class WaysRound:
         return self.mapping.links[trip.origin].edge == self.mapping.links[trip.target].edge
 
     def shut(self, edges: Collection[str], times: tuple[float, float]) -> Shut:
-        """The times in which links are not to be entered: also so shortly before that one would
-        not come past the works."""
+        """The times in which links of edges are not to be entered: also so shortly before that one would not come past
+        the works."""
         begin, end = times
         driving = FreeFlow(self.mapping, self.dawdle).driving
         return {
@@ -107,11 +106,12 @@ class WaysRound:
         return list(best.values())
 
     def beside(self, link: int) -> list[int]:
-        """The links of the same edge."""
+        """The links of the edge of a link, itself with them."""
         return self.mapping.links_of[self.mapping.links[link].edge]
 
 
 def trip_of(vehicle: Waiting) -> Trip:
+    """A vehicle as a router's trip, over links."""
     plan = tuple(vehicle.plan)
     return Trip(vehicle.name, float(vehicle.depart), plan[0], plan[-1], "", plan, float(vehicle.depart))
 

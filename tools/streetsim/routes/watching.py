@@ -1,31 +1,31 @@
 """A run that is watched: where its vehicles are seen now and then,
 what movements took by that, and who passed first."""
-from __future__ import annotations
-
 import resource
 from collections.abc import Mapping, Sequence
-from dataclasses import dataclass
+from dataclasses import dataclass, replace
 from functools import partial
 from itertools import pairwise
 
-from .. import limits
-from ..client import Client, Lane, NoReply, ProgramEnded, Refused, Starved, Vehicle
-from ..cli.words import ROUNDS
-from ..files import Fault
-from ..run.budget import INTERVALS, MINUTE, SLACK, Asking
-from ..run.freeflow import FreeFlow
-from ..run.mapping import Map, Place
-from ..run.passings import Passings
-from ..run.record import Recorder, Records, Settings
-from ..run.rounds import gaps_of, places_of, with_lines
-from ..run.running import seeded
-from ..run.runs import Run
-from ..run.serving import serving
-from ..study.giving import ADVICE
-from .costs import Costs, Observed, nothing_observed
-from .giving import Passed, named, waiting_lines
-from .graph import END, Graph
-from .passes import Passes, Sight
+from streetsim.base import limits
+from streetsim.base.client import Client, Lane, NoReply, ProgramEnded, Refused, Starved, Vehicle
+from streetsim.base.files import Fault
+from streetsim.base.serving import serving
+from streetsim.base.words import ROUNDS
+from streetsim.model.freeflow import FreeFlow
+from streetsim.model.mapping import Map, Place
+from streetsim.model.runs import Run, seeded
+from streetsim.routes.giving import Passed, named, waiting_lines
+from streetsim.routes.passes import Passes, Sight
+from streetsim.run.budget import INTERVALS, MINUTE, SLACK, Asking
+from streetsim.run.passings import Passings
+from streetsim.run.record import Recorder
+from streetsim.run.records import Records
+from streetsim.run.rounds import gaps_of, places_of, with_lines
+from streetsim.run.settings import Settings
+from streetsim.sessions.giving import ADVICE
+from streetsim.ways.costs import Costs, Observed, nothing_observed
+from streetsim.ways.graph import Graph
+from streetsim.works.watched import doubts_of
 
 ASKED = (1, 2, 3, 5, 10, 15, 30, 60)  # minutes from one time at which vehicles are looked for to the next
 CROWDED = 2.0  # vehicles are on their way so much longer than alone on the road
@@ -46,6 +46,7 @@ class Ground:
 
     @property
     def slices(self) -> int:
+        """How many slices runs may have."""
         return self.until // self.width + 1
 
 
@@ -62,9 +63,11 @@ class Outcome:
     processor: float  # seconds, of the simulator
     passed: Passed  # when those passed who go first
     waiting: tuple[int, int]  # vehicles that waited to enter at the worst minute, and its clock
+    at_works: tuple[str, ...] = ()  # what speaks against the run, by what was seen before its works
 
     @property
     def arrived(self) -> int:
+        """How many trips have arrived."""
         return sum(end is not None for end in self.ends)
 
 
@@ -89,9 +92,9 @@ class Watcher(Recorder):
         self.stood: dict[tuple[int, int], tuple[int, int]] = {}
 
     def way_to_look(self) -> tuple[int, bool, int]:
-        """The seconds from one look to the next; whether all lanes are asked for, which is done where the
-        calls allow it each minute, and not all vehicles on their way; and the lanes that may then be watched
-        for rescues each minute."""
+        """The seconds from one look to the next; whether all lanes are asked for, which is done where the calls allow
+        it each minute, and not all vehicles on their way; and the lanes that may then be watched for rescues each
+        minute. Fault where the calls allow neither."""
         left, minutes = self.left(), self.budget.minutes
         if minutes * (len(self.places) + 1) <= left:
             return MINUTE, True, 0
@@ -103,7 +106,7 @@ class Watcher(Recorder):
         raise self.too_many("an earlier --until")
 
     def left(self) -> int:
-        """Calls for looks beside the fewest that those who go first need."""
+        """Calls for looks at vehicles, beside the fewest that those who go first need."""
         return self.most - self.budget.base(0) - SLACK - self.budget.steps // COARSEST * len(self.first)
 
     def way_to_look_first(self) -> int:
@@ -117,12 +120,14 @@ class Watcher(Recorder):
         )
 
     def too_many(self, advice: str) -> Fault:
+        """The Fault of a run that takes more calls than there are."""
         return Fault(
             f"{len(self.run.enters):,} vehicles up to {self.settings.until:,} s take more calls than the {self.most:,} "
             f"of the program: take fewer trips, or {advice}"
         )
 
     def record(self) -> Records:
+        """Makes the whole run, with its own way to look."""
         asking = Asking(self.often or self.every * self.by_lane, self.by_lane, [], 0)
         self.budget.asking = lambda most: asking  # type: ignore[assignment]  # what this run asks is known
         records = super().record()
@@ -133,6 +138,7 @@ class Watcher(Recorder):
         return records
 
     def look(self, clock: int) -> None:
+        """All that is asked at a clock; ends the run where all have ended."""
         if self.often:
             self.polled = self.places if self.by_lane and clock % MINUTE == 0 else self.first
         if not self.by_lane and clock % self.every == 0:
@@ -141,7 +147,7 @@ class Watcher(Recorder):
         census = self.records.censuses[-1] if self.records.censuses else None
         if census and census.clock == clock and self.entered == len(self.run.enters):
             if census.arrived + census.taken == census.admitted:
-                self.settings.until = clock
+                self.end_at(clock)
 
     def ask_all(self, clock: int) -> None:
         """Asks all vehicles on their way where they are, and watches the lanes at whose ends
@@ -161,12 +167,15 @@ class Watcher(Recorder):
                     self.note_standing(clock, owner, reply, stood)
 
     def note_vehicle(self, clock: int, owner: int, reply: Vehicle) -> None:
+        """Notes where a vehicle of the file is, by its reply, on a lane or in a buffer."""
         if reply.cell is not None and reply.speed is not None:
             self.note(owner, clock, reply.place[0], reply.cell, reply.speed)
         else:
             self.note_at_end(owner, clock, reply.place[0])
 
     def note_standing(self, clock: int, owner: int, reply: Vehicle, stood: dict) -> None:
+        """Notes a vehicle that stands at a link's end; one that stood there at the last look too (stood) has its lane
+        watched."""
         key = owner, reply.place[0]
         self.stood[key] = stood.get(key, (reply.car, clock))
         if key in stood:
@@ -177,15 +186,18 @@ class Watcher(Recorder):
         """Nothing: whoever stands is seen when all are looked for."""
 
     def allowance(self, clock: int) -> int:
+        """Lanes that may be watched for rescues at this minute."""
         return limits.CALLS if self.by_lane else self.watches
 
     def note_lanes(self, clock: int, lanes: Mapping[Place, Lane]) -> None:
+        """Notes who is seen by a look at lanes, each minute or of those who go first."""
         if self.by_lane and clock % MINUTE == 0:
             self.note_all(clock, lanes)
         if self.often:
             self.note_passings(clock, lanes)
 
     def note_all(self, clock: int, lanes: Mapping[Place, Lane]) -> None:
+        """Notes where all vehicles on some lanes are."""
         for (link, _), reply in lanes.items():
             for car, cell, speed, *_ in reply.cells:
                 self.note(self.owners[car], clock, link, cell, speed)
@@ -193,6 +205,7 @@ class Watcher(Recorder):
                 self.note_at_end(self.owners[car], clock, link)
 
     def note_passings(self, clock: int, lanes: Mapping[Place, Lane]) -> None:
+        """Notes who is seen on the lanes of those who go first."""
         for (link, lane), reply in lanes.items():
             for car, cell, *_ in reply.cells:
                 self.passings.note(self.owners[car], clock, link, lane, cell)
@@ -200,21 +213,23 @@ class Watcher(Recorder):
                 self.passings.note(self.owners[car], clock, link, lane, self.mapping.links[link].cells, True)
 
     def note(self, owner: int, clock: int, link: int, cell: int, speed: int) -> None:
+        """Notes a vehicle of the file in a cell; speed: cells a step."""
         self.seen[owner].append(Sight(clock, link, (cell + 1) * self.scale[link], speed))
 
     def note_at_end(self, owner: int, clock: int, link: int) -> None:
+        """Notes a vehicle of the file past the stop line of a link."""
         self.seen[owner].append(Sight(clock, link, self.driving[link], 0))
 
 
 def watched(ground: Ground, run: Run, mapping: Map, expected: Costs, seed: int, passed: Passed | None) -> Outcome:
     """One run with a seed, and what it showed. expected: costs by which what was lost between two sights is dealt out;
-    passed: when those passed who go first, in the run before."""
+    passed: when those passed who go first, in the run before, none where nobody waits."""
     lines = waiting_lines(passed, mapping, run.start()) if passed else []
     return observed_run(ground, with_lines(seeded(run, seed), lines), mapping, expected, seed)
 
 
 def checked(ground: Ground, run: Run, mapping: Map, expected: Costs, seed: int) -> Outcome:
-    """The same by rounds with this seed alone, as streetsim-run makes them."""
+    """One run with a seed, by rounds with this seed alone, as streetsim-run makes them, and what it showed."""
     run, settings, serve = seeded(run, seed), Settings(ground.until), partial(serving, ground.program, run.path)
     try:
         lines, _ = gaps_of(run, mapping, settings, ground.rounds, serve, lambda *_: None)
@@ -224,6 +239,7 @@ def checked(ground: Ground, run: Run, mapping: Map, expected: Costs, seed: int) 
 
 
 def observed_run(ground: Ground, run: Run, mapping: Map, expected: Costs, seed: int) -> Outcome:
+    """A run as it stands, and what it showed; seed: for the Fault where the program refuses it."""
     before, giving = resource.getrusage(resource.RUSAGE_CHILDREN), bool(ground.rounds and mapping.yields)
     try:
         with Client(ground.program) as sim:
@@ -234,7 +250,8 @@ def observed_run(ground: Ground, run: Run, mapping: Map, expected: Costs, seed: 
     after = resource.getrusage(resource.RUSAGE_CHILDREN)
     passes = Passes(ground.graph, mapping, expected, run.load.command["dawdle"] / 1000, watcher.every)
     spent = after.ru_utime + after.ru_stime - before.ru_utime - before.ru_stime
-    return outcome_of(ground, run, passes, watcher.seen, records, spent, named(watcher.passings.found, mapping))
+    found = outcome_of(ground, run, passes, watcher.seen, records, spent, named(watcher.passings.found, mapping))
+    return replace(found, at_works=tuple(doubts_of(records.works, mapping)))
 
 
 def outcome_of(
@@ -246,6 +263,7 @@ def outcome_of(
     spent: float,
     passed: Passed,
 ) -> Outcome:
+    """What a run showed, of where its vehicles were seen and when they ended; spent: seconds of the processor."""
     observed = nothing_observed(len(ground.graph.movements), ground.slices)
     entries, ends, total = [], [], 0
     for line, sights, last in zip(run.enters, seen, records.ends, strict=True):
@@ -261,10 +279,10 @@ def outcome_of(
             observed.add(passes.movement(plan, place), int(since // ground.width), until - since)
     worst = max(records.censuses, key=lambda census: census.waiting, default=None)
     waiting = (worst.waiting, worst.clock) if worst else (0, 0)
-    return Outcome(
-        observed, entries, ends, total / len(run.enters), records.rescues.total(), records.calls, spent, passed, waiting
-    )
+    mean, rescues = total / len(run.enters), records.rescues.total()
+    return Outcome(observed, entries, ends, mean, rescues, records.calls, spent, passed, waiting)
 
 
 def arrival_of(last: Vehicle | None) -> int | None:
+    """The clock at which a vehicle arrived, of its last reply; none where it did not."""
     return last.step + 1 if last is not None and last.state == "arrived" and last.step is not None else None

@@ -1,27 +1,24 @@
 """How often a run asks, so that its calls are within those that the program takes."""
-from __future__ import annotations
-
 from bisect import bisect_right
 from collections import Counter
 from collections.abc import Collection, Sequence
 from dataclasses import dataclass, field, replace
 from math import ceil
-from typing import TYPE_CHECKING
 
-from .. import limits
-from ..files import Fault
-
-if TYPE_CHECKING:
-    from .detectors import Detector
-    from .mapping import Place
-    from .record import Settings
-    from .runs import Run
+from streetsim.base import limits
+from streetsim.base.files import Fault
+from streetsim.model.detectors import Detector
+from streetsim.model.mapping import Place
+from streetsim.model.runs import Run
+from streetsim.run.settings import Settings
+from streetsim.works.closures import closures_of, link_seconds
 
 MINUTE = 60
 INTERVALS = (10, 20, 30, 60, 120, 300, 600, 900, 1800, 3600, 0)  # between polls, seconds; 0: never
 SAMPLES = 30  # polls of a lane in a period are enough for its mean speed and density
 SLACK = 100  # calls
 FEW = 4  # below so many polls of a period a lane is left to a further run
+WORKS = 4  # calls of each second in which a link has works: looks while a lane is held, and further up
 SPARE = 0.9  # of what is left goes to samples where all lanes are watched; else half, the rest is for rescues
 
 
@@ -39,7 +36,8 @@ class Asking:
 
 
 class Budget:
-    """The calls that a run of some lanes needs."""
+    """The calls of the program that a run needs. places: (link, lane) that are counted by detectors, and looked at each
+    minute for rescues; polled: those of them that are looked at in an interval; detectors: the map's own."""
 
     def __init__(
         self,
@@ -54,13 +52,16 @@ class Budget:
         self.steps = settings.until - run.start()
         self.minutes = self.steps // MINUTE + 1
         self.periods = ceil(self.steps / settings.period)
+        self.closures = closures_of(run, settings.until)
 
     def base(self, meters: int) -> int:
-        """Calls that do not depend on how often lanes are polled: lines, vehicles, steps, counts, detectors."""
+        """Calls that do not depend on how often lanes are polled: lines, vehicles, steps, counts, and so many detectors
+        at stop lines beside the map's."""
         vehicles = 2 * len(self.run.enters)
         reads = meters * (self.steps // (self.settings.period * limits.ROWS) + 2)
         reads += sum(self.steps // (one.period * limits.ROWS) + 3 for one in self.detectors)
         lines = 2 + len(self.run.first) + 2 * len(self.run.timed)
+        lines += WORKS * link_seconds(self.closures, self.run.start()) + ceil(self.settings.lights.calls * self.steps)
         return vehicles + reads + lines + 3 * self.minutes + self.periods + self.steps // limits.STEPS
 
     def owed(self, clock: int, entered: int, ended: int) -> int:
@@ -68,12 +69,15 @@ class Budget:
         left = self.settings.until - clock
         reads = sum(left // (period * limits.ROWS) + 2 for period in self.meter_periods())
         vehicles = 2 * (len(self.run.enters) - entered) + entered - ended
+        vehicles += WORKS * link_seconds(self.closures, clock) + ceil(self.settings.lights.calls * left)
         return vehicles + reads + 2 * len(self.run.timed) + 3 * (left // MINUTE + 1) + left // limits.STEPS + SLACK
 
     def meter_periods(self) -> list[int]:
+        """The seconds of a row of each detector: those of lanes, then the map's."""
         return [self.settings.period] * min(limits.METERS, len(self.places)) + [one.period for one in self.detectors]
 
     def polls(self, every: int) -> int:
+        """Calls for polls every so many seconds; 0: none."""
         return self.steps // every * (len(self.polled) + 1) if every else 0
 
     def watching(self, all_watched: bool) -> int:
@@ -83,11 +87,13 @@ class Budget:
         return self.minutes * len(self.places) if all_watched else len(self.run.enters) // 2
 
     def needed(self, every: int, all_watched: bool) -> int:
+        """All calls but those for samples; every: seconds between polls."""
         meters = min(limits.METERS, len(self.places))
         return self.base(meters) + self.polls(every) + self.watching(all_watched)
 
     def asking(self, most: int) -> Asking:
-        """The most frequent polls that fit in so many calls (0: any number), and who is counted where."""
+        """The most frequent polls that fit in so many calls (0: any number), and who is counted where; Fault where none
+        do."""
         wished = self.settings.every
         intervals = INTERVALS if wished is None else (wished,)
         fitting = (
@@ -118,7 +124,8 @@ class Budget:
         return told + (f"a run up to {last:,} s, or " if last else "") + "fewer vehicles: each takes two calls"
 
     def longest(self, every: int, most: int) -> int:
-        """The last second of the longest run that takes so many calls; 0 where its vehicles alone take more."""
+        """The last second of the longest run that takes so many calls (most), with polls every so many seconds (0:
+        none); 0 where its vehicles alone take more."""
 
         def needed(until: int) -> int:
             settings = replace(self.settings, until=until)
@@ -129,8 +136,9 @@ class Budget:
         return seconds[fitting - 1] if fitting else 0
 
     def share(self, asking: Asking, left: int | None) -> None:
-        """Deals the lanes to this run and further ones, and how often each is sampled."""
-        free = limits.METERS - len(self.detectors)
+        """Deals the lanes to this run and further ones, and how often each is sampled; left: calls, none: any
+        number."""
+        free = limits.METERS - len(self.detectors) - self.settings.lights.meters
         spare = SPARE if asking.all_watched else 0.5
         use = Counter(link for line in self.run.enters for link in line.command["plan"])
         lanes = sorted(self.places, key=lambda place: -use[place[0]]) if len(self.places) > free else list(self.places)
@@ -147,7 +155,7 @@ class Budget:
             asking.further = [lanes[at : at + limits.METERS] for at in range(here, len(lanes), limits.METERS)]
 
     def repeated(self, lanes: Sequence[Place], rescues: int, most: int) -> Asking:
-        """What a further run asks, which repeats this one with detectors on other lanes."""
+        """What a further run asks, which repeats this one with detectors on other lanes; most: calls, 0: any number."""
         left = most - self.base(len(lanes)) - 2 * rescues if most else None
         each = SAMPLES + 1 if left is None else int(left * SPARE) // self.periods // len(lanes)
         return Asking(0, False, list(lanes), max(0, min(SAMPLES, each - 1, self.settings.period // 2)))

@@ -4,15 +4,13 @@ from __future__ import annotations
 from collections import Counter, defaultdict
 from collections.abc import Iterable, Iterator, Mapping, Sequence
 from math import floor
-from typing import TYPE_CHECKING, Any
 
-if TYPE_CHECKING:
-    from ..client import Row
-    from .detectors import Cells
-    from .mapping import Map, Place
+from streetsim.base.client import Row
+from streetsim.model.detectors import Cells
+from streetsim.model.mapping import Map, Place
+from streetsim.model.tables import Entry
 
-    Seen = Iterable[tuple[int, Cells]]  # links, each with the cells of a lane's reply
-
+Seen = Iterable[tuple[int, Cells]]  # links, each with the cells of a lane's reply
 GOLDEN = 0.6180339887498949
 
 
@@ -24,14 +22,14 @@ class Samples:
         self.start, self.period, self.count = start, period, count
 
     def after(self, clock: int) -> int | None:
-        """The next such clock, or none."""
+        """The next clock after this one at which lanes are sampled; none where they never are."""
         if not self.count:
             return None
         at = (clock - self.start) // self.period
         return min(time for part in (at, at + 1) for time in self.within(part) if time > clock)
 
     def within(self, at: int) -> list[int]:
-        """Those of a period, which rise and lie after its begin."""
+        """The clocks of samples in a period, by its number from 0; they rise and lie after its begin."""
         size = self.period / self.count
         shares = ((place + at * self.count) * GOLDEN % 1 for place in range(self.count))
         return [self.start + at * self.period + 1 + floor((place + share) * size) for place, share in enumerate(shares)]
@@ -51,7 +49,7 @@ class Edgedata:
         self.known: dict[Place, frozenset[int]] = {}  # by (link, lane): the periods in which it was sampled
 
     def sample(self, clock: int, seen: Seen) -> None:
-        """Notes vehicles and speeds; seen: (link, the cells of a lane's reply)."""
+        """Notes the vehicles of a sample and their speeds, in cells a step."""
         period = (clock - 1 - self.start) // self.period
         self.samples[period] += 1
         for link, cells in seen:
@@ -59,7 +57,7 @@ class Edgedata:
             self.speeds[period, link] += sum(entry[2] for entry in cells)
 
     def end(self, clock: int, seen: Seen) -> None:
-        """Notes the vehicles on links at a period's end."""
+        """Notes the vehicles on links at the clock of a period's end."""
         at_end = self.standing[clock]
         for link, cells in seen:
             at_end[link] += len(cells)
@@ -86,7 +84,7 @@ class Edgedata:
             self.standing[clock].update(links)
 
 
-def edge_rows(counts: Mapping[Place, Mapping[int, Row]], data: Edgedata, mapping: Map) -> Iterator[tuple[Any, ...]]:
+def edge_rows(counts: Mapping[Place, Mapping[int, Row]], data: Edgedata, mapping: Map) -> Iterator[Entry]:
     """(begin, end, edge, entered, left, vehicles a kilometre, km/h, travel time) of each period and edge of which all
     lanes have counts; none for what is not known."""
     periods = sorted({(row.start, row.steps) for rows in counts.values() for row in rows.values()})
@@ -103,7 +101,8 @@ def edge_rows(counts: Mapping[Place, Mapping[int, Row]], data: Edgedata, mapping
 
 
 def entered_on(data: Edgedata, links: Sequence[int], begin: int, end: int, left: int) -> int | None:
-    """Those who left, who are there at the end and were not at the begin, and who were taken out."""
+    """How many came to an edge in a period: those who left, who are there at the end and were not at the begin, and who
+    were taken out; none where its begin or end was not looked at."""
     if end not in data.standing or (begin != data.start and begin not in data.standing):
         return None
     before, after = (
@@ -115,7 +114,8 @@ def entered_on(data: Edgedata, links: Sequence[int], begin: int, end: int, left:
 def seen_on(
     data: Edgedata, mapping: Map, places: Sequence[Place], begin: int
 ) -> tuple[float | None, float | None, float | None]:
-    """Vehicles a kilometre, km/h and seconds of travel: the way at the mean speed of all who were seen."""
+    """Vehicles a kilometre, km/h and seconds of travel: the way at the mean speed of all who were seen; none for what
+    is not known. places: all lanes of the edge."""
     period = (begin - data.start) // data.period
     if not all(period in data.known.get(place, ()) for place in places):
         return None, None, None

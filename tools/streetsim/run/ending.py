@@ -1,15 +1,15 @@
 """When a run ends that was given no last second: all have arrived, nobody moves any more, or the calls are spent."""
-from __future__ import annotations
-
 import json
+from collections.abc import Iterable
 from functools import cached_property
-from typing import TYPE_CHECKING
+from typing import Protocol
 
-from .. import limits
-
-if TYPE_CHECKING:
-    from .record import Recorder
-    from .runs import Run
+from streetsim.base import limits
+from streetsim.base.client import Lane
+from streetsim.model.mapping import Place
+from streetsim.model.runs import Run
+from streetsim.run.records import Records
+from streetsim.run.settings import Settings
 
 HOUR = 3600  # seconds: how far the end is put off
 USUAL = 7200  # seconds from the last departure to the first guess of the end
@@ -21,6 +21,23 @@ def first_guess(run: Run) -> int:
     """A clock by which most runs have ended: calls are planned by it."""
     last = max((line.command["depart"] for line in run.enters), default=0)
     return min(limits.CLOCK, max(last, run.start()) + USUAL)
+
+
+class UnderWay(Protocol):
+    """A run under way, as its end is judged by it."""
+
+    run: Run
+    settings: Settings
+    records: Records
+    places: list[Place]
+    start: int
+    entered: int  # of the run's enters
+    sent: int  # of its timed lines
+    most: int  # calls; 0: any number
+
+    def lanes(self, wanted: Iterable[Place]) -> dict[Place, Lane]: ...
+    def spare(self, clock: int) -> int: ...
+    def end_at(self, clock: int) -> None: ...
 
 
 class Ending:
@@ -40,7 +57,8 @@ class Ending:
         signals = [json.loads(line.text) for line in lines if line.command["cmd"] == "signal"]
         return max((sum(duration for duration, _ in one["phases"]) for one in signals), default=0)
 
-    def look(self, record: Recorder, clock: int) -> None:
+    def look(self, record: UnderWay, clock: int) -> None:
+        """At each minute: ends the run, or puts its end off where that has come."""
         census = record.records.censuses[-1]
         if record.entered == len(record.run.enters) and census.admitted == census.arrived + census.taken:
             self.end(record, clock, ALL)
@@ -54,7 +72,7 @@ class Ending:
         elif clock == record.settings.until:
             self.put_off(record, clock)
 
-    def is_still(self, record: Recorder, clock: int) -> bool:
+    def is_still(self, record: UnderWay, clock: int) -> bool:
         """Whether no vehicle has changed its cell for longer than the longest cycle, and none is to come."""
         census = record.records.censuses[-1]
         figures = census.admitted, census.arrived, census.taken, census.cells, census.buffers, census.waiting
@@ -62,7 +80,7 @@ class Ending:
         if waits or figures != self.census:
             self.census, self.since, self.lanes = figures, clock, None
             return False
-        if clock - self.since <= self.cycle:
+        if clock - self.since <= max(self.cycle, record.settings.lights.longest):
             return False
         record.records.calls += 1
         found = record.lanes(record.places)
@@ -72,17 +90,18 @@ class Ending:
         if stand != self.lanes:
             self.lanes, self.looked = stand, clock
             return False
-        return clock - self.looked > self.cycle
+        return clock - self.looked > max(self.cycle, record.settings.lights.longest)
 
-    def put_off(self, record: Recorder, clock: int) -> None:
+    def put_off(self, record: UnderWay, clock: int) -> None:
         """An hour more where there are calls for it, and clocks."""
         settings, calls = record.settings, record.records.calls
         hour = MORE * HOUR * calls / max(1, clock - record.start)
         if clock + HOUR > limits.CLOCK or (record.most and record.spare(clock) < hour):
             self.end(record, clock, "the calls of the run are spent")
         else:
-            settings.until = clock + HOUR
+            record.end_at(clock + HOUR)
 
-    def end(self, record: Recorder, clock: int, why: str) -> None:
-        record.settings.until = clock
+    def end(self, record: UnderWay, clock: int, why: str) -> None:
+        """Has the run end at a clock, and notes why."""
+        record.end_at(clock)
         record.records.ended = f"ended at {clock:,} s: {why}"

@@ -1,23 +1,18 @@
 """Signals that are green in the gaps between vehicles that go first, where there is no light."""
-from __future__ import annotations
-
 from bisect import bisect_left, bisect_right
 from collections import defaultdict
 from collections.abc import Iterable, Iterator, Mapping, Sequence
 from itertools import accumulate, groupby
-from typing import TYPE_CHECKING
 
-from .. import limits
-from .runs import Line
-
-if TYPE_CHECKING:
-    from ..sumo.conflicts import TurnKey, Waiting
-    from .mapping import Map, Place
+from streetsim.base import limits
+from streetsim.model.mapping import Map, Place
+from streetsim.model.runs import Line
+from streetsim.model.waiting import Foe, Pace, TurnKey, Waiting
 
 State = tuple[int, ...]  # for each group whether it is red
-Group = tuple[Sequence["TurnKey"], Sequence[int]]  # turns that give way, and for each second whether they are red
-Passed = Mapping["Place", Sequence[tuple[float, int]]]  # {(link, lane): [(second, next link)]}
-Times = Mapping["TurnKey", Sequence[float]]  # when vehicles pass, by turn
+Group = tuple[Sequence[TurnKey], Sequence[int]]  # turns that give way, and for each second whether they are red
+Passed = Mapping[Place, Sequence[tuple[float, int]]]  # {(link, lane): [(second, next link)]}
+Times = Mapping[TurnKey, Sequence[float]]  # when vehicles pass, by turn
 AFTER = 1  # seconds after one that goes first until the next may go
 AROUND = 300  # seconds before and after, in which those that go first are counted
 SHOWN, HIDDEN = 3, 2  # seconds in turn, where those that use a gap follow each other slowly
@@ -66,7 +61,7 @@ def coming_of(mapping: Map, times: Times, wished: Times) -> Times:
 
 
 def with_wishes(seconds: Sequence[float], wished: Sequence[float]) -> list[float]:
-    """When the vehicles of a turn pass, or wish to where far fewer pass."""
+    """When the vehicles of a turn pass, or, in those parts of the time where far fewer pass, when they wish to."""
     found: defaultdict[float, tuple[list[float], list[float]]] = defaultdict(lambda: ([], []))
     for at, each in enumerate((seconds, wished)):
         for second in each:
@@ -124,25 +119,76 @@ def red_seconds(waiting: Waiting, times: Times, start: int, end: int, coming: Ti
     coming = times if coming is None else coming
     comes = [(second, foe) for foe in waiting.foes for second in coming.get((foe.link, foe.lane, foe.next), ())]
     comes.sort(key=lambda one: one[0])
-    if not comes:
+    if not comes and waiting.pace is None:
         return None
-    seconds = [second for second, _ in comes]
-    red, owed = bytearray(end - start), 0.5
+    red, owed, counts = bytearray(end - start), 0.5, Counts(comes)
     for second, foe in comes:
-        around = bisect_right(seconds, second + AROUND) - bisect_left(seconds, second - AROUND)
-        length = foe.gap.before(around * 3600 / (2 * AROUND)) + AFTER + owed
+        if not foe.gap.seconds:  # all stop, and go in turn
+            continue
+        length = foe.gap.before(*counts.around(second, foe)) + AFTER + owed
         owed = length % 1
         last = round(second) + AFTER - start
         close(red, last - int(length), last)
     if any(foe.slow for _, foe in comes):
         for sooner, later in followings(sorted(second for turn in waiting.turns for second in times.get(turn, ()))):
             slow_down(red, int(sooner) - start, int(later) - start)
+    if waiting.pace is not None:
+        keep_pace(red, waiting.pace, counts.every, near_passings(waiting, times, start, len(red)), start)
     be_patient(red)
     return red
 
 
+def near_passings(waiting: Waiting, times: Times, start: int, length: int) -> bytearray:
+    """For each second from the start whether somebody passes then, or a little before or after, on the lanes of turns
+    that give way: those of a lane wait for one another, wherever they go."""
+    lanes = {(link, lane) for link, lane, _ in waiting.turns}
+    near = bytearray(length)
+    for (link, lane, _), seconds in times.items():
+        for second in seconds if (link, lane) in lanes else ():
+            close(near, int(second) - CLOSE - start, int(second) + CLOSE - start)
+    return near
+
+
+def keep_pace(red: bytearray, pace: Pace, comes: Sequence[float], near: Sequence[int], start: int) -> None:
+    """Hides seconds so that those who have to stop follow each other as slowly as they do, where somebody is near (by
+    second from the start); comes: when others come, rising. All ways of a street have the same seconds."""
+    at, owed = 0, 0.0
+    while at < len(red):
+        period = pace.period(hourly_around(comes, at + start)) + owed
+        owed = period % 1
+        for second in range(at + pace.shown, min(len(red), at + int(period))):
+            red[second] |= near[second]
+        at += int(period)
+
+
+class Counts:
+    """How many go first, by when they come, of whom the times rise."""
+
+    def __init__(self, comes: Iterable[tuple[float, Foe]]) -> None:
+        self.by_lane: defaultdict[tuple[int, ...], list[float]] = defaultdict(list)
+        self.by_street: defaultdict[int, list[float]] = defaultdict(list)
+        self.every: list[float] = []
+        for second, foe in comes:
+            for times in self.lists_of(foe):
+                times.append(second)
+
+    def lists_of(self, foe: Foe) -> tuple[list[float], list[float], list[float]]:
+        """When those of its lane come, of its street, and all."""
+        return self.by_lane[foe.link, foe.lane], self.by_street[foe.street], self.every
+
+    def around(self, second: float, foe: Foe) -> tuple[float, ...]:
+        """Vehicles an hour of these three around a second."""
+        return tuple(hourly_around(times, second) for times in self.lists_of(foe))
+
+
+def hourly_around(times: Sequence[float], second: float) -> float:
+    """Vehicles an hour within AROUND seconds before and after a second, of times that rise."""
+    count = bisect_right(times, second + AROUND) - bisect_left(times, second - AROUND)
+    return count * 3600 / (2 * AROUND)
+
+
 def close(red: bytearray, first: int, last: int) -> None:
-    """Makes seconds red, as far as there are such."""
+    """Makes the seconds from first to last, without it, red, as far as there are such."""
     first, last = max(0, first), min(len(red), last)
     red[first:last] = b"\1" * (last - first)
 
@@ -159,7 +205,7 @@ def followings(seconds: Sequence[float]) -> Iterator[tuple[float, float]]:
 
 
 def slow_down(red: bytearray, first: int, last: int) -> None:
-    """Hides some of each gap between two seconds, so that not more use it than can."""
+    """Hides some of each gap between two seconds from the start, so that not more use it than can."""
     at = red.find(0, max(0, first), max(0, last))
     while at >= 0:
         close(red, at + SHOWN, at + SHOWN + HIDDEN)

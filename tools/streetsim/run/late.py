@@ -1,6 +1,4 @@
 """Which vehicles to ask where they are, so that those that stand for ever are found at few calls."""
-from __future__ import annotations
-
 from heapq import heappop, heappush
 
 
@@ -9,6 +7,7 @@ class Late:
     then at growing steps."""
 
     def __init__(self, wait: int) -> None:
+        """wait: the seconds lost after which a vehicle is asked for the first time."""
         self.wait = wait
         self.heap: list[tuple[float, int, int]] = []  # clock, seconds to the next time, vehicle
 
@@ -17,12 +16,12 @@ class Late:
         heappush(self.heap, (arrival + self.wait, self.wait, vehicle))
 
     def due(self, clock: int) -> list[tuple[int, int]]:
-        """Those to ask now, with the seconds to their next time; they are no longer expected."""
+        """Those to ask now, (seconds to their next time, vehicle); they are no longer expected."""
         found = []
         while self.heap and self.heap[0][0] <= clock:
             found.append(heappop(self.heap)[1:])
         return found
 
     def again(self, vehicle: int, clock: int, wait: int) -> None:
-        """To be asked again; then twice as long after."""
+        """Has a vehicle asked in so many seconds again; then twice as long after."""
         heappush(self.heap, (clock + wait, 2 * wait, vehicle))

@@ -1,14 +1,10 @@
 """When vehicles pass stop lines, by where polls of the lanes see them."""
-from __future__ import annotations
-
 from collections import defaultdict
 from collections.abc import Sequence
 from dataclasses import dataclass
-from typing import TYPE_CHECKING
 
-if TYPE_CHECKING:
-    from .mapping import Map, Place
-    from .runs import Line
+from streetsim.model.mapping import Map, Place
+from streetsim.model.runs import Line
 
 
 @dataclass(slots=True)
@@ -27,6 +23,7 @@ class Passings:
     one sees them at the speed of the free road."""
 
     def __init__(self, mapping: Map, enters: Sequence[Line], dawdle: int) -> None:
+        """enters: the run's vehicles, by number; dawdle: of 1,000."""
         self.links = mapping.links
         self.plans = [line.command["plan"] for line in enters]
         self.speeds = [link.limit - dawdle / 1000 for link in mapping.links]
@@ -35,7 +32,7 @@ class Passings:
         self.found: defaultdict[Place, list[tuple[float, int]]] = defaultdict(list)
 
     def note(self, car: int, clock: int, link: int, lane: int, cell: int, left: bool = False) -> None:
-        """A vehicle is seen at a cell of a lane, or in its buffer."""
+        """A vehicle of the file is seen at a cell of a lane; left: in its buffer, past the stop line."""
         plan, before = self.plans[car], self.seen[car]
         place = before.place
         while place < len(plan) and plan[place] != link:
@@ -47,7 +44,7 @@ class Passings:
             self.between(plan, before, now)
 
     def arrived(self, car: int, clock: int) -> None:
-        """A vehicle has come to the end of its plan."""
+        """A vehicle has come to the end of its plan at a clock."""
         last = self.plans[car][-1]
         self.note(car, clock, last, 0, self.links[last].cells)
 
@@ -76,11 +73,14 @@ class Passings:
         return now.clock - self.driving(plan[now.place])
 
     def stay(self, link: int) -> int:
+        """Seconds in the junction behind a link."""
         return self.stays[self.links[link].end]
 
     def driving(self, link: int) -> float:
+        """Seconds on a link at the free speed."""
         return self.links[link].cells / self.speeds[link]
 
     def add(self, plan: Sequence[int], place: int, lane: int, second: float) -> None:
+        """Notes that the stop line of the link at a place of a plan is passed; the last link has none."""
         if place + 1 < len(plan):
             self.found[plan[place], lane].append((second, plan[place + 1]))

@@ -1,198 +1,32 @@
 """Runs a run file: sends its lines in time, polls, rescues, and keeps what the tables are made of."""
-from __future__ import annotations
-
 import json
-from collections import Counter, defaultdict
-from collections.abc import Callable, Collection, Iterable, Mapping, Sequence
-from dataclasses import dataclass, field
-from typing import Any
+from collections.abc import Callable, Iterable, Mapping, Sequence
+from dataclasses import replace
 
-from .. import limits
-from ..client import Census, Client, Lane, Row, Rows, Vehicle, line_of, read_reply
-from ..files import Fault, TextFile
-from .budget import MINUTE, Asking, Budget
-from .detectors import E1, E2, Areas, Detector
-from .edgedata import Edgedata, Samples
-from .ending import Ending
-from .freeflow import FreeFlow
-from .late import Late
-from .mapping import Map, Place
-from .runs import Line, Run
-
-Tell = Callable[[int, Census | None], object]  # gets the clock and the last census
-Rescue = tuple[int, int, dict[str, Any]]  # clock, car, enter command
-
-EMPTY = b'{"buffer":[],"cells":[],"closed":[],"waiting":[]}\n'  # the reply of a lane where nothing is
-
-
-@dataclass(slots=True)
-class Settings:
-    until: int
-    every: int | None = None  # between polls of the lanes; none: as often as the calls allow; 0: never
-    period: int = 900  # of the counts
-    rescue: int = 300  # after so many steps of standing at a stop line; 0: never
-    edges: tuple[str, ...] = ()  # those to poll; all where it is empty
-    calls: int | None = None  # at most; none: as many as the program takes
-    all_counted: bool = True  # lanes beyond those of one run's detectors are counted by further runs
-    open_end: bool = False  # until all have arrived or nobody moves; `until` is then a guess, and the end after the run
-
-
-@dataclass(slots=True)
-class Records:
-    counts: dict[Place, dict[int, Row]] = field(default_factory=dict)  # (link, lane): rows by their begin
-    loops: dict[str, dict[int, Row]] = field(default_factory=dict)  # e1: rows by their begin
-    areas: Areas = field(default_factory=lambda: Areas([], 0))  # what e2 saw
-    edgedata: Edgedata = field(default_factory=lambda: Edgedata(0, 1))
-    uncounted: int = 0  # lanes without a detector, as there are more than 1,024
-    queues: list[tuple[int, int, int, int, int]] = field(default_factory=list)  # (clock, link, lane, vehicles, cells)
-    censuses: list[Census] = field(default_factory=list)
-    # For each vehicle of the file its last reply, or none if it never entered.
-    ends: list[Vehicle | None] = field(default_factory=list)
-    unsent: int = 0  # timed lines whose clock did not come
-    unpolled: int = 0  # polls that were left out, as the calls went to rescues
-    rescues: Counter[int] = field(default_factory=Counter)  # by vehicle
-    rescued: list[Rescue] = field(default_factory=list)  # in the order in which they were done
-    asking: Asking = field(default_factory=lambda: Asking(0, False, [], 0))
-    ended: str = ""  # why a run without a last second ended
-    calls: int = 0  # that were made
-    clock: int = 0
-
-
-class Desk:
-    """One process of the program on a run: its lines in time, detectors and samples of some lanes."""
-
-    def __init__(
-        self, sim: Client, run: Run, mapping: Map, settings: Settings, detectors: Sequence[Detector] = ()
-    ) -> None:
-        self.sim, self.run, self.mapping, self.settings, self.detectors = sim, run, mapping, settings, detectors
-        self.start = run.start()
-        self.records = Records(clock=self.start, edgedata=Edgedata(self.start, settings.period))
-        self.places = mapping.lanes()
-        self.lines = {(link, lane): line_of({"cmd": "lane", "link": link, "lane": lane}) for link, lane in self.places}
-        # By number: (where its rows go, key there, period).
-        self.meters: list[tuple[dict[Any, dict[int, Row]], Any, int]] = []
-        self.entered = self.sent = 0  # of the run's enters, of its timed lines
-
-    def begin(self, asking: Asking) -> None:
-        """Loads, and places the detectors."""
-        self.records.asking, self.measured = asking, set(asking.measured)
-        self.samples = Samples(self.start, self.settings.period, asking.samples)
-        self.send([self.run.load, *self.run.first])
-        self.place_meters()
-
-    def exchange(self, lines: Iterable[bytes]) -> list[bytes]:
-        """Replies as bytes; counts the calls."""
-        replies = list(self.sim.exchange(lines))
-        self.records.calls += len(replies)
-        return replies
-
-    def send(self, lines: Iterable[Line]) -> None:
-        """Sends lines of the run; a refused one ends it."""
-        lines = list(lines)
-        for line, reply in zip(lines, self.exchange(line.text.encode() + b"\n" for line in lines), strict=True):
-            if b'"error"' in reply or b'"starved"' in reply:
-                where = f"line {line.number} ({line.command['cmd']})" if line.number else f"--close {line.text}"
-                raise Fault(f"{self.run.path}: {where} was refused: {read_reply(reply)}")
-
-    def send_timed(self, clock: int) -> None:
-        due = []
-        while self.sent < len(self.run.timed) and self.run.timed[self.sent][0] <= clock:
-            due.append(self.run.timed[self.sent][1])
-            self.sent += 1
-        self.send(due)
-
-    def advance(self, clock: int, target: int) -> int:
-        """Goes on to a clock or the one before it at which a line is due or lanes are sampled;
-        those who depart until then enter before."""
-        at = clock - self.start
-        period = (at // self.settings.period + 1) * self.settings.period + self.start
-        sample = self.samples.after(clock)
-        target = min(target, self.settings.until, period, clock + limits.STEPS, *([sample] if sample else []))
-        for _, _, rows in self.meters_due:
-            target = min(target, self.start + (at // rows + 1) * rows)
-        if self.sent < len(self.run.timed):
-            target = min(target, self.run.timed[self.sent][0])
-        last = self.entered
-        while last < len(self.run.enters) and self.run.needed[last] < target:
-            last += 1
-        self.enter(last)
-        self.records.clock = self.sim.advance(target - clock)
-        self.records.calls += 1
-        return target
-
-    def enter(self, last: int) -> None:
-        self.send(self.run.enters[self.entered : last])
-        self.entered = last
-
-    def lanes(self, wanted: Iterable[Place]) -> dict[Place, Lane]:
-        """What stands on some lanes, of those where anything is."""
-        wanted, found = list(wanted), {}
-        for place, text in zip(wanted, self.exchange(self.lines[place] for place in wanted), strict=True):
-            if text != EMPTY:
-                reply = read_reply(text)
-                if not isinstance(reply, Lane):
-                    raise Fault(f"a poll of the lanes was refused: {reply}")
-                found[place] = reply
-        return found
-
-    def wants_samples(self, clock: int) -> tuple[bool, bool]:
-        """Whether lanes are sampled now, and whether a period ends, at whose end vehicles on lanes are counted."""
-        asking, at = self.records.asking, clock - self.start
-        rich = not asking.samples and bool(asking.every)
-        sampled = (
-            clock in self.samples.within((at - 1) // self.settings.period)
-            if asking.samples
-            else rich and clock % asking.every == 0
-        )
-        ended = at % self.settings.period == 0 or clock == self.settings.until
-        return sampled, ended and bool(asking.samples or rich)
-
-    def measure(self, clock: int, lanes: Mapping[Place, Lane], sampled: bool, ended: bool) -> None:
-        """Notes what samples see of the measured lanes."""
-        seen = [(place[0], reply.cells) for place, reply in lanes.items() if place in self.measured]
-        if sampled:
-            self.records.edgedata.sample(clock, seen)
-            self.records.areas.sample(clock, lambda place: lanes[place].cells if place in lanes else ())
-        if ended:
-            self.records.edgedata.end(clock, seen)
-
-    def place_meters(self) -> None:
-        """A detector at the last cell of each measured lane, and the induction loops of the map."""
-        period = self.settings.period
-        placed = [
-            (link, lane, self.mapping.links[link].cells - 1, period) for link, lane in self.records.asking.measured
-        ]
-        self.meters = [(self.records.counts, place, period) for place in self.records.asking.measured]
-        loops = [one for one in self.detectors if one.kind == E1]
-        placed += [(one.link, one.lane, one.first, one.period) for one in loops]
-        self.meters += [(self.records.loops, one.name, one.period) for one in loops]
-        names = ("link", "lane", "cell", "period")
-        commands = [line_of({"cmd": "meter", **dict(zip(names, values))}) for values in placed]
-        refused = [reply for reply in map(read_reply, self.exchange(commands)) if isinstance(reply, Exception)]
-        if refused:
-            raise Fault(f"a detector was refused: {refused[0]}")
-        by_period = defaultdict(list)
-        for number, (_, _, period) in enumerate(self.meters):
-            by_period[period].append(number)
-        self.meters_due = [(numbers, period, period * limits.ROWS) for period, numbers in by_period.items()]
-
-    def read_meters(self, clock: int) -> None:
-        """Reads the detectors whose rows would be lost from now on; all at the end."""
-        for numbers, _, rows in self.meters_due:
-            if clock == self.settings.until or (clock - self.start) % rows == 0:
-                self.read(numbers)
-
-    def read(self, numbers: Sequence[int]) -> None:
-        replies = self.exchange(line_of({"cmd": "read", "meter": number}) for number in numbers)
-        for number, reply in zip(numbers, map(read_reply, replies), strict=True):
-            if not isinstance(reply, Rows):
-                raise Fault(f"reading a detector was refused: {reply}")
-            kept, key, _ = self.meters[number]
-            kept.setdefault(key, {}).update({row.start: row for row in (*reply.rows, reply.now) if row.steps})
+from streetsim.actuated.driver import Driver
+from streetsim.base import limits
+from streetsim.base.client import Client, Lane, Vehicle, line_of, read_reply
+from streetsim.base.files import Fault, TextFile
+from streetsim.model.detectors import E2, Areas
+from streetsim.model.freeflow import FreeFlow
+from streetsim.model.mapping import Map, Place
+from streetsim.model.runs import Command, Run
+from streetsim.model.tables import BEFORE_WORKS, STOP_LINE
+from streetsim.run.budget import MINUTE, Asking, Budget
+from streetsim.run.desk import Desk
+from streetsim.run.ending import Ending
+from streetsim.run.late import Late
+from streetsim.run.records import Records, Tell
+from streetsim.run.settings import Settings
+from streetsim.run.worked import Works
+from streetsim.works.closures import closures_of
+from streetsim.works.queues import reach_of
 
 
 class Recorder(Desk):
     """Drives a run from its load to the end."""
+
+    notes_works = True  # what is seen before them
 
     def __init__(
         self,
@@ -202,8 +36,9 @@ class Recorder(Desk):
         settings: Settings,
         lanes_file: TextFile | None,
         tell: Tell,
-        detectors: Sequence[Detector] = (),
     ) -> None:
+        """lanes_file: for the polls; a run without it leaves out SUMO's detectors too."""
+        detectors = mapping.detectors if lanes_file else ()
         super().__init__(sim, run, mapping, settings, detectors)
         self.lanes_file, self.tell = lanes_file, tell
         edges = set(settings.edges or mapping.links_of)
@@ -222,6 +57,11 @@ class Recorder(Desk):
         self.ended: dict[int, Vehicle] = {}  # those who have ended, by vehicle of the file
         self.records.areas = Areas([one for one in detectors if one.kind == E2], self.start)
         self.areas = {(one.link, one.lane) for one in self.records.areas.detectors}
+        until = limits.CLOCK if settings.open_end else settings.until
+        pace = [seconds / link.cells for seconds, link in zip(self.free_flow.driving, mapping.links, strict=True)]
+        self.works = Works(closures_of(run, until), mapping, settings.merging, pace if self.notes_works else ())
+        self.records.works = self.works.watched
+        self.driver = Driver(settings.lights.driven, mapping)
 
     def record(self) -> Records:
         """Makes the whole run."""
@@ -238,6 +78,7 @@ class Recorder(Desk):
             self.look(clock)
             self.tell(clock, self.records.censuses[-1] if self.records.censuses else None)
         self.find_ends()
+        self.records.phases = self.driver.rows(clock)
         self.records.unsent = sum(line.number > 0 for _, line in self.run.timed[self.sent :])  # works may last longer
         self.records.uncounted = len(self.places) - len(asking.measured)
         known = asking.measured if asking.samples or asking.every else ()
@@ -245,6 +86,7 @@ class Recorder(Desk):
         return self.records
 
     def enter(self, last: int) -> None:
+        """Sends the run's enters up to a place, and expects each vehicle's arrival where late ones are asked for."""
         for owner in range(self.entered, last):
             self.cars[owner] = len(self.owners)
             self.owners.append(owner)
@@ -253,13 +95,17 @@ class Recorder(Desk):
                 self.late.expect(owner, command["depart"] + self.free_flow(command["plan"]))
         super().enter(last)
 
+    def is_bound(self, car: int, link: int) -> bool:
+        """Whether a car, by its number in the program, has a link in its plan."""
+        return link in self.run.enters[self.owners[car]].command["plan"]
+
     def look(self, clock: int) -> None:
         """All that is asked at a clock."""
-        asking, settings = self.records.asking, self.settings
-        wanted, minute = bool(asking.every) and clock % asking.every == 0, clock % MINUTE == 0
-        if settings.open_end and (minute or clock == settings.until):
+        asking, minute = self.records.asking, clock % MINUTE == 0
+        if self.settings.open_end and (minute or clock == self.settings.until):
             self.take_census(clock)
-            self.ending.look(self, clock)
+            self.ending.look(self, clock)  # which may set another end
+        settings, wanted = self.settings, bool(asking.every) and clock % asking.every == 0
         sampled, ended = self.wants_samples(clock)
         rescuing = bool(settings.rescue) and minute and clock < settings.until
         if rescuing and not asking.all_watched:
@@ -281,13 +127,19 @@ class Recorder(Desk):
             self.rescue(clock, lanes, set(watched))
         self.read_meters(clock)
 
+    def end_at(self, clock: int) -> None:
+        """Has the run end at another clock."""
+        self.settings = replace(self.settings, until=clock)
+        self.budget.settings = self.settings
+
     def take_census(self, clock: int) -> None:
+        """Counts all vehicles, once at a clock."""
         if not self.records.censuses or self.records.censuses[-1].clock != clock:
             self.records.censuses.append(self.sim.count())
             self.records.calls += 1
 
     def spare(self, clock: int) -> int:
-        """Calls that are left beside those that the run needs."""
+        """Calls that are left beside those that the run needs from a clock on; below 0 where it has too few."""
         if not self.most:
             return limits.CALLS
         return self.most - self.records.calls - self.budget.owed(clock, self.entered, len(self.ended))
@@ -307,18 +159,31 @@ class Recorder(Desk):
         return chosen
 
     def note_lanes(self, clock: int, lanes: Mapping[Place, Lane]) -> None:
+        """Notes the queues of a poll at stop lines and before works, and writes it to the file of polls."""
         shown = []
         for place in self.polled:
             if place in lanes:
                 (link, lane), reply = place, lanes[place]
                 count, covered = standing(reply.cells, self.mapping.links[link].cells)
                 if count:
-                    self.records.queues.append((clock, link, lane, count, covered))
+                    metres = covered * self.mapping.links[link].cell_metres
+                    self.records.queues.append((clock, link, lane, count, metres, STOP_LINE))
                 cells = [(self.owners[car], *rest) for car, *rest in reply.cells]
                 if cells or reply.buffer or reply.closed:
                     shown.append([link, lane, cells, [self.owners[car] for car, _, _ in reply.buffer], reply.closed])
+        self.note_works(clock, lanes)
         assert self.lanes_file is not None
         self.lanes_file.write(json.dumps({"clock": clock, "lanes": shown}, separators=(",", ":")) + "\n")
+
+    def note_works(self, clock: int, lanes: Mapping[Place, Lane]) -> None:
+        """The queues before works that are under way."""
+        for one in self.works.watched:
+            place = one.closure
+            if place.begin < clock <= place.end:
+                reach = reach_of(lanes, one.streets, place.link, place.first)
+                if reach.vehicles:
+                    row = clock, place.link, place.lane, reach.vehicles, reach.metres, BEFORE_WORKS
+                    self.records.queues.append(row)
 
     def ask_late(self, clock: int) -> None:
         """Asks late vehicles where they are, and watches the lanes where they stand."""
@@ -335,7 +200,7 @@ class Recorder(Desk):
                 self.watched.add(reply.place)
 
     def vehicles(self, owners: Iterable[int]) -> list[Vehicle]:
-        """The replies on vehicles of the file, by the last number that each had."""
+        """The replies on vehicles of the file, which have entered, by the last number that each had."""
         replies = list(
             map(read_reply, self.exchange(b'{"cmd":"vehicle","car":%d}\n' % self.cars[owner] for owner in owners))
         )
@@ -393,7 +258,7 @@ class Recorder(Desk):
         self.records.rescues[owner] += 1
 
     def departure_lane(self, plan: Sequence[int]) -> int:
-        """A lane of the first link that leads to the second."""
+        """A lane of a plan's first link that leads to its second; 0 where there is none."""
         return next(
             (turn.lane for turn in self.mapping.turns if len(plan) > 1 and (turn.link, turn.next) == plan[:2]), 0
         )
@@ -426,8 +291,8 @@ class Repeater(Desk):
         self.records.edgedata.finish(asking.measured if asking.samples else ())
         return self.records
 
-    def repeat(self, clock: int, car: int, command: dict[str, Any]) -> None:
-        """Takes out and enters as the first run did."""
+    def repeat(self, clock: int, car: int, command: Command) -> None:
+        """Takes a car out and enters its vehicle anew, as the first run did at this clock."""
         vehicle = self.sim.vehicle(car)
         if vehicle.state == "cell":
             self.records.edgedata.take(clock, vehicle.place[0])

@@ -1,8 +1,6 @@
 """Giving way without a light, by rounds: a run is made, it is read from it when vehicles pass their stop lines,
 and the next run has signals that are green in the gaps between those who go first. As who waits changes who comes
 when, this is repeated."""
-from __future__ import annotations
-
 from collections import Counter
 from collections.abc import Callable, Iterable, Mapping, Sequence
 from contextlib import AbstractContextManager
@@ -11,19 +9,22 @@ from functools import partial
 from itertools import pairwise
 from operator import itemgetter
 
-from .. import limits
-from ..client import Client, Lane
-from ..files import Fault
-from .budget import INTERVALS, MINUTE, Asking, Budget
-from .gaps import Passed, gap_lines
-from .mapping import Map, Place
-from .passings import Passings
-from .record import Recorder, Settings, Tell
-from .runs import Line, Run
-from .serving import serving
+from streetsim.base import limits
+from streetsim.base.client import Client, Lane
+from streetsim.base.files import Fault
+from streetsim.base.serving import serving
+from streetsim.model.mapping import Map, Place
+from streetsim.model.runs import Line, Run
+from streetsim.run.budget import INTERVALS, MINUTE, Asking, Budget
+from streetsim.run.gaps import Passed, gap_lines
+from streetsim.run.passings import Passings
+from streetsim.run.record import Recorder
+from streetsim.run.records import Tell
+from streetsim.run.settings import Settings
 
 Start = Callable[[], AbstractContextManager[Client]]  # starts the program
 HOUR = 3600  # seconds
+PACED = 4  # phases for each vehicle that has to stop
 COARSEST = 600  # seconds between polls: a whole day of a city has calls for no more
 
 
@@ -49,6 +50,8 @@ class Yielding:
 class Round(Recorder):
     """A run that is watched for who passes which stop line when; it ends when all have arrived."""
 
+    notes_works = False
+
     def __init__(
         self, sim: Client, run: Run, mapping: Map, settings: Settings, places: Sequence[Place], tell: Tell
     ) -> None:
@@ -73,7 +76,7 @@ class Round(Recorder):
         return self.passings.found
 
     def asking(self) -> Asking:
-        """The most frequent polls for which there are calls."""
+        """The most frequent polls for which there are calls; Fault where there are none."""
         self.budget = Budget(self.run, self.settings, self.places, self.polled, ())
         return asking_of(self.budget, self.most)
 
@@ -86,6 +89,7 @@ class Round(Recorder):
         """Nothing is measured."""
 
     def note_lanes(self, clock: int, lanes: Mapping[Place, Lane]) -> None:
+        """Notes where a poll sees vehicles: at a cell, or past the stop line, in the buffer."""
         owners, note = self.owners, self.passings.note
         for (link, lane), reply in lanes.items():
             for car, cell, *_ in reply.cells:
@@ -107,8 +111,9 @@ def asking_of(budget: Budget, most: int) -> Asking:
 def giving_way(
     run: Run, mapping: Map, settings: Settings, rounds: int, start: Start, tell: Tell
 ) -> tuple[Run, Yielding]:
-    """The run with signals by which its vehicles give way without a light, and what they are.
-    `start` starts the program, `tell` gets the clock and the last census."""
+    """The run with signals by which its vehicles give way without a light, found in so many rounds, and what they are;
+    the run itself where the calls do not suffice. `start` starts the program, `tell` gets the clock and the last
+    census."""
     try:
         lines, yielding = gaps_of(run, mapping, settings, rounds, start, tell)
     except Fault as fault:
@@ -119,12 +124,18 @@ def giving_way(
 def gaps_of(
     run: Run, mapping: Map, settings: Settings, rounds: int, start: Start, tell: Tell
 ) -> tuple[list[tuple[int, Line]], Yielding]:
-    """The signal lines by which the vehicles of a run give way without a light, (clock, line), and what they are;
-    a Fault where the calls do not suffice. `start` and `tell` are as those of giving_way."""
+    """The signal lines by which the vehicles of a run give way without a light, (clock, line), and what they are; a
+    Fault where the calls do not suffice. `start` and `tell` are as those of giving_way."""
     if not rounds or not mapping.yields:
         return [], Yielding()
     places = places_of(mapping)
-    asked = Settings(settings.until, rescue=settings.rescue, calls=settings.calls)
+    asked = Settings(
+        settings.until,
+        rescue=settings.rescue,
+        calls=settings.calls,
+        merging=settings.merging,
+        lights=settings.lights,
+    )
     made, yielding, count, wished = run, Yielding(rounds), expected_lines(run, mapping), None
     for _ in range(rounds):
         with start() as sim:
@@ -162,13 +173,13 @@ def places_of(mapping: Map) -> list[Place]:
     """The lanes on which those are seen who go first, and those who give way to them slowly,
     before and after the stop line."""
     links = {link for one in mapping.yields for foe in one.foes for link in (foe.link, foe.next)}
-    slow = (turn for one in mapping.yields for turn in one.turns if any(foe.slow for foe in one.foes))
+    slow = (turn for one in mapping.yields if one.is_slow for turn in one.turns)
     links.update(link for begin, _, end in slow for link in (begin, end))
     return [place for place in mapping.lanes() if place[0] in links]
 
 
 def with_lines(run: Run, lines: Iterable[tuple[int, Line]]) -> Run:
-    """The run with more timed lines."""
+    """The run with more timed lines, (clock, line), none before its start."""
     start = run.start()
     first = [*run.first, *(line for clock, line in lines if clock == start)]
     timed = sorted([*run.timed, *(pair for pair in lines if pair[0] > start)], key=itemgetter(0))
@@ -181,12 +192,16 @@ def expected_lines(run: Run, mapping: Map) -> int:
     passing = Counter(pair for line in run.enters for pair in pairwise(line.command["plan"]))
     phases: Counter[int] = Counter()
     for one in mapping.yields:
-        phases[one.node] += sum(passing[pair] for pair in {(foe.link, foe.next) for foe in one.foes})
+        first = {(foe.link, foe.next) for foe in one.foes}
+        phases[one.node] += sum(passing[pair] for pair in first)
+        if one.pace is not None:
+            own = {(link, following) for link, _, following in one.turns}
+            phases[one.node] += PACED * sum(passing[pair] for pair in own)
     return sum(1 + count // limits.PHASES for count in phases.values())
 
 
 def refuse_too_many(run: Run, lines: int, settings: Settings, mapping: Map, most: int) -> None:
-    """Refuses signal lines that leave a run too few calls: each takes two."""
+    """Refuses so many signal lines if they leave a run too few calls, of `most` (0: any number): each takes two."""
     budget = Budget(run, settings, mapping.lanes(), (), mapping.detectors)
     needed = budget.base(min(limits.METERS, len(mapping.lanes()))) + 2 * lines
     if most and needed > most:

@@ -1,14 +1,12 @@
 """Plans by formula, of flows alone: Webster's cycles and splits, and waves along the heaviest flows."""
-from __future__ import annotations
-
 from collections import Counter, defaultdict
 from collections.abc import Collection, Iterable, Iterator, Mapping, Sequence
 from dataclasses import dataclass
 
-from ..run.freeflow import FreeFlow
-from ..run.mapping import Map
-from ..run.runs import Run
-from .plans import Light, Plan, Timing
+from streetsim.model.freeflow import FreeFlow
+from streetsim.model.mapping import Map
+from streetsim.model.runs import Run
+from streetsim.signals.plans import Light, Plan, Timing
 
 Ways = defaultdict[tuple[str, str], Counter[tuple[int, ...]]]  # from light to light: vehicles by the links of their way
 
@@ -126,11 +124,13 @@ def hop_of(
 
 
 def green_phases(light: Light, index: int) -> list[int]:
+    """The phases in which an index of a light's state has green."""
     return [at for at, state in enumerate(light.states) if state[index] in "GgsOo"]
 
 
 def loads_of(run: Run, mapping: Map, lights: Mapping[str, Light]) -> dict[str, list[float]]:
-    """For each light and phase the heaviest flow, vehicles an hour and lane, of a link that is green in it."""
+    """For each light and phase the heaviest flow, vehicles an hour and lane, of a link that is green in it; 0 where
+    none is."""
     departs = [line.command["depart"] for line in run.enters]
     hours = max(900, max(departs) - min(departs)) / 3600 if departs else 1.0
     flow = Counter(pair for line in run.enters for pair in zip(line.command["plan"], line.command["plan"][1:]))
@@ -149,13 +149,14 @@ def loads_of(run: Run, mapping: Map, lights: Mapping[str, Light]) -> dict[str, l
 
 
 def webster_cycle(lost: float, flow_ratio: float) -> float | None:
-    """Webster's cycle of the least delay, for the lost seconds of a cycle and the sum over its phases of the flow by
-    the saturation flow; none at capacity."""
+    """Webster's cycle of the least delay, in seconds, for the lost seconds of a cycle and the sum over its phases of
+    the flow by the saturation flow; none at capacity."""
     return (1.5 * lost + 5) / (1 - flow_ratio) if flow_ratio < 1 else None
 
 
 def critical_cycle(lights: Mapping[str, Light], plan: Plan, streets: Streets) -> int | None:
-    """The longest of the lights' cycles after Webster; none where one is at capacity."""
+    """The longest of the lights' cycles after Webster, in seconds; none where one is at capacity, or no light has
+    phases that may be stretched."""
     cycles = [
         webster_cycle(light.lost(plan[name]), sum(streets.loads[name][at] for at in light.free) / SATURATION)
         for name, light in lights.items()
@@ -168,7 +169,8 @@ def critical_cycle(lights: Mapping[str, Light], plan: Plan, streets: Streets) ->
 def at_cycle(
     lights: Mapping[str, Light], plan: Plan, cycle: int | None, loads: Mapping[str, Sequence[float]] | None = None
 ) -> Plan:
-    """The plan at a cycle, as far as the lights can keep it: greens in proportion to the given ones, or to loads."""
+    """The plan at a cycle (none: each light's own), as far as the lights can keep it: greens in proportion to the given
+    ones, or to loads."""
     made = {}
     for name, timing in plan.items():
         shares = [max(1.0, load) for load in loads[name]] if loads else None

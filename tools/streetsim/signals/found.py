@@ -1,33 +1,27 @@
 """What streetsim-signals writes of a search: the plan, tables, pictures, and what is said of it."""
-from __future__ import annotations
-
-import argparse
 import sys
 import tempfile
 from collections.abc import Callable, Iterator, Mapping, Sequence
-from dataclasses import replace
+from dataclasses import dataclass, replace
 from statistics import fmean
-from typing import TYPE_CHECKING, Any
 
-from ..cli.words import listed
-from ..files import whole_folder
-from ..pictures import plots
-from ..run import trust
-from ..run.folder import read_folder
-from ..run.freeflow import FreeFlow
-from ..run.record import Settings
-from ..run.running import one_run
-from ..run.tables import write_table
-from ..study.seeds import paired
-from ..sumo.report import some
-from .light_lines import LightLines
-from .plans import Plan, write_additional
-
-if TYPE_CHECKING:
-    from ..study.sessions import Outcome
-    from .in_sumo import Verified
-    from .search import Search
-    from .town import Town
+from streetsim.base.files import whole_folder
+from streetsim.base.report import some
+from streetsim.base.seeds import paired
+from streetsim.model import trust
+from streetsim.model.folder import read_folder
+from streetsim.model.freeflow import FreeFlow
+from streetsim.model.tables import Entry, write_table
+from streetsim.outputs.folder import Making, one_run
+from streetsim.pictures.drawing import drawing, save
+from streetsim.pictures.plots import Corridor, draw_corridor
+from streetsim.run.settings import Settings
+from streetsim.sessions.prepared import Outcome
+from streetsim.signals.in_sumo import Verified
+from streetsim.signals.light_lines import LightLines
+from streetsim.signals.plans import Plan, write_additional
+from streetsim.signals.search import Search
+from streetsim.signals.town import Town
 
 Compared = tuple[str, float, float, float, float, int]  # figure, before, after, difference, half width, runs
 LAST = "before-after.csv"
@@ -65,44 +59,50 @@ def free_trip(town: Town) -> float:
     return fmean(free_flow(line.command["plan"]) for line in town.run.enters if line.command["depart"] < until)
 
 
-def write_found(
-    words: argparse.Namespace, town: Town, search: Search, rows: Sequence[Compared], doubts: Sequence[str]
-) -> None:
+@dataclass(frozen=True, slots=True)
+class Target:
+    """Where what was found goes, and what is drawn of it."""
+
+    plan: str  # a file
+    folder: str
+    corridor: Corridor | None
+    making: Making  # of the runs that are drawn
+    until: int
+
+
+def write_found(target: Target, town: Town, search: Search, rows: Sequence[Compared], doubts: Sequence[str]) -> None:
     """Writes the plan, the tables and the pictures, all or none."""
     plan = search.best[1]
-    with whole_folder(words.out, LAST, ("before.png", "after.png")) as folder:
+    with whole_folder(target.folder, LAST, ("before.png", "after.png")) as folder:
         told = [(name, *(f"{value:.3f}" for value in values), runs) for name, *values, runs in rows]
         write_table(f"{folder}/{LAST}", BEFORE_AFTER, told)
         write_table(f"{folder}/lights.csv", LIGHTS, light_rows(town, plan))
         trials = [(one.simulations, one.step, f"{one.value:.3f}", f"{one.best:.3f}") for one in search.trials]
         write_table(f"{folder}/search.csv", TRIALS, trials)
-        for name, drawn in (("before", town.plan), ("after", plan)) if words.edges else ():
-            draw(words, town, drawn, f"{folder}/{name}.png")
+        for name, drawn in (("before", town.plan), ("after", plan)) if target.corridor else ():
+            draw(target, town, drawn, f"{folder}/{name}.png")
         trust.write_doubts(folder, doubts)
-        write_additional(words.output, town.lights, plan)
+        write_additional(target.plan, town.lights, plan)
 
 
-def light_rows(town: Town, plan: Plan) -> Iterator[tuple[Any, ...]]:
+def light_rows(town: Town, plan: Plan) -> Iterator[Entry]:
+    """The rows of lights.csv: each light before and after."""
     for name, light in sorted(town.lights.items()):
         pair = town.plan[name], plan[name]
         greens = (" ".join(str(one.durations[at]) for at in light.free) for one in pair)
         yield (name, *(one.cycle for one in pair), *(one.offset for one in pair), *greens)
 
 
-def draw(words: argparse.Namespace, town: Town, plan: Plan, path: str) -> None:
-    """The ways of the vehicles along --edges under a plan, with the signals."""
-    run = replace(town.run, first=town.first_lines(plan))
-    settings = Settings(until=min(words.last + 1, words.until), every=1, rescue=0, edges=tuple(listed(words.edges)))
-    serving = argparse.Namespace(
-        run=words.run, program=words.program, workers=1, rounds=words.rounds, sumo_output=(), junctions=None
-    )
+def draw(target: Target, town: Town, plan: Plan, path: str) -> None:
+    """The ways of the vehicles along the corridor under a plan, with the signals."""
+    run, shown = replace(town.run, first=town.first_lines(plan)), target.corridor
+    assert shown is not None
+    settings = Settings(until=min(shown.last + 1, target.until), every=1, rescue=0, edges=tuple(shown.edges))
     with tempfile.TemporaryDirectory() as folder:
-        made = one_run(serving, run, town.mapping, settings, folder, lambda *_: None, 1)
-        if made["yielding"].why_not:
-            print(f"warning: {path}: {made['yielding'].told()}", file=sys.stderr)
-        shown = argparse.Namespace(**vars(words), both=False)
-        figure = plots.draw_corridor(plots.drawing(), read_folder(folder), shown)
-        plots.save(figure, path)
+        yielding = one_run(target.making, run, town.mapping, settings, folder, lambda *_: None).yielding
+        if yielding.why_not:
+            print(f"warning: {path}: {yielding.told()}", file=sys.stderr)
+        save(draw_corridor(drawing(), read_folder(folder), shown), path)
 
 
 def tell(
@@ -134,12 +134,13 @@ def tell(
 
 
 def budget_ended(search: Search) -> str:
-    """After how many plans the budget ended a search."""
+    """After how many plans the budget ended a search, in words; nothing where it did not."""
     return f", where --budget ended the search after {len(search.trials):,} plans" if search.spent else ""
 
 
 def verdict(found: Mapping[str, tuple[float, float]], worse: Sequence[str], search: Search) -> str:
-    """The last line: whether a plan is shown to be better, and where both were run by what."""
+    """The last line: whether a plan is shown to be better, and where both were run by what; found: difference and half
+    width by where; worse: where it is not. Nothing where there is nothing to say."""
     figures = ", ".join(f"{difference:+.1f} s ± {half:.1f} {where}" for where, (difference, half) in found.items())
     if len(found) == 1:
         return f"not shown to be better{budget_ended(search)}" if worse else ""

@@ -1,7 +1,4 @@
 """Plans of streetsim-signals in SUMO: the same files, demand and seeds, and trips reckoned as they are here."""
-from __future__ import annotations
-
-import argparse
 import os
 import shutil
 import subprocess
@@ -9,18 +6,17 @@ import tempfile
 from collections.abc import Callable, Sequence
 from dataclasses import dataclass
 from statistics import fmean
-from typing import Any
 
-from ..cli.progress import Meanwhile
-from ..files import Fault, attribute, elements
-from ..run.compare import read_tripinfo
-from ..run.mapping import Map
-from ..run.runs import Run
-from ..study.jobs import side_by_side
-from ..study.seeds import paired
-from ..sumo.sources import Sources, sources_of
-from .plans import Plan, write_additional
-from .town import Town
+from streetsim.base.files import Fault, attribute, elements
+from streetsim.base.jobs import side_by_side
+from streetsim.base.progress import Meanwhile
+from streetsim.base.seeds import paired
+from streetsim.model.mapping import Map
+from streetsim.model.runs import Run
+from streetsim.model.sources import Sources, sources_of
+from streetsim.results.compare import read_tripinfo
+from streetsim.signals.plans import Plan, write_additional
+from streetsim.signals.town import Reading, Town
 
 PROGRAM_ID = "streetsim-verified"  # of the lights: no program of the files given may have the same
 
@@ -34,11 +30,13 @@ class Verified:
     teleports: tuple[int, int]
 
     def difference(self) -> tuple[float, float]:
+        """The mean difference, after less before, and half the width of its 95 % interval, seconds."""
         mean, half = paired(self.before, self.after)
         assert half is not None
         return mean, half
 
     def told(self) -> str:
+        """Both means, in one line."""
         difference, half = self.difference()
         moved = f", {self.teleports[0]:,} and {self.teleports[1]:,} teleports" if any(self.teleports) else ""
         return (
@@ -57,6 +55,7 @@ class InSumo:
     until: int
 
     def words(self, plan: str, seed: int, trips: str, statistic: str) -> list[str]:
+        """The command of a run; plan, trips, statistic: paths."""
         words = [self.program, "-n", self.sources.net, "-a", ",".join([*self.sources.additional, plan])]
         words += [
             "-r", ",".join(self.sources.routes), "--seed", str(seed), "--begin", str(self.start),
@@ -65,7 +64,8 @@ class InSumo:
         return [*words, "--tripinfo-output", trips, "--statistic-output", statistic, "--no-step-log", "--no-warnings"]
 
     def trips(self, plan: str, seed: int) -> tuple[dict, int]:
-        """The trips that a plan gives, {vehicle: (wished departure, arrival)}, and the teleports."""
+        """The trips that a plan, in a file, gives, {vehicle: (wished departure, arrival)}, and the teleports; Fault
+        where SUMO fails."""
         with tempfile.TemporaryDirectory() as folder:
             trips, statistic = f"{folder}/trips.xml", f"{folder}/statistic.xml"
             words = self.words(plan, seed, trips, statistic)
@@ -82,6 +82,7 @@ def environment() -> dict[str, str]:
 
 
 def first_error(text: str) -> str:
+    """The first line of SUMO's that begins with Error, else the first."""
     lines = [line for line in text.splitlines() if line.strip()]
     return next(
         (line for line in lines if line.startswith("Error")), lines[0] if lines else "nothing on standard error"
@@ -93,20 +94,20 @@ def teleports_of(path: str) -> int:
     return sum(attribute(path, one, "total", int) for one in elements(path, ["statistics"]) if one.tag == "teleports")
 
 
-def sumo_for(words: argparse.Namespace, mapping: Map, run: Run) -> InSumo:
+def sumo_for(reading: Reading, mapping: Map, run: Run) -> InSumo:
     """SUMO with the files of the import; refused where it is not installed, or where these are not what they were."""
     program = shutil.which("sumo")
     if program is None:
         raise Fault("--verify-sumo: SUMO is not installed here (Debian: apt install sumo)")
-    sources = sources_of(mapping.sources, words.map, words.run)
-    if os.path.realpath(sources.net) != os.path.realpath(words.plans[0]):
+    sources = sources_of(mapping.sources, reading.map, reading.run)
+    if os.path.realpath(sources.net) != os.path.realpath(reading.plans[0]):
         raise Fault(
-            f"--verify-sumo: {words.run} was imported from {sources.net}, and --plans begins with {words.plans[0]}"
+            f"--verify-sumo: {reading.run} was imported from {sources.net}, and --plans begins with {reading.plans[0]}"
         )
     known = {os.path.realpath(path) for path in sources.additional}
-    more = [path for path in words.plans[1:] if os.path.realpath(path) not in known]
+    more = [path for path in reading.plans[1:] if os.path.realpath(path) not in known]
     additional, routes = (list(map(os.path.abspath, paths)) for paths in (sources.additional + more, sources.routes))
-    return InSumo(program, Sources(os.path.abspath(sources.net), additional, routes), run.start(), words.until)
+    return InSumo(program, Sources(os.path.abspath(sources.net), additional, routes), run.start(), reading.until)
 
 
 def verified(in_sumo: InSumo, town: Town, plan: Plan, seeds: Sequence[int], jobs: int) -> Verified:
@@ -114,7 +115,7 @@ def verified(in_sumo: InSumo, town: Town, plan: Plan, seeds: Sequence[int], jobs
     enters = zip(town.mapping.cars, (line.command["depart"] for line in town.run.enters), strict=True)
     departs = {name: depart for name, depart in enters if depart < in_sumo.until}
 
-    def run(task: Any, told: Callable[[Any], object]) -> Any:
+    def run(task: tuple[str, int], told: Callable[[int], object]) -> tuple[float, int]:
         trips, teleports = in_sumo.trips(*task)
         told(1)
         return mean_trip(trips, departs, in_sumo.until), teleports
@@ -141,7 +142,8 @@ def add(done: set, place: int) -> int:
 
 
 def mean_trip(trips: dict, departs: dict, until: int) -> float:
-    """The mean over the vehicles that the run has too; one that has not arrived counts until the end, as here."""
+    """The mean trip, in seconds, over the vehicles that the run has too, by their departs; one that has not arrived
+    counts until the end, as here."""
     return fmean(
         trips[name][1] - trips[name][0] if name in trips else until - depart for name, depart in departs.items()
     )

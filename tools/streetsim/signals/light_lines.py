@@ -1,26 +1,24 @@
 """Signal lines of a plan, as streetsim-import makes them of SUMO's programs, made anew only where greens change."""
-from __future__ import annotations
-
 import json
 from collections import defaultdict
 from collections.abc import Mapping, Sequence
 from dataclasses import replace
-from typing import Any
 
-from ..run.mapping import Map, MapLink, MapTurn
-from ..run.runs import Run
-from ..sumo.net import Program, SumoNet, read_additional, read_net
-from ..sumo.report import Report
-from ..sumo.signals import connections_of, movements_of_junction, signal
-from ..sumo.types import Types
-from ..sumo.yielding import hourly_flows
-from .plans import Light, Timing
+from streetsim.base.report import Report
+from streetsim.model.mapping import Map, MapLink, MapTurn
+from streetsim.model.runs import Command, Run
+from streetsim.signals.plans import Light, Timing
+from streetsim.sumo.additional import read_additional
+from streetsim.sumo.net import Program, SumoNet, connections_of, read_net
+from streetsim.sumo.signals import LitNode, movements_of_junction, signal
+from streetsim.sumo.types import Types
+from streetsim.sumo.yielding import hourly_flows
 
 
 class Driven:
     """A vehicle of a run, as the import counts flows."""
 
-    def __init__(self, command: dict[str, Any], links: Sequence[MapLink]) -> None:
+    def __init__(self, command: Command, links: Sequence[MapLink]) -> None:
         self.edges, self.depart = [links[link].edge for link in command["plan"]], command["depart"]
 
 
@@ -54,7 +52,7 @@ class LightLines:
         self.report = Report()  # of what was made, where a light needs more phases than there may be
 
     def of(self, plan: Mapping[str, Timing], lights: Mapping[str, Light]) -> bytes:
-        """The lines of a plan."""
+        """The signal lines of a plan, as bytes."""
         lines = []
         for name, timing in plan.items():
             key = name, timing.durations
@@ -66,7 +64,7 @@ class LightLines:
         return b"".join(lines)
 
     def phases(self, name: str, node: int, timing: Timing, light: Light) -> bytes:
-        """The phases at a node of a light."""
+        """The phases at a node of a light, as JSON."""
         program = Program(0.0, list(zip(timing.durations, light.states, strict=True)), "static")
         self.net.programs[name] = program
         junction, permissive = self.mapping.nodes[node][0], self.mapping.options["permissive"]
@@ -78,5 +76,5 @@ class LightLines:
             self.permissive.add(name)
         turns = self.turns[node]
         edges = {link: self.mapping.links[link].edge for link, *_ in turns}
-        made = signal(node, turns, edges, name, program, permissive, self.report, found)
+        made = signal(LitNode(node, turns, edges, name, program, permissive, self.report, found))
         return json.dumps(made["phases"], separators=(",", ":")).encode()

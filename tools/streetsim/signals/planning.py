@@ -1,225 +1,13 @@
-"""streetsim-signals: finds signal plans by simulation."""
-from __future__ import annotations
-
-import argparse
-import os
-import sys
-from collections.abc import Generator, Sequence
-from statistics import fmean, stdev
-
-from .. import limits, program
-from ..cli.progress import Meanwhile, Slow, Stopping
-from ..cli.words import Parser, add_jobs, add_rounds, add_run, files_of, listed, time_within, within
-from ..files import Fault, place_of, refuse_equal
-from ..pictures import plots
-from ..run.folder import Folder
-from ..study.machines import machines
-from ..study.seeds import seeds_for, seeds_of
-from .formulas import Streets, critical_cycle, streets_of
-from .found import compared, doubts_of, tell, write_found
-from .in_sumo import sumo_for, verified
-from .plans import LEAST, Plan
-from .search import Search, search_plan
-from .town import Reading, Runner, Town, read_town, sessions_of
+"""What a search for signal plans tries, and with which seeds."""
+from streetsim.signals.formulas import Streets, critical_cycle
+from streetsim.signals.search import Search
+from streetsim.signals.town import Town
 
 CHANGES = ("offsets", "splits", "cycle")
 CYCLES = "60-120"  # seconds
 STEP = 10  # seconds from one cycle that is proposed to the next
 TRIED = 10  # runs of the given plan tell how many seeds a search needs
-RESERVE = 80  # a chance of slowing down, of 1,000, by which a tenth fewer pass in a green
 DRAWN = 500  # seconds of the pictures
-
-
-def parser() -> Parser:
-    made = Parser(
-        prog="streetsim-signals",
-        description="Finds signal plans by simulation: cycles, splits and offsets under which trips are shorter. "
-        "The order of phases, yellow and all-red stay. What is found is a proposal to be checked.",
-    )
-    add_run(made)
-    made.add_argument(
-        "--plans",
-        required=True,
-        nargs="+",
-        metavar="FILE",
-        help="the network (.net.xml), and additional files with programs, of which the last of a light counts",
-    )
-    made.add_argument(
-        "--until", required=True, type=time_within(1, limits.CLOCK), metavar="S", help="the clock at the end of a run"
-    )
-    add_search(made)
-    add_rounds(made)
-    add_machines(made)
-    made.add_argument(
-        "--verify-sumo",
-        action="store_true",
-        help="run SUMO too with the plan given and the plan found, with the seeds of --check; both must say better",
-    )
-    made.add_argument("--edges", default="", help="draw the ways of the vehicles along these edges, before and after")
-    made.add_argument(
-        "--first",
-        type=time_within(0, limits.CLOCK),
-        metavar="S",
-        help="the first second drawn (default: a third of the run)",
-    )
-    made.add_argument(
-        "--last",
-        type=time_within(0, limits.CLOCK),
-        metavar="S",
-        help=f"the last second drawn (default: {DRAWN} s later)",
-    )
-    made.add_argument("-o", "--output", required=True, help="the plan found (.add.xml)")
-    made.add_argument("--out", required=True, metavar="DIR", help="the folder for tables and pictures")
-    return made
-
-
-def add_search(made: argparse.ArgumentParser) -> None:
-    """The words that say what is searched, how long and with which seeds."""
-    made.add_argument(
-        "--change", default=",".join(CHANGES), help="what may be changed, with commas between (default %(default)s)"
-    )
-    made.add_argument("--cycle", metavar="S-S", help=f"cycles to try (default {CYCLES})")
-    made.add_argument(
-        "--least",
-        type=within(1, limits.PHASE_STEPS),
-        default=LEAST,
-        metavar="S",
-        help="the least green (default %(default)s); a phase's minDur and maxDur bound it too",
-    )
-    made.add_argument(
-        "--keep", default="", metavar='"LIGHT .."', help="lights that stay as they are, with spaces or commas between"
-    )
-    made.add_argument(
-        "--seeds",
-        metavar="FIRST-LAST",
-        help="of the search (default: one, or more where runs of the given plan differ much)",
-    )
-    made.add_argument(
-        "--check",
-        default="101-110",
-        metavar="FIRST-LAST",
-        help="seeds of the report, which the search does not see (default %(default)s)",
-    )
-    made.add_argument(
-        "--reserve",
-        type=within(0, 1000),
-        default=RESERVE,
-        metavar="N",
-        help="of 1,000, by which vehicles slow down more often in the search than in the report, "
-        "so that what it finds has room (default %(default)s: a green lets some 10 %% fewer pass; 0: as many). "
-        "Offsets alone are searched without",
-    )
-    made.add_argument(
-        "--budget",
-        type=within(0, limits.VEHICLES),
-        default=1000,
-        metavar="N",
-        help="simulations of the search (default %(default)s)",
-    )
-
-
-def add_machines(made: argparse.ArgumentParser) -> None:
-    """The words that say where runs are done."""
-    add_jobs(made)
-    made.add_argument(
-        "--cluster", metavar="HOST:PORT", help="do the runs on the workers of this scheduler of dask.distributed"
-    )
-    made.add_argument("--program", help=program.HELP)
-
-
-def main(arguments: list[str]) -> int:
-    words = parser().parse_args(arguments)
-    words.plans = files_of(words.plans)
-    changed, cycles = changes_of(words)
-    check = check_seeds(words)
-    check_outputs(words)
-    words.program = program.find_program(words.program)
-    with Slow(f"reading {words.run}"):
-        town = read_town(
-            Reading(
-                *(words.run, words.map, words.plans, words.until, words.program, words.least, listed(words.keep)),
-                *(words.rounds, words.reserve if {"splits", "cycle"} & {*changed} else 0),
-            )
-        )
-    check_cycles(words, town, cycles)
-    check_pictures(words, town)
-    in_sumo = sumo_for(words, town.mapping, town.run) if words.verify_sumo else None
-    tried = tried_seeds(check)
-    with machines(words.jobs, words.cluster, [town.session]) as workers:
-        known = sorted({*tried, *(seeds_of(words.seeds, "--seeds") if words.seeds else ())})
-        sessions = sessions_of(town, known, Runner(workers, town))
-    with machines(words.jobs, words.cluster, sessions) as workers:
-        runner = Runner(workers, town)
-        seeds = search_seeds(words, runner, tried)
-        search, stopped = searched(words, runner, changed, cycles, seeds)
-        before, after = (runner.outcomes(plan, check) for plan in (town.plan, search.best[1]))
-    sumo = verified(in_sumo, town, search.best[1], check, words.jobs) if in_sumo else None
-    rows, doubts = compared(town, before, after, sumo), list(doubts_of(town, before, after, sumo))
-    write_found(words, town, search, rows, doubts)
-    return tell(town, search, rows, stopped, doubts, sumo)
-
-
-def changes_of(words: argparse.Namespace) -> tuple[list[str], range]:
-    """What may be changed, and the cycles of the range."""
-    changed = listed(words.change)
-    if unknown := [name for name in changed if name not in CHANGES]:
-        raise Fault(f"--change: {unknown[0]!r} is none of {', '.join(CHANGES)}")
-    if words.cycle and "cycle" not in changed:
-        raise Fault(f"--cycle {words.cycle}: --change {words.change} leaves the cycles as they are")
-    words.cycle = words.cycle or CYCLES
-    first, _, last = words.cycle.partition("-")
-    most = limits.PHASES * limits.PHASE_STEPS
-    if not (first.isdecimal() and last.isdecimal() and 1 <= int(first) <= int(last) <= most):
-        raise Fault(f"--cycle {words.cycle!r}: expected S-S, rising")
-    return changed, range(int(first), int(last) + 1) if "cycle" in changed else range(0)
-
-
-def check_seeds(words: argparse.Namespace) -> range:
-    """The seeds of the report; refuses a budget of no plan, and seeds by which a plan would be found and judged."""
-    seeds, check = seeds_of(words.seeds, "--seeds") if words.seeds else range(1), seeds_of(words.check, "--check")
-    if len(check) < 2:
-        raise Fault(f"--check {words.check}: an interval needs two seeds at least")
-    if words.seeds and set(seeds) & set(check):
-        raise Fault(
-            f"--seeds {words.seeds} and --check {words.check} overlap: a plan must not be judged by "
-            "what it was found by"
-        )
-    if words.budget < len(seeds):
-        raise Fault(f"--budget {words.budget}: one plan takes {len(seeds)} simulations")
-    return check
-
-
-def check_outputs(words: argparse.Namespace) -> None:
-    refuse_equal({"-o": words.output}, [words.run, words.map, *words.plans])
-    folder = os.path.dirname(place_of(words.output))
-    if not os.path.isdir(folder):
-        raise Fault(f"{words.output}: there is no folder {folder}")
-    if os.path.exists(words.out) and not os.path.isdir(words.out):
-        raise Fault(f"{words.out}: exists and is no folder")
-
-
-def check_cycles(words: argparse.Namespace, town: Town, cycles: range) -> None:
-    """Refuses cycles of which no light can keep one."""
-    able = (town.lights[name].scaled(timing, cycle) for name, timing in town.plan.items() for cycle in cycles)
-    if cycles and not any(able):
-        raise Fault(
-            f"--cycle {words.cycle}: no light can keep such a cycle (--least {words.least}, "
-            "and the bounds of its phases)"
-        )
-
-
-def check_pictures(words: argparse.Namespace, town: Town) -> None:
-    """Fills in the seconds of the pictures; refuses what could not be drawn at the end."""
-    if not words.edges:
-        if given := [name for name in ("first", "last") if getattr(words, name) is not None]:
-            raise Fault(f"--{given[0]} is of the pictures: give --edges too")
-        return
-    plots.path_of(Folder("--edges", town.mapping, [], 0, 1, 0), words.edges)
-    plots.drawing()
-    words.first = words.until // 3 if words.first is None else words.first
-    words.last = min(words.until, words.first + DRAWN) if words.last is None else words.last
-    if not words.first < words.last <= words.until:
-        raise Fault(f"--first {words.first}, --last {words.last}: must rise, and end with the run at {words.until} s")
 
 
 def tried_seeds(check: range) -> list[int]:
@@ -227,48 +15,14 @@ def tried_seeds(check: range) -> list[int]:
     return [seed for seed in range(1, TRIED + len(check) + 1) if seed not in check][:TRIED]
 
 
-def search_seeds(words: argparse.Namespace, runner: Runner, tried: Sequence[int]) -> Sequence[int]:
-    """The seeds of the search: those given, else as many as runs of the given plan say; these are told."""
-    means = list(runner.means([runner.town.plan], tried))
-    needed = seeds_for(means)
-    seeds = seeds_of(words.seeds, "--seeds") if words.seeds else tried[:needed]
-    differ = f"trips of the given plan differ by {100 * stdev(means) / fmean(means):.1f} % from seed to seed"
-    advice = f", {needed} are advised" if len(seeds) < needed else ""
-    print(f"{differ}: the search uses {len(seeds)} seed{'s' if len(seeds) > 1 else ''}{advice}", file=sys.stderr)
-    if words.budget < len(seeds):
-        raise Fault(f"--budget {words.budget}: one plan takes {len(seeds)} simulations")
-    return seeds
-
-
-def searched(
-    words: argparse.Namespace, runner: Runner, changed: Sequence[str], cycles: range, seeds: Sequence[int]
-) -> tuple[Search, bool]:
-    """The search when it has ended, and whether the user ended it."""
-    town, meanwhile = runner.town, Meanwhile("simulations", words.budget)
-    streets = streets_of(town.run, town.mapping, town.lights)
-    with Stopping() as stopping:
-
-        def values(plans: Sequence[Plan]) -> Generator[float, None, None]:
-            means = runner.means(plans, seeds)
-            for _ in plans:
-                yield fmean(next(means) for _ in seeds)
-
-        def told(search: Search) -> bool:
-            meanwhile.show(search.simulations, best_line(search))
-            return stopping.asked
-
-        search = Search(values, words.budget, len(seeds), told)
-        search_plan(search, town.plan, town.lights, streets, changed, lengths(cycles, town, streets))
-        meanwhile.end()
-        return search, stopping.asked
-
-
 def lengths(cycles: range, town: Town, streets: Streets) -> list[int]:
-    """The cycles that are proposed: each ten seconds of the range and its end, and Webster's where it lies within."""
+    """The cycles that are proposed, in seconds: each ten of the range and its end, and Webster's where it lies
+    within."""
     made, critical = {*cycles[::STEP], *cycles[-1:]}, critical_cycle(town.lights, town.plan, streets)
     return sorted(made | ({critical} if critical is not None and critical in cycles else set()))
 
 
 def best_line(search: Search) -> str:
+    """The best plan so far and how much less than the given one it takes; nothing where nobody drives."""
     best, given = search.best[0], search.trials[0].value
     return f"best {best:.1f} s ({100 * (best / given - 1):+.1f} %)" if given else ""

@@ -10,9 +10,9 @@ from dataclasses import dataclass
 from typing import TypeVar
 from xml.sax.saxutils import quoteattr
 
-from .. import limits
-from ..files import whole_file
-from ..sumo.net import STATIC, Program
+from streetsim.base import limits
+from streetsim.base.files import whole_file
+from streetsim.sumo.net import STATIC, Program
 
 Seconds = TypeVar("Seconds", int, float)
 LEAST = 5  # seconds of a green that may be stretched
@@ -27,9 +27,11 @@ class Timing:
 
     @property
     def cycle(self) -> int:
+        """Its seconds."""
         return sum(self.durations)
 
     def shifted(self, seconds: int) -> Timing:
+        """The timing with its offset so many seconds later."""
         return Timing((self.offset + seconds) % self.cycle, self.durations)
 
 
@@ -51,7 +53,7 @@ class Light:
         return timing.cycle - sum(timing.durations[at] for at in self.free)
 
     def scaled(self, timing: Timing, cycle: int, shares: Sequence[float] | None = None) -> Timing | None:
-        """The timing at another cycle; its greens share what is left in proportion to some shares (without: to
+        """The timing at another cycle; its greens share what is left in proportion to some shares, by phase (none: to
         themselves), and its offset keeps its part of the cycle. None where that does not fit."""
         free = self.free
         shares = [(shares or timing.durations)[at] for at in free]
@@ -105,11 +107,12 @@ def spread(shares: Sequence[float], total: int, bounds: Sequence[tuple[int, int]
 
 
 def bounded(value: Seconds, bound: tuple[int, int]) -> Seconds | int:
+    """The value, or the nearest one within (least, most)."""
     return min(bound[1], max(bound[0], value))
 
 
 def light_of(name: str, program: Program, least: int = LEAST) -> tuple[Light, Timing]:
-    """The light of a SUMO program, and its timing."""
+    """The light of a SUMO program, and its timing; least: seconds of a green that may be stretched."""
     durations = whole(duration for duration, _ in program.phases)
     given = program.bounds or [(None, None)] * len(durations)
     phases = zip(program.phases, durations, given, strict=True)
@@ -134,7 +137,8 @@ def is_green(state: str) -> bool:
 
 
 def why_kept(name: str, program: Program, asked: Collection[str], timed: Collection[str]) -> str | None:
-    """Why a light's plan is left as it is, or none."""
+    """Why a light's plan is left as it is; none where it is searched. asked: lights of --keep; timed: lights whose plan
+    changes by time of day."""
     if name in asked:
         return "as --keep says"
     if name in timed:

@@ -9,8 +9,8 @@ from collections.abc import Callable, Collection, Generator, Iterable, Mapping, 
 from dataclasses import dataclass, field
 from typing import Any
 
-from .formulas import Streets, proposals
-from .plans import Light, Plan
+from streetsim.signals.formulas import Streets, proposals
+from streetsim.signals.plans import Light, Plan
 
 Key = tuple[tuple[str, int, tuple[int, ...]], ...]  # of a plan: lights, offsets, durations
 Change = Callable[[Plan, int], Plan | None]  # of a plan, with a sign
@@ -25,6 +25,8 @@ class Ended(Exception):
 
 @dataclass(slots=True)
 class Trial:
+    """A plan that was tried."""
+
     simulations: int  # so far
     step: str  # what was tried
     value: float  # seconds of a mean trip
@@ -47,6 +49,7 @@ class Search:
 
     @property
     def simulations(self) -> int:
+        """How many were made so far."""
         return self.trials[-1].simulations if self.trials else 0
 
     def values(self, steps: Sequence[tuple[str, Plan]]) -> list[float]:
@@ -70,16 +73,19 @@ class Search:
         return [self.seen[key_of(plan)] for _, plan in steps]
 
     def note(self, key: Key, step: str, plan: Plan, value: float) -> None:
+        """Notes the value of a plan, and whether it is the best."""
         self.seen[key] = value
         if value < self.best[0]:
             self.best = value, plan
         self.trials.append(Trial(self.simulations + self.seeds, step, value, self.best[0]))
 
     def cost(self, step: str, plan: Plan) -> float:
+        """The value of one plan, of a step's name."""
         return self.values([(step, plan)])[0]
 
 
 def key_of(plan: Plan) -> Key:
+    """What names a plan: equal plans have equal keys."""
     return tuple(sorted((name, timing.offset, timing.durations) for name, timing in plan.items()))
 
 
@@ -91,7 +97,8 @@ def search_plan(
     changed: Collection[str],
     cycles: Iterable[int],
 ) -> None:
-    """Searches from a given plan; the search then has the best."""
+    """Searches from a given plan; the search then has the best. changed: of CHANGES; cycles: seconds, to be
+    proposed."""
     try:
         search.cost("given", plan)
         proposed = list(proposals(plan, lights, streets, changed, cycles))
@@ -116,7 +123,8 @@ def climb_all(
 
 
 def climb_offsets(search: Search, plan: Plan, streets: Streets, share: float, with_groups: bool) -> Plan:
-    """Moves the offset of each light, the heaviest first: with all that hang behind it, and alone."""
+    """Moves the offset of each light by a share of its cycle, the heaviest first: with all that hang behind it
+    (with_groups), and alone."""
     for light in streets.order:
         seconds = max(1, round(share * plan[light].cycle))
         if with_groups and len(streets.behind[light]) > 1:
@@ -126,7 +134,7 @@ def climb_offsets(search: Search, plan: Plan, streets: Streets, share: float, wi
 
 
 def climb_splits(search: Search, plan: Plan, lights: Mapping[str, Light], order: Iterable[str], seconds: int) -> Plan:
-    """Moves green between any two phases of each light; the cycle stays."""
+    """Moves green, so many seconds, between any two phases of each light; the cycle stays."""
     for name in order:
         free = lights[name].free
         for place, source in enumerate(free):
@@ -137,7 +145,8 @@ def climb_splits(search: Search, plan: Plan, lights: Mapping[str, Light], order:
 
 
 def climb(search: Search, plan: Plan, step: str, change: Change) -> Plan:
-    """Repeats a change as long as it helps, and where the first does not help its contrary; gives the plan."""
+    """Repeats a change as long as it helps, and where the first does not help its contrary; gives the plan. step: its
+    name."""
     best = search.cost(step, plan)
     for sign in (1, -1):
         went = False

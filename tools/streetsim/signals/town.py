@@ -1,23 +1,22 @@
 """A run as a search or a study sees it: its lights and their plans, and all as bytes that workers run."""
-from __future__ import annotations
-
 import json
 import sys
-from collections.abc import Callable, Iterable, Iterator, Mapping, Sequence
+from collections.abc import Iterable, Iterator, Mapping, Sequence
 from dataclasses import dataclass, field
 from types import MappingProxyType
 from typing import Any, NamedTuple
 
-from ..files import Fault
-from ..run.mapping import Map
-from ..run.runs import Line, Run, read_with_map
-from ..study.giving import gaps, giving_session, outcome_giving_way, with_gaps
-from ..study.machines import Machines
-from ..study.sessions import Outcome, Session, vehicle_seconds
-from ..sumo.net import SumoNet
-from ..sumo.report import some
-from .light_lines import LightLines, read_plans
-from .plans import Light, Plan, light_of, why_kept
+from streetsim.base.files import Fault
+from streetsim.base.report import some
+from streetsim.model.mapping import Map
+from streetsim.model.runs import Line, Run, read_with_map
+from streetsim.run.settings import Settings
+from streetsim.sessions.giving import gaps, giving_session, outcome_giving_way, with_gaps
+from streetsim.sessions.machines import Function, Machines
+from streetsim.sessions.prepared import Outcome, Session, vehicle_seconds
+from streetsim.signals.light_lines import LightLines, read_plans
+from streetsim.signals.plans import Light, Plan, light_of, why_kept
+from streetsim.sumo.net import SumoNet
 
 EXACT, CAREFUL = 0, 1  # places of sessions: that of the report, that of the search
 
@@ -28,16 +27,18 @@ class Reading(NamedTuple):
     run: str
     map: str
     plans: Sequence[str]
-    until: int
+    until: int  # last second
     program: str
-    least: int
-    keep: Sequence[str]
-    rounds: int = 0
+    least: int  # seconds of a green that may be stretched
+    keep: Sequence[str]  # lights that are left as they are
+    rounds: int = 0  # by which vehicles give way without a light
     reserve: int = 0  # of the search: of 1,000, by which its vehicles slow down more often
 
 
 @dataclass(slots=True)
 class Town:
+    """What a search for plans stands on."""
+
     run: Run
     mapping: Map
     lights: dict[str, Light]  # that are searched, by name
@@ -65,7 +66,7 @@ def signal_node(line: Line) -> int | None:
 
 
 def read_pair(run_path: str, map_path: str, until: int | None = None) -> tuple[Run, Map]:
-    """A run and its map, with something to run until a clock, or without one."""
+    """A run and its map, with something to run until a clock, or without one; Fault where there is nothing."""
     run, mapping = read_with_map(run_path, map_path)
     if until is None and not run.enters:
         raise Fault(f"{run_path}: no vehicle in it")
@@ -84,18 +85,19 @@ def read_town(reading: Reading) -> Town:
     net = read_plans(reading.plans, mapping)
     lights, plan = searched_lights(reading, run, mapping, net)
     nodes = frozenset(node for light, node in mapping.signals if light in lights)
-    session = giving_session(reading.program, run, mapping, reading.until, reading.rounds, nodes)
+    settings = Settings(reading.until)
+    session = giving_session(reading.program, run, mapping, settings, reading.rounds, nodes)
     careful = session
     if reading.reserve:
         dawdle = min(1000, run.load.command["dawdle"] + reading.reserve)
-        careful = giving_session(reading.program, run, mapping, reading.until, reading.rounds, nodes, dawdle=dawdle)
+        careful = giving_session(reading.program, run, mapping, settings, reading.rounds, nodes, dawdle=dawdle)
     town = Town(run, mapping, lights, plan, LightLines(net, run, mapping), session, careful)
     warn_of_others(reading, town)
     return town
 
 
 def searched_lights(reading: Reading, run: Run, mapping: Map, net: SumoNet) -> tuple[dict[str, Light], Plan]:
-    """The lights that are searched, and the plan given; what is left as it is, is told."""
+    """The lights that are searched, and the plan given; what is left as it is, is told; Fault where none is left."""
     names, asked = lights_of(reading, mapping, net), set(reading.keep)
     if unknown := sorted(asked - set(names)):
         raise Fault(f"--keep: the map has no light {unknown[0]!r}")
@@ -116,7 +118,7 @@ def searched_lights(reading: Reading, run: Run, mapping: Map, net: SumoNet) -> t
 
 
 def lights_of(reading: Reading, mapping: Map, net: SumoNet) -> list[str]:
-    """The names of the map's lights, each of which must have a program in the plans."""
+    """The names of the map's lights; Fault where one has no program in the plans."""
     names = sorted({light for light, _ in mapping.signals})
     lacking = [name for name in names if name not in net.programs or not net.programs[name].phases]
     if lacking:
@@ -144,8 +146,8 @@ class Runner:
         self.workers, self.town, self.cars = workers, town, len(town.session.departs)
 
     def means(self, plans: Iterable[Plan], seeds: Sequence[int]) -> Iterator[float]:
-        """For each plan and seed, in order, the mean trip of the search;
-        minor streets have the gaps that were found for the given plan."""
+        """For each plan and seed, in order, the mean trip of the search in seconds; minor streets have the gaps that
+        were found for the given plan."""
         for seconds in self.ordered(vehicle_seconds, plans, seeds, self.town.giving, CAREFUL):
             yield seconds / self.cars
 
@@ -159,7 +161,7 @@ class Runner:
 
     def ordered(
         self,
-        function: Callable[..., Any],
+        function: Function,
         plans: Iterable[Plan],
         seeds: Sequence[int],
         places: Mapping[int, int] = MappingProxyType({}),

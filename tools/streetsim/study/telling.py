@@ -1,25 +1,22 @@
 """What streetsim-study says of its runs: differences, a picture of them, ends,
 and why a variant is not to be trusted."""
-from __future__ import annotations
-
 from bisect import bisect_right
 from collections.abc import Iterator, Mapping, Sequence
 from statistics import fmean
-from typing import TYPE_CHECKING
 
-from ..pictures import plots
-from ..run import trust
-from ..run.ending import ALL
-
-if TYPE_CHECKING:
-    from .sessions import Outcome
-    from .studying import Difference, Study
+from streetsim.model import trust
+from streetsim.pictures.drawing import drawing_if_there, save
+from streetsim.run.ending import ALL
+from streetsim.sessions.prepared import Outcome
+from streetsim.study.differences import Difference
+from streetsim.study.variants import Study
+from streetsim.works.watched import in_runs
 
 
 def draw(study: Study, rows: Sequence[Difference], path: str) -> None:
     """The differences with their intervals; without matplotlib no picture, which is said."""
     shown = [row for row in rows if row[0] != study.base]
-    pyplot = plots.drawing_if_there()
+    pyplot = drawing_if_there()
     if pyplot is None or not shown:
         return
     figure, axes = pyplot.subplots(figsize=(7, 1.2 + 0.4 * len(shown)))
@@ -38,11 +35,11 @@ def draw(study: Study, rows: Sequence[Difference], path: str) -> None:
     axes.set_title(f"{len(study.seeds)} seeds")
     if len(study.seeds) > 1:
         axes.legend(frameon=False, fontsize=8)
-    plots.save(figure, path)
+    save(figure, path)
 
 
 def doubts(study: Study, name: str, outcomes: Sequence[Outcome]) -> Iterator[str]:
-    """What speaks against the runs of a variant."""
+    """What speaks against the runs of a variant, by its name."""
     variant = study.variants[name]
     arrived = fmean(one.arrived for one in outcomes)
     yield from trust.of_missing({"": arrived}, fmean(bisect_right(variant.due, one.end) for one in outcomes))
@@ -51,6 +48,7 @@ def doubts(study: Study, name: str, outcomes: Sequence[Outcome]) -> Iterator[str
     if early:
         yield f"{len(early):,} of {len(outcomes):,} runs ended before all had arrived, who count until then"
     yield from trust.of_works(variant.works, [(one.end, one.gone) for one in outcomes])
+    yield from in_runs([one.at_works for one in outcomes])
     yield from variant.doubts
 
 

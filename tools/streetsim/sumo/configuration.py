@@ -4,9 +4,9 @@ import re
 from collections.abc import Mapping
 from functools import partial
 
-from ..cli.words import FALSE
-from ..files import Fault, elements
-from .report import Report
+from streetsim.base.files import Fault, elements
+from streetsim.base.report import Report
+from streetsim.base.words import FALSE
 
 # Files whose paths are beside the configuration: those that are read, and those that are written.
 FILES = ("net-file", "route-files", "additional-files")
@@ -64,7 +64,8 @@ def read_configuration(path: str) -> dict[str, str]:
 
 
 def files_named(path: str, options: Mapping[str, str]) -> tuple[str, list[str], list[str]]:
-    """The network, the additional files and the files of routes that a configuration names."""
+    """The network, the additional files and the files of routes that a configuration (at this path) names by its
+    options; Fault where it names no network."""
     if not options.get("net-file"):
         raise Fault(f"{path}: names no network (net-file)")
     additional, routes = (
@@ -74,7 +75,7 @@ def files_named(path: str, options: Mapping[str, str]) -> tuple[str, list[str], 
 
 
 def tell_options(options: Mapping[str, str], report: Report) -> None:
-    """Says of the options of a configuration that are not done here."""
+    """Reports the options of a configuration that are not done here."""
     for name, value in options.items():
         off = value.lower() in FALSE
         if name in DONE or SILENT.fullmatch(name) or off or (name in ("step-length", "scale") and is_one(value)):

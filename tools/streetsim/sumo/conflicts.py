@@ -3,143 +3,109 @@
 The seconds were measured in SUMO 1.15 at lone junctions, under a queue that does not end (bench/junctions): how many
 leave in each gap between two that they give way to, then chosen so that as many leave here against 200 to 1,000
 vehicles an hour. They fall with the flow, as the traffic of SUMO, whose vehicles differ in speed, is more bunched
-and leaves more long gaps.
+and leaves more long gaps. Lanes side by side are bunched each for itself, and who goes across them needs longer.
 """
-from __future__ import annotations
+from collections import defaultdict
+from collections.abc import Iterable, Mapping
 
-from collections import Counter, defaultdict
-from collections.abc import Iterable, Mapping, Sequence
-from dataclasses import dataclass
-from typing import TYPE_CHECKING, Any
+from streetsim.model.waiting import Foe, Gap, Pace, TurnKey, Waiting
+from streetsim.sumo.losses import Flows, Way
+from streetsim.sumo.net import Connection, SumoNet, connections_of
+from streetsim.sumo.network import Network
 
-from .signals import connections_of
-
-if TYPE_CHECKING:
-    from .net import Connection, SumoNet
-    from .network import Network
-
-TurnKey = tuple[int, int, int]  # link, lane, next link
-Way = tuple[str, str]  # an edge and the next one
-Flows = Mapping[Way, float]  # vehicles an hour
-FAST = 10.0  # metres a second inside the junction: a stream that is joined like that is a fast one
-SLOW = 0.8  # of the speed of the faster street, before it or after it: a junction is turned in with less
-TURNING, LOOKING = 2.3, 1.2  # seconds lost in it, and by one that goes straight on and has to look out
-EQUALS = "="  # SUMO's state of such a connection
-
-
-@dataclass(slots=True, frozen=True)
-class Gap:
-    """The seconds that have to be free before one who goes first."""
-
-    seconds: float  # with few of these
-    less: float  # for each 1,000 of these an hour
-    least: float
-
-    def before(self, hourly: float) -> float:
-        return max(self.least, self.seconds - self.less * hourly / 1000)
-
-
-CROSSING, ENTERING, JOINING = Gap(7.0, 3.6, 3.5), Gap(7.2, 2.0, 3.5), Gap(8.4, 3.0, 5.0)  # a stream; a slow, a fast one
-# The same where nobody has a main street.
-EQUAL = {CROSSING: Gap(7.8, 2.8, 3.5), ENTERING: Gap(8.0, 2.0, 3.5), JOINING: Gap(9.2, 3.0, 5.0)}
-
-
-@dataclass(slots=True, frozen=True)
-class Foe:
-    """A way that goes first: vehicles from a lane to a link."""
-
-    link: int
-    lane: int
-    next: int
-    gap: Gap
-    slow: bool  # whether those that use one gap follow each other more slowly than from a queue
-
-    def written(self) -> list[Any]:
-        return [self.link, self.lane, self.next, self.gap.seconds, self.gap.less, self.gap.least, self.slow]
-
-
-@dataclass(slots=True, frozen=True)
-class Waiting:
-    """Turns that show green when nobody comes who goes first."""
-
-    node: int
-    turns: tuple[TurnKey, ...]
-    foes: tuple[Foe, ...]
-
-    def written(self) -> list[Any]:
-        """As it stands in the map."""
-        return [self.node, [list(turn) for turn in self.turns], [foe.written() for foe in self.foes]]
-
-
-def waiting_of(value: Iterable[Sequence[Any]]) -> list[Waiting]:
-    """What gives way, of a map's value."""
-    return [
-        Waiting(
-            node,
-            tuple((link, lane, following) for link, lane, following in turns),
-            tuple(Foe(foe[0], foe[1], foe[2], Gap(*foe[3:6]), foe[6]) for foe in foes),
-        )
-        for node, turns, foes in value
-    ]
+FAST = 10.0  # metres a second before the junction, in a roundabout inside it: a stream like that is a fast one
+# SUMO's states of connections: minor, right before left, stop sign, all-way stop.
+MINOR, EQUALS, STOPS, ALL_STOP = "m", "=", "s", "w"
+# Seconds more before one who crosses and gives way too: in which gaps these go changes from run to run.
+FACING = {MINOR: 0.6, STOPS: 6.0}
+# To cross a stream, to join a slow and a fast one.
+CROSSING, ENTERING, JOINING = Gap(7.0, 3.6, 3.5, 0.0, 0.4), Gap(7.2, 2.0, 3.5), Gap(8.4, 3.0, 5.0)
+NONE = Gap(0.0, 0.0, 0.0)  # where all stop they go in turn
+AFTER_STOP = Gap(26.0, 32.0, 9.0, 1.0, 0.4)  # to join any stream
+# The same where nobody has a main street, and at a stop sign.
+OTHERS = {
+    EQUALS: {CROSSING: Gap(7.8, 2.8, 3.5, 0.0, 0.4), ENTERING: Gap(8.0, 2.0, 3.5), JOINING: Gap(9.2, 3.0, 5.0)},
+    STOPS: {CROSSING: Gap(3.0, 1.0, 2.0, 0.0, 0.4), ENTERING: AFTER_STOP, JOINING: AFTER_STOP},
+}
+PACES = {STOPS: Pace(2, 4.15), ALL_STOP: Pace(2, 4.15, 0.7)}
 
 
 def conflicts_of(net: SumoNet, network: Network, flows: Flows) -> list[Waiting]:
-    """What gives way where no light is, of the movements that routes use."""
+    """What gives way where no light is, of the movements that routes use; flows: their vehicles an hour."""
     turns_at = defaultdict(list)
     for link, lane, following in network.turns:
         turns_at[network.links[link].edge, network.links[following].edge].append((link, lane, following))
     number = {name: at for at, name in enumerate(network.nodes)}
     return [
-        Waiting(number[junction], tuple(sorted(turns_at[way])), tuple(found.values()))
+        Waiting(number[junction], tuple(sorted(turns_at[way])), tuple(found.values()), paces.get(way))
         for junction, connections in connections_of(net).items()
         if junction in number and not any(one.light or one.request is None for one in connections)
+        for paces in [{(one.source, one.target): PACES[one.state] for one in connections if one.state in PACES}]
         for way, found in foes_by_way(connections, net.yields.get(junction, {}), network, flows).items()
+        if found or way in paces
     ]
 
 
 def foes_by_way(
     connections: Iterable[Connection], yields: Mapping[int, Iterable[int]], network: Network, flows: Flows
 ) -> dict[Way, dict[TurnKey, Foe]]:
-    """Those who go before each way of a junction, {(edge, next edge): {(link, lane, next link): foe}}."""
+    """Those who go before each used way of a junction, {(edge, next edge): {(link, lane, next link): foe}}. Where all
+    have to stop these are all who come from other streets, as those of one lane wait for one another's."""
     used = (one for one in connections if flows.get((one.source, one.target)))
     of_request = {one.request: one for one in used if one.request is not None}
-    found: defaultdict[Way, dict[TurnKey, Foe]] = defaultdict(dict)
+    found: dict[Way, dict[TurnKey, Foe]] = {(one.source, one.target): {} for one in of_request.values()}
     for request, one in of_request.items():
-        for foe in sorted(yields.get(request, ())):
-            if foe in of_request:
-                found[one.source, one.target].update(foes(one, of_request[foe], network))
+        if one.state == ALL_STOP:
+            before = [at for at, other in of_request.items() if other.source != one.source]
+        else:
+            before = [foe for foe in sorted(yields.get(request, ())) if foe in of_request]
+        for foe in before:
+            found[one.source, one.target].update(foes(one, of_request[foe], network))
     return found
 
 
 def foes(one: Connection, other: Connection, network: Network) -> dict[TurnKey, Foe]:
-    """The vehicles of another connection that go before those of one, {(link, lane, next link): foe}."""
+    """The vehicles of another connection, to which those of one give way, by the turns that they make, {(link, lane,
+    next link): foe}; each with the gap, in seconds, that has to be free before it."""
     link, lane = network.place_of[other.source, other.source_lane]
-    joins = one.target == other.target
-    fast = joins and (other.speed is None or other.speed > FAST)
-    gap = JOINING if fast else ENTERING if joins else CROSSING
-    if one.state == EQUALS:
-        gap = EQUAL[gap]
+    links = network.links_of[other.source]
+    fast = joins_fast(one, other, network.links[link].speed, other.source in network.rings)
+    gap = gap_of(one, other, fast)
+    if one.target != other.target:
+        gap = gap.across(sum(len(network.links[link].lanes) for link in links))
+        if one.state == other.state:
+            gap = gap.longer(FACING.get(one.state, 0.0))
+    slow = fast and one.state not in PACES  # which have a pace of their own
     return {
-        (link, lane, following): Foe(link, lane, following, gap, fast) for following in network.links_of[other.target]
+        (link, lane, following): Foe(link, lane, following, gap, slow, links[0])
+        for following in network.links_of[other.target]
     }
 
 
-def lost(
-    connections: Sequence[Connection], net: SumoNet, flows: Flows, longer: Mapping[str, float]
-) -> tuple[float, float]:
-    """Vehicles an hour at a junction, and the seconds that these lose beside one that goes straight on and first.
-    longer: the seconds that a ring's edges take longer here than in SUMO, which are made up for at their ends."""
-    sharing = Counter((connection.source, connection.target) for connection in connections)
-    total = seconds = 0.0
-    for connection in connections:
-        way = connection.source, connection.target
-        flow = flows.get(way, 0.0) / sharing[way]
-        total += flow
-        seconds -= longer.get(connection.source, 0.0) * flow
-        yields = net.yields_of(connection)
-        fastest = max(net.edges[name].lanes[0].speed for name in way)
-        if connection.speed and connection.speed < SLOW * fastest:
-            seconds += TURNING * flow
-        elif yields:
-            seconds += LOOKING * flow
-    return total, seconds
+def joins_fast(one: Connection, other: Connection, speed: float, in_ring: bool) -> bool:
+    """Whether one joins the stream of another that drives fast; speed: of its street."""
+    own = other.speed if in_ring and other.speed is not None else speed
+    return one.target == other.target and own > FAST
+
+
+def gap_of(one: Connection, other: Connection, fast: bool) -> Gap:
+    """The gap that one needs before each vehicle of another that goes first, on one lane; fast: as `joins_fast`
+    says."""
+    gap = JOINING if fast else ENTERING if one.target == other.target else CROSSING
+    return NONE if one.state == ALL_STOP else OTHERS[one.state][gap] if one.state in OTHERS else gap
+
+
+def gaps_of_ways(net: SumoNet) -> dict[Way, dict[Way, Gap]]:
+    """Those who go before each way where no light is, whether or not routes take it: {way: {way that goes first:
+    gap}}."""
+    found: defaultdict[Way, dict[Way, Gap]] = defaultdict(dict)
+    for junction, connections in connections_of(net).items():
+        of_request = {one.request: one for one in connections if one.request is not None and not one.light}
+        for request, one in of_request.items():
+            for foe in sorted(net.yields.get(junction, {}).get(request, ())):
+                if foe in of_request:
+                    other = of_request[foe]
+                    speed, in_ring = net.edges[other.source].lanes[0].speed, other.source in net.roundabouts
+                    fast = joins_fast(one, other, speed, in_ring)
+                    found[one.source, one.target][other.source, other.target] = gap_of(one, other, fast)
+    return dict(found)

@@ -1,25 +1,24 @@
 """Reads SUMO vehicles, flows and routes (.rou.xml) and makes enter commands of them."""
-from __future__ import annotations
-
 import math
 import random
 from collections import Counter
 from collections.abc import Iterable, Sequence
 from dataclasses import astuple, dataclass
 from itertools import pairwise
-from typing import TYPE_CHECKING, Any
+from typing import Any
 from xml.etree.ElementTree import Element
 
-from .. import limits
-from ..files import Fault, FilePath, at_least_zero, attribute, elements, filled, optional, seconds, told
-from .flows import departs
-from .net import SumoNet
-from .report import Report, some
-from .sources import sum_of_lines
-from .types import Sizes, Types, weights_of
-
-if TYPE_CHECKING:
-    from .network import Network
+from streetsim.base import limits
+from streetsim.base.files import (
+    Fault, FilePath, Json, at_least_zero, attribute, elements, filled, optional, seconds, told,
+)
+from streetsim.base.report import Report, some
+from streetsim.model.runs import Command
+from streetsim.model.sources import sum_of_lines
+from streetsim.sumo.flows import departs
+from streetsim.sumo.net import SumoNet
+from streetsim.sumo.network import Network
+from streetsim.sumo.types import Sizes, Types, weights_of
 
 Mix = tuple[list[str], list[float]]  # names and weights
 
@@ -41,6 +40,8 @@ class Unrouted(Fault):
 
 @dataclass(slots=True)
 class Vehicle:
+    """A vehicle that files tell."""
+
     name: str
     depart: float  # seconds
     edges: tuple[str, ...]
@@ -52,6 +53,7 @@ class Demand:
     """The vehicles of route files, and the routes that they name."""
 
     def __init__(self, net: SumoNet, types: Types, seed: int, report: Report) -> None:
+        """seed: of the draws of flows and of routes from distributions."""
         self.net, self.types, self.report = net, types, report
         self.draws, self.choices = random.Random(seed), random.Random(f"routes {seed}")
         self.routes: dict[str, tuple[str, ...]] = {}  # name: edges
@@ -61,11 +63,12 @@ class Demand:
         self.later: list[tuple[Vehicle, str]] = []  # (vehicle, file and element): routes may be told after the vehicles
 
     def read(self, path: FilePath) -> None:
+        """Adds what a file of routes has."""
         for element in elements(path, ["routes", "additional", "add"]):
             self.read_element(path, element)
 
     def read_element(self, path: FilePath, element: Element) -> None:
-        """An element of a file of routes, which may also stand in an additional file."""
+        """Adds an element of a file of routes, which may also stand in an additional file; a trip is Unrouted."""
         readers = {
             "route": self.read_route,
             "routeDistribution": self.read_mix,
@@ -84,6 +87,7 @@ class Demand:
             self.report.ignored[f"<{element.tag}> of route files"] += 1
 
     def read_route(self, path: FilePath, element: Element) -> None:
+        """Adds a route; Fault where another one, or a distribution, has its name."""
         name = attribute(path, element, "id", filled)
         self.note_ignored(element)
         if name in self.routes or name in self.mixes:
@@ -91,14 +95,15 @@ class Demand:
         self.routes[name] = self.edges(path, element, element)
 
     def read_mix(self, path: FilePath, element: Element) -> None:
+        """Adds a distribution of routes; Fault where another one, or a route, has its name."""
         name = attribute(path, element, "id", filled)
         if name in self.routes or name in self.mixes:
             raise Fault(f"{told(path, element)}: a second route of this name")
         self.mixes[name] = self.mix(path, element, element, name)
 
     def mix(self, path: FilePath, owner: Element, element: Element, name: str) -> Mix:
-        """The names of the routes of a distribution and their weights;
-        a route without a name is called by its place, as SUMO does."""
+        """The names of the routes of a distribution and their weights; a route without a name is called by its place,
+        as SUMO does. owner: the element that faults name; name: of the distribution."""
         names, weights = (element.get("routes") or "").split(), []
         shares = attribute(path, element, "probabilities", weights_of) if element.get("probabilities") else []
         weights += [shares[place] if place < len(shares) else 1.0 for place in range(len(names))]
@@ -115,7 +120,7 @@ class Demand:
         return names, weights
 
     def drawn(self, name: str) -> str:
-        """The route that a vehicle takes: the one that is named, or one of the distribution that is named."""
+        """The route that a vehicle takes, by name: the one that is named, or one of the distribution that is named."""
         return self.choices.choices(*self.mixes[name])[0] if name in self.mixes else name
 
     def edges(self, path: FilePath, owner: Element, route: Element) -> tuple[str, ...]:
@@ -167,6 +172,7 @@ class Demand:
             self.report.ignored[f"{name} of {element.tag}s"] += 1
 
     def read_vehicle(self, path: FilePath, element: Element) -> None:
+        """Adds a vehicle; one whose depart is no time is reported as skipped."""
         text = attribute(path, element, "depart")
         if text in ("triggered", "containerTriggered", "now", "split", "begin"):
             self.report.skipped[f"depart={text!r} is no time"] += 1
@@ -175,13 +181,15 @@ class Demand:
             self.add(path, element, [(attribute(path, element, "id", filled), depart)])
 
     def read_flow(self, path: FilePath, element: Element) -> None:
+        """Adds the vehicles of a flow, named by its name and their number."""
         name = attribute(path, element, "id", filled)
         self.add(
             path, element, [(f"{name}.{at}", depart) for at, depart in enumerate(departs(path, element, self.draws))]
         )
 
     def finish(self, end: float | None = None) -> list[Vehicle]:
-        """All vehicles that depart before an end, each with its route and its type, in order of departure and file."""
+        """All vehicles that depart before an end (none: all), each with its route and its type, in order of departure
+        and file; Fault where two have one name."""
         for vehicle, where in self.later:
             vehicle.route = self.drawn(vehicle.route)
             if vehicle.route not in self.routes:
@@ -199,8 +207,8 @@ class Demand:
             self.report.notes.append(f"{after:,} vehicles that depart at the end, {end:,} s, or later are left out")
         return sorted(before, key=lambda vehicle: vehicle.depart)
 
-
     def tell_stops(self) -> None:
+        """Reports the stops, which are not made."""
         if self.stopping:
             stops, names = self.stopping.total(), list(self.stopping)
             do = "who stands in others' way: streetsim-run --close, for as long"
@@ -209,8 +217,9 @@ class Demand:
 
 def enters(
     vehicles: Iterable[Vehicle], net: SumoNet, network: Network, sizes: Sizes, report: Report
-) -> tuple[list[dict[str, Any]], list[Vehicle]]:
-    """Enter commands and their vehicles; vehicles that can not drive are counted by reason."""
+) -> tuple[list[Command], list[Vehicle]]:
+    """Enter commands and the vehicles that they are of, in the same order; vehicles that cannot drive are reported by
+    reason."""
     commands, driven = [], []
     used: Counter[int] = Counter()
     for vehicle in vehicles:
@@ -221,7 +230,7 @@ def enters(
         lanes = network.serves(plan[0], plan[1]) if len(plan) > 1 else range(len(network.links[plan[0]].lanes))
         lane = lanes[used[plan[0]] % len(lanes)]
         used[plan[0]] += 1
-        command: dict[str, Any] = {
+        command: Command = {
             "cmd": "enter",
             "plan": list(plan),
             "lane": lane,
@@ -233,7 +242,7 @@ def enters(
     return commands, driven
 
 
-def kinds_of(driven: Sequence[Vehicle], types: Types) -> dict[str, Any]:
+def kinds_of(driven: Sequence[Vehicle], types: Types) -> Json:
     """The types that files tell, and by vehicle its type and the name of its route, as a map keeps them; and a sum of
     where all begin and end, by which the map of another demand is known."""
     names = list(types.kinds)

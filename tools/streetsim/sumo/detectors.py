@@ -1,18 +1,13 @@
 """SUMO's induction loops (e1) and lane areas (e2) of additional files, placed on the cells of an import."""
-from __future__ import annotations
-
 from collections.abc import Container, Iterable
 from dataclasses import dataclass
-from typing import TYPE_CHECKING
 from xml.etree.ElementTree import Element
 
-from .. import limits
-from ..files import Fault, FilePath, at_least_zero, attribute, number, optional, seconds, told
-from ..run.detectors import E1, E2, Detector
-
-if TYPE_CHECKING:
-    from ..run.mapping import Map, MapLink
-    from .report import Report
+from streetsim.base import limits
+from streetsim.base.files import Fault, FilePath, at_least_zero, attribute, number, optional, seconds, told
+from streetsim.base.report import Report
+from streetsim.model.detectors import E1, E2, Detector
+from streetsim.model.mapping import Map, MapLink
 
 TRUE = ("true", "yes", "on", "1", "x", "t")  # as SUMO reads it
 NEAR = 0.1  # metres, by which lengths are rounded
@@ -21,6 +16,8 @@ KINDS = {"inductionLoop": E1, "e1Detector": E1, "laneAreaDetector": E2, "e2Detec
 
 @dataclass(slots=True, frozen=True)
 class SumoDetector:
+    """A detector as its file tells it."""
+
     where: str  # file and element, for what is told
     name: str
     kind: str
@@ -51,7 +48,8 @@ def read_detector(path: FilePath, element: Element, report: Report) -> SumoDetec
 
 
 def stretch(path: FilePath, element: Element, report: Report) -> tuple[float, float | None]:
-    """Where an area begins and ends: by its place and length, else by these or its end; without both at the lane's."""
+    """The metres at which an area begins and ends, as SumoDetector has them: by its place and length, else by these or
+    its end; without both at the lane's."""
     end = optional(path, element, "endPos", number, None)
     length = optional(path, element, "length", at_least_zero(number), 0.0)
     if not length:
@@ -72,8 +70,8 @@ def tell_beyond(name: str | None, lane: str | None, report: Report) -> None:
 
 
 def placed(detectors: Iterable[SumoDetector], mapping: Map, closed: Container[str], report: Report) -> list[Detector]:
-    """Detectors on the cells of a map. A lane that the network does not have is a Fault;
-    one that was left out, as it is closed to the classes, is not."""
+    """Detectors on the cells of a map. A lane that the network does not have is a Fault; one that was left out, as it
+    is closed to the classes (its name is in closed), is reported."""
     places = {mapping.lane_name(*place): place for place in mapping.lanes()}
     found = {}
     for one in detectors:
@@ -81,8 +79,9 @@ def placed(detectors: Iterable[SumoDetector], mapping: Map, closed: Container[st
             raise Fault(f"{one.where}: a second detector of this name")
         if one.lane in places:
             link, lane = places[one.lane]
+            at = mapping.links[link]
             found[one.name] = Detector(
-                one.name, one.kind, link, lane, *cells(one, mapping.links[link], report), one.period
+                one.name, one.kind, link, lane, *cells(one, at, report), one.period, at.cell_metres
             )
         elif one.lane in closed:
             report.warn(f"detector {one.name} lies on {one.lane}, which is left out")
@@ -94,7 +93,8 @@ def placed(detectors: Iterable[SumoDetector], mapping: Map, closed: Container[st
 
 
 def cells(one: SumoDetector, link: MapLink, report: Report) -> tuple[int, int]:
-    """The first and the last cell: the one that a loop lies in, or all of which an area has a part."""
+    """The first and the last cell: the one that a loop lies in, or all of which an area has a part; Fault where the
+    detector lies beyond its lane and may not."""
     begin = one.begin + link.metres if one.begin < 0 else one.begin
     end = one.end + link.metres if one.end is not None and one.end < 0 else one.end
     if not one.friendly and not -NEAR <= begin <= link.metres + NEAR:

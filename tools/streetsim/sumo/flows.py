@@ -1,21 +1,22 @@
 """When the vehicles of a SUMO flow depart."""
-from __future__ import annotations
-
 import math
 from collections.abc import Iterable, Iterator
 from itertools import count, islice, takewhile
 from random import Random
 from xml.etree.ElementTree import Element
 
-from .. import limits
-from ..files import Fault, FilePath, above_zero, at_least_zero, attribute, number, only, optional, seconds, told
+from streetsim.base import limits
+from streetsim.base.files import (
+    Fault, FilePath, above_zero, at_least_zero, attribute, number, only, optional, seconds, told,
+)
 
 DAY = 86_400.0
 RATES = ("period", "vehsPerHour", "perHour", "probability")
 
 
 def departs(path: FilePath, element: Element, draws: Random) -> list[float]:
-    """Seconds, rising: begin + k * period while below the end; of a probability, or of period="exp(rate)", by draws."""
+    """Seconds, rising: begin + k * period while below the end; of a probability, or of period="exp(rate)", by draws;
+    Fault where there are more than may drive."""
     begin = optional(path, element, "begin", at_least_zero(seconds), 0.0)
     most = optional(path, element, "number", at_least_zero(int), None)
     end = optional(path, element, "end", seconds, DAY if most is None else math.inf)
@@ -30,7 +31,7 @@ def departs(path: FilePath, element: Element, draws: Random) -> list[float]:
 
 
 def refuse_two_rates(path: FilePath, element: Element) -> None:
-    """A flow has one rate at most, and beside it an end or a number, as in SUMO."""
+    """Refuses a flow with two rates, or with an end and a number beside a rate, as SUMO does."""
     rates = [name for name in RATES if element.get(name) is not None]
     if len(rates) > 1:
         raise Fault(f"{told(path, element)}: {rates[0]} and {rates[1]} are two rates, of which a flow has one")
@@ -41,7 +42,8 @@ def refuse_two_rates(path: FilePath, element: Element) -> None:
 def moments(
     path: FilePath, element: Element, begin: float, end: float, most: int | None, draws: Random
 ) -> Iterable[float]:
-    """All departures that the rate of a flow gives, without regard to its end."""
+    """All departures that the rate of a flow gives, in seconds, without regard to its end; Fault where it has no
+    rate."""
     for name in ("vehsPerHour", "perHour"):
         if element.get(name) is not None:
             hourly = attribute(path, element, name, above_zero(number))
@@ -61,14 +63,14 @@ def moments(
 
 
 def rate_of(text: str) -> float:
-    """Vehicles a second of a period exp(RATE)."""
+    """Vehicles a second of a period exp(RATE); ValueError otherwise."""
     if not text.endswith(")"):
         raise ValueError(text)
     return above_zero(number)(text.removeprefix("exp(").removesuffix(")"))
 
 
 def by_chance(begin: float, chance: float, draws: Random) -> Iterator[float]:
-    """Seconds in each of which a vehicle departs by a chance; the seconds until the next are drawn at once."""
+    """Departures of a flow with such a chance of one in each second; the seconds until the next are drawn at once."""
     second = -1
     while True:
         waited = math.log(1 - draws.random()) / math.log(1 - chance) if chance < 1 else 0.0
@@ -79,7 +81,7 @@ def by_chance(begin: float, chance: float, draws: Random) -> Iterator[float]:
 
 
 def by_rate(begin: float, rate: float, draws: Random) -> Iterator[float]:
-    """Times whose gaps are drawn with a mean of 1 / rate."""
+    """Departures whose gaps are drawn with a mean of 1 / rate seconds, without end."""
     clock = begin
     while True:
         clock += draws.expovariate(rate)

@@ -1,30 +1,19 @@
 """Reads a SUMO network (.net.xml, and signal programs of additional files)."""
-from __future__ import annotations
-
 from collections import defaultdict
 from collections.abc import Collection, Iterable, Sequence
 from dataclasses import dataclass, field, replace
-from typing import TYPE_CHECKING, Any
+from typing import Any
 from xml.etree.ElementTree import Element
 
-from ..files import Fault, FilePath, at_least_zero, attribute, elements, number, seconds, told
-from .detectors import KINDS, SumoDetector, read_detector
-from .report import Report, some
-from .types import TAGS, Types
-
-if TYPE_CHECKING:
-    from .demand import Demand
+from streetsim.base.files import Fault, FilePath, Json, at_least_zero, attribute, elements, number, seconds, told
+from streetsim.base.report import Report
+from streetsim.sumo.detectors import SumoDetector
 
 STATIC = "static"  # the kind of a signal program that is seconds alone
-UNDONE = {  # elements of additional files that change traffic in SUMO: what to do here
-    "rerouter": "ways round works: streetsim-route --close; closed lanes: streetsim-run --close",
-    "calibrator": "give its flows as routes",
-    "variableSpeedSign": "the lanes keep their speed: judge by SUMO",
-    "WAUT": 'signal lines of the run file with "at" change plans by time of day',
-}
+# What phases may have without more effect on actuated lights: type and targetLanes are of other kinds.
+PHASE = ("duration", "state", "minDur", "maxDur", "next", "name", "vehext", "yellow", "red", "type", "targetLanes")
 Point = tuple[float, float]
 INNER = ("internal", "walkingarea", "crossing")
-DEMAND = ("route", "routeDistribution", "vehicle", "flow", "trip", "person", "personFlow", "container", "containerFlow")
 
 
 @dataclass(slots=True)
@@ -37,6 +26,8 @@ class Lane:
 
 @dataclass(slots=True)
 class Edge:
+    """A street in one direction, between two junctions."""
+
     name: str
     begin: str
     end: str
@@ -46,6 +37,8 @@ class Edge:
 
 @dataclass(slots=True)
 class Connection:
+    """From a lane of an edge to a lane of the next, by SUMO's names and indexes."""
+
     source: str
     target: str
     source_lane: int
@@ -59,15 +52,22 @@ class Connection:
 
 @dataclass(slots=True)
 class Program:
+    """A light's program."""
+
     offset: float
     phases: list[tuple[float, str]]  # seconds and state
     kind: str  # static, actuated, ..
     # For each phase its minDur and maxDur, or none.
     bounds: list[tuple[float | None, float | None]] = field(default_factory=list)
+    following: list[tuple[int, ...]] = field(default_factory=list)  # the phases that each names as its next
+    parameters: dict[str, str] = field(default_factory=dict)
+    more: tuple[str, ...] = ()  # what else its phases and it have, by name
 
 
 @dataclass(slots=True)
 class SumoNet:
+    """What was read of a network and of additional files, by SUMO's names."""
+
     junctions: dict[str, Point] = field(default_factory=dict)
     edges: dict[str, Edge] = field(default_factory=dict)  # by name
     dropped: set[str] = field(default_factory=set)  # edges without a lane for the classes
@@ -75,12 +75,13 @@ class SumoNet:
     connections: list[Connection] = field(default_factory=list)  # between kept lanes
     closed_ways: set[tuple[str, str]] = field(default_factory=set)  # (edge, edge) of those that are not for the classes
     roundabouts: set[str] = field(default_factory=set)  # edges
+    types: dict[str, str] = field(default_factory=dict)  # by junction
     programs: dict[str, Program] = field(default_factory=dict)  # by light, the last loaded
     detectors: list[SumoDetector] = field(default_factory=list)  # of additional files
     # By junction: for each request those that it gives way to.
     yields: dict[str, dict[int, set[int]]] = field(default_factory=dict)
     inner_speeds: dict[str, float] = field(default_factory=dict)  # lane inside a junction: metres a second
-    location: dict[str, Any] = field(default_factory=dict)  # where it lies on Earth, as read_location keeps it
+    location: Json = field(default_factory=dict)  # where it lies on Earth, as read_location keeps it
 
     def yields_of(self, connection: Connection) -> set[int]:
         """The requests at its junction that a connection gives way to."""
@@ -89,7 +90,7 @@ class SumoNet:
 
 
 def shape(text: str) -> list[Point]:
-    """A list of two points or more; heights are left out."""
+    """A list of two points or more; heights are left out; ValueError otherwise."""
     points: list[Any] = [tuple(number(part) for part in point.split(",")[:2]) for point in text.split()]
     if len(points) < 2 or any(len(point) < 2 for point in points):
         raise ValueError(text)
@@ -107,7 +108,7 @@ def allows(element: Element, classes: Collection[str]) -> bool:
 
 
 def read_net(path: FilePath, classes: Sequence[str], report: Report) -> SumoNet:
-    """The network of a .net.xml, with the lanes that one of the classes may use."""
+    """The network of a .net.xml, with the lanes that one of the classes may use; Fault where there are none."""
     net = SumoNet()
     named: set[str] = set()
     readers = {
@@ -133,31 +134,8 @@ def read_net(path: FilePath, classes: Sequence[str], report: Report) -> SumoNet:
     return net
 
 
-def read_additional(path: FilePath, net: SumoNet, types: Types, report: Report, demand: Demand | None = None) -> None:
-    """Signal programs, vehicle types and detectors of an additional file, and vehicles, flows and routes for a demand
-    where one is given; all else there is counted as ignored."""
-    undone = defaultdict(list)
-    for element in elements(path, ["additional", "add", "routes", "tlLogics"]):
-        if element.tag == "tlLogic":
-            refuse_unknown_light(path, element, net)
-            read_program(path, element, net, ())
-        elif element.tag in TAGS:
-            types.read(path, element)
-        elif element.tag in KINDS:
-            net.detectors += filter(None, [read_detector(path, element, report)])
-        elif element.tag in DEMAND and demand is not None:
-            demand.read_element(path, element)
-        elif element.tag in DEMAND:
-            raise Fault(f"{told(path, element)} in an additional file: give files of routes after --routes")
-        elif element.tag in UNDONE:
-            undone[element.tag].append(element.get("id", "without a name"))
-        else:
-            report.ignored[f"<{element.tag}> of additional files"] += 1
-    for tag, names in undone.items():
-        report.warn(f"{path}: <{tag}> does nothing here: {some(names)}", names, UNDONE[tag])
-
-
 def read_edge(path: FilePath, element: Element, net: SumoNet, classes: Collection[str]) -> None:
+    """Adds an edge with the lanes that one of the classes may use, or the speeds of the lanes of an inner one."""
     if element.get("function") in INNER:
         for lane in element.iter("lane"):
             net.inner_speeds[attribute(path, lane, "id")] = attribute(path, lane, "speed", at_least_zero(number))
@@ -191,21 +169,23 @@ def read_edge(path: FilePath, element: Element, net: SumoNet, classes: Collectio
 
 
 def read_location(path: FilePath, element: Element, net: SumoNet, _classes: Collection[str]) -> None:
-    """The projection, and what was added to its metres; SUMO writes "!" where there is none."""
+    """Keeps the projection, and what was added to its metres; SUMO writes "!" where there is none."""
     offset = attribute(path, element, "netOffset", plane_point) if element.get("netOffset") else (0.0, 0.0)
     net.location = {"offset": offset, "projection": element.get("projParameter", "!")}
 
 
 def plane_point(text: str) -> Point:
-    """Two numbers with a comma between; a height after them is left out."""
+    """Two numbers with a comma between; a height after them is left out; ValueError otherwise."""
     x, y, *_ = (number(part) for part in text.split(","))
     return x, y
 
 
 def read_junction(path: FilePath, element: Element, net: SumoNet, _classes: Collection[str]) -> None:
+    """Adds a junction with its requests; those inside others are left out."""
     if element.get("type") != "internal":
         name = attribute(path, element, "id")
         net.junctions[name] = attribute(path, element, "x", number), attribute(path, element, "y", number)
+        net.types[name] = element.get("type", "priority")
         net.yields[name] = {
             attribute(path, request, "index", at_least_zero(int)): {
                 at for at, bit in enumerate(reversed(attribute(path, request, "response"))) if bit == "1"
@@ -215,7 +195,8 @@ def read_junction(path: FilePath, element: Element, net: SumoNet, _classes: Coll
 
 
 def read_connection(path: FilePath, element: Element, net: SumoNet, classes: Collection[str]) -> None:
-    """A connection between lanes that are kept; all edges stand before it in the file."""
+    """Adds a connection between lanes that are kept, or notes that its way is closed; all edges stand before it in the
+    file."""
     source, target = attribute(path, element, "from"), attribute(path, element, "to")
     for edge in (source, target):
         if edge not in net.edges and edge not in net.dropped and not edge.startswith(":"):
@@ -249,20 +230,23 @@ def read_connection(path: FilePath, element: Element, net: SumoNet, classes: Col
 
 def request_of(inner: str) -> int | None:
     """The place among its junction's requests of a connection that runs over a lane inside it, ":junction_N_LANE": the
-    lanes of one inner edge follow each other."""
+    lanes of one inner edge follow each other. None for a name of another form."""
     parts = inner.rsplit("_", 2)
     return int(parts[1]) + int(parts[2]) if len(parts) == 3 and all(map(str.isdecimal, parts[1:])) else None
 
 
 def has_lane(edge: Edge, index: int) -> bool:
+    """Whether an edge has a kept lane of SUMO's index."""
     return any(lane.index == index for lane in edge.lanes)
 
 
 def read_roundabout(path: FilePath, element: Element, net: SumoNet, _classes: Collection[str]) -> None:
+    """Notes the edges of a roundabout."""
     net.roundabouts.update(attribute(path, element, "edges").split())
 
 
 def read_program(path: FilePath, element: Element, net: SumoNet, _classes: Collection[str]) -> None:
+    """Sets a light's program, the last of several; one without phases gives the known one another offset."""
     phases = [
         (attribute(path, phase, "duration", at_least_zero(seconds)), attribute(path, phase, "state"))
         for phase in element.iter("phase")
@@ -273,7 +257,31 @@ def read_program(path: FilePath, element: Element, net: SumoNet, _classes: Colle
     if not phases and light in net.programs:  # an offset alone, as SUMO's tlsCoordinator writes it
         net.programs[light] = replace(net.programs[light], offset=offset)
     else:
-        net.programs[light] = Program(offset, phases, element.get("type", STATIC), bounds)
+        net.programs[light] = Program(
+            offset,
+            phases,
+            element.get("type", STATIC),
+            bounds,
+            [next_of(path, phase) for phase in element.iter("phase")],
+            {param.get("key", ""): param.get("value", "") for param in element.findall("param")},
+            more_of(element),
+        )
+
+
+def next_of(path: FilePath, phase: Element) -> tuple[int, ...]:
+    """The phases that a phase names as its next."""
+    return tuple(attribute(path, phase, "next", numbers)) if phase.get("next") else ()
+
+
+def numbers(text: str) -> list[int]:
+    return list(map(int, text.split()))
+
+
+def more_of(program: Element) -> tuple[str, ...]:
+    """What a program has beside phases, parameters and the phases' usual attributes."""
+    found = {one.tag for one in program if one.tag not in ("phase", "param")}
+    found.update(name for phase in program.iter("phase") for name in phase.keys() if name not in PHASE)
+    return tuple(sorted(found))
 
 
 def actuated(net: SumoNet, lights: Iterable[str]) -> list[str]:
@@ -281,12 +289,14 @@ def actuated(net: SumoNet, lights: Iterable[str]) -> list[str]:
     return [light for light in dict.fromkeys(lights) if net.programs[light].kind != STATIC]
 
 
-def refuse_unknown_light(path: FilePath, element: Element, net: SumoNet) -> None:
-    """As SUMO does, which knows the lights of the network alone."""
-    light = attribute(path, element, "id")
-    if light not in net.programs and all(light != one.light for one in net.connections):
-        raise Fault(f"{told(path, element)}: the network has no light of this name")
-
-
 def bound_of(path: FilePath, phase: Element, name: str) -> float | None:
+    """A phase's least or greatest seconds, by the attribute's name; none where it has none."""
     return attribute(path, phase, name, at_least_zero(seconds)) if phase.get(name) else None
+
+
+def connections_of(net: SumoNet) -> dict[str, list[Connection]]:
+    """The connections of each junction."""
+    found = defaultdict(list)
+    for connection in net.connections:
+        found[net.edges[connection.source].end].append(connection)
+    return found

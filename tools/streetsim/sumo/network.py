@@ -1,28 +1,30 @@
 """Nodes, links and turns of streetsim, made of a SUMO network."""
-from __future__ import annotations
-
 from collections import Counter, defaultdict
 from collections.abc import Collection, Iterable, Iterator, Mapping, Sequence
 from dataclasses import dataclass, replace
-from typing import TYPE_CHECKING, Any
+from math import log
+from typing import Any
 
-from .. import limits
-from ..files import Fault
-from .conflicts import Flows, TurnKey, Waiting, lost
-from .net import Connection, Edge, Lane, Point, SumoNet
-from .report import Report, some
-from .signals import connections_of
+from streetsim.base import limits
+from streetsim.base.files import Fault, Json
+from streetsim.base.report import Report, some
+from streetsim.model.runs import Command
+from streetsim.model.waiting import TurnKey, Waiting
+from streetsim.sumo.losses import Flows, lost
+from streetsim.sumo.net import Connection, Edge, Lane, Point, SumoNet, connections_of
 
 LaneKey = tuple[str, int]  # an edge and SUMO's index of a lane of it
 Targets = Mapping[LaneKey, set[str]]  # the next edges to which a lane leads
 
+OTHER_SPEED = 0.1  # of a lane's speed, by which a limit may be off
+FREE_LIMITS = range(1, limits.LIMIT + 1)  # cells a step
 MISSING_TURN = 0.5  # what a change between parallel links costs that SUMO has no connection for
 WRONG_LANE = 100.0  # the same from lanes that do not lead to an edge to which others wait for a gap
 CROWDING = 0.2  # what a link costs each of whose lanes carries as much as its edge's links do on average
 CROWDING_BESIDE = 2.0  # the same where links of an edge lead to a common one and on some of them vehicles wait for gaps
 
 
-@dataclass(slots=True)
+@dataclass(frozen=True, slots=True)
 class Options:
     """What an import can be told; the values are explained in tools/README.md."""
 
@@ -45,19 +47,23 @@ class Options:
 
 @dataclass(slots=True)
 class Link:
+    """A link in the making, and what it is in SUMO."""
+
     edge: str
     lanes: tuple[int, ...]  # indexes of SUMO lanes; one or two
-    begin: int
+    begin: int  # nodes
     end: int
     cells: int
-    limit: int
+    limit: int  # cells a step
     metres: float
-    speed: float
+    speed: float  # metres a second, in SUMO
     shape: list[Point]
 
 
 @dataclass(slots=True)
 class Turn:
+    """What a turn from a lane of a link to a next link has; added: SUMO has no connection for it."""
+
     next_lane: int
     light: str | None
     index: int
@@ -67,7 +73,7 @@ class Turn:
 
 
 class Network:
-    """Links and nodes go by number, their place in the load."""
+    """Nodes, links and turns in the making; links and nodes go by number, their place in the load."""
 
     def __init__(self, net: SumoNet, options: Options, report: Report, flows: Flows) -> None:
         """Flows are the routes' vehicles an hour from edge to edge; none where no route is known."""
@@ -90,7 +96,7 @@ class Network:
             self.links_of[edge.name] = list(range(len(self.links), len(self.links) + len(bundles[edge.name])))
             for lanes in bundles[edge.name]:
                 self.place_of.update({(edge.name, lane.index): (len(self.links), at) for at, lane in enumerate(lanes)})
-                self.links.append(link_of(edge, lanes, number, options))
+                self.links.append(link_of(edge, lanes, number, options, edge.name in net.roundabouts))
         self.turns: dict[TurnKey, Turn] = {}
         # Each (edge, next edge) to which a signal lets go only when there is a gap.
         self.waiting: set[tuple[str, str]] = set()
@@ -103,14 +109,17 @@ class Network:
         self.leads = {(link, self.links[following].edge) for link, _, following in self.turns}
         self.unlike = self.shared_ways() & {edge for edge, _ in self.waiting}
         self.residences = residences(edges, net, self.links, self.nodes, options, flows)
+        self.buffers = buffers(self.links, len(self.nodes), options)
         self.use: Counter[int] = Counter()
         # (edge, next edge): in how many others' place a vehicle counts that waits for a gap
         self.equivalents: Mapping[tuple[str, str], float] = {}
         self.joined: set[tuple[int, int]] = set()
         self.yields: list[Waiting] = []
         self.last = options.begin  # departure
-        self.kinds: dict[str, Any] = {}  # of the vehicles, as demand.kinds_of
+        self.kinds: Json = {}  # of the vehicles, as demand.kinds_of
         self.actuated: list[str] = []  # lights that SUMO times by detectors
+        self.programs: list[Json] = []  # of these, as programs.kept_programs has them
+        self.rings = sorted(net.roundabouts & net.edges.keys())
 
     def add_connections(self, net: SumoNet, report: Report) -> None:
         """Of several connections from one lane to one next link the one to the same lane counts, else the lowest."""
@@ -133,6 +142,7 @@ class Network:
             )
 
     def turn(self, link: int, next_lane: int, connection: Connection, added: bool) -> Turn:
+        """The turn of a connection from a link, to a lane of the next; added: SUMO has none from this lane or link."""
         speed = connection.speed or self.links[link].speed
         return Turn(next_lane, connection.light, connection.index, added, speed, self.links[link].limit)
 
@@ -180,8 +190,8 @@ class Network:
                     self.join(link, following)
 
     def route(self, edges: Sequence[str]) -> tuple[int, ...] | None:
-        """The links of a route over parallel links, by least cost; turns that are wanting are added. None where two
-        edges have no connection."""
+        """The links of a route over parallel links, by least cost, which then carry it; turns that are wanting are
+        added. None where two edges have no connection."""
         if any((edge, following) not in self.movements for edge, following in zip(edges, edges[1:])):
             return None
         best: dict[int, tuple[float, tuple[int, ...]]]
@@ -223,12 +233,14 @@ class Network:
         weight = CROWDING_BESIDE if self.links[link].edge in self.unlike else CROWDING
         return weight * self.use[link] / len(self.links[link].lanes) * len(links) / total if total else 0.0
 
-    def load(self) -> dict[str, Any]:
+    def load(self) -> Command:
         """The load command."""
         options = self.options
         return {
             "cmd": "load",
-            "nodes": [[at, residence, options.buffer] for at, residence in enumerate(self.residences)],
+            "nodes": [
+                [at, *both] for at, both in enumerate(zip(self.residences, self.buffers, strict=True))
+            ],
             "links": [
                 [at, link.begin, link.end, len(link.lanes), link.cells, link.limit]
                 for at, link in enumerate(self.links)
@@ -303,7 +315,8 @@ def may_wait(connection: Connection, net: SumoNet) -> bool:
 
 
 def closing_lanes(net: SumoNet, names: Iterable[str]) -> dict[str, set[int]]:
-    """The lanes that are named, or whose edge is, {edge: lane indexes}."""
+    """The lanes that are named, or whose edge is, {edge: lane indexes}; Fault where the import has none, or none beside
+    it."""
     found = defaultdict(set)
     for name in names:
         edge, _, index = (name, "", "") if name in net.edges else name.rpartition("_")
@@ -320,7 +333,8 @@ def closing_lanes(net: SumoNet, names: Iterable[str]) -> dict[str, set[int]]:
 def bundles_of(
     edges: Sequence[Edge], following: Targets, waiting: Targets, closing: Mapping[str, Collection[int]], report: Report
 ) -> dict[str, list[list[Lane]]]:
-    """The lanes of each edge by its links. Turn lanes are no links of their own where there would be too many."""
+    """The lanes of each edge by its links, from the right. Turn lanes are no links of their own where there would be
+    too many."""
     bundles = {edge.name: parallel(edge, following, waiting, closing.get(edge.name, ())) for edge in edges}
     if sum(map(len, bundles.values())) <= limits.LINKS:
         return bundles
@@ -358,10 +372,11 @@ def may_share(right: LaneKey, left: LaneKey, following: Targets, waiting: Target
     return bool(following[right] & following[left]) and waiting[right] == waiting[left]
 
 
-def link_of(edge: Edge, lanes: Sequence[Lane], number: Mapping[str, int], options: Options) -> Link:
-    wished = lanes[0].speed / limits.CELL_METRES + options.dawdle / 1000
-    limit = min(range(1, limits.LIMIT + 1), key=lambda cells: abs(cells - wished))
-    cells = max(1, round(lanes[0].metres / limits.CELL_METRES))
+def link_of(
+    edge: Edge, lanes: Sequence[Lane], number: Mapping[str, int], options: Options, in_ring: bool
+) -> Link:
+    """The link of some lanes of an edge; number: of each junction."""
+    limit, cells = limit_and_cells(lanes[0], options.dawdle / 1000, in_ring)
     return Link(
         edge.name,
         tuple(lane.index for lane in lanes),
@@ -373,6 +388,30 @@ def link_of(edge: Edge, lanes: Sequence[Lane], number: Mapping[str, int], option
         lanes[0].speed,
         middle(lanes),
     )
+
+
+def limit_and_cells(lane: Lane, dawdle: float, in_ring: bool) -> tuple[int, int]:
+    """The limit of a lane in cells a step, and its cells; dawdle: a chance, 0 to 1. Where no limit is near its speed it
+    has so many that one alone takes as long as in SUMO; but for a roundabout's, which is made up for at its
+    junctions."""
+    wished = lane.speed / limits.CELL_METRES + dawdle
+    limit = min(range(1, limits.LIMIT + 1), key=lambda cells: abs(cells - wished))
+    free = (limit - dawdle) * limits.CELL_METRES
+    if in_ring or not lane.speed or abs(free - lane.speed) <= OTHER_SPEED * lane.speed:
+        return limit, limits.cells_of(lane.metres)
+    limit = min(FREE_LIMITS, key=lambda cells: abs(log((cells - dawdle) * limits.CELL_METRES / lane.speed)))
+    return limit, max(1, round(lane.metres / lane.speed * (limit - dawdle)))
+
+
+def buffers(links: Sequence[Link], nodes: int, options: Options) -> list[int]:
+    """Vehicles in a buffer for each node: the given ones, and of each lane that leads there its share of those for
+    whom the streets behind lack cells, for the sake of their speed."""
+    lanes, lacking = Counter[int](), Counter[int]()
+    for link in links:
+        lanes[link.end] += len(link.lanes)
+        lacking[link.begin] += max(0, limits.cells_of(link.metres) - link.cells) * len(link.lanes)
+    more = (round(lacking[node] / lanes[node]) if lanes[node] else 0 for node in range(nodes))
+    return [min(limits.BUFFER, options.buffer + extra) for extra in more]
 
 
 def middle(lanes: Sequence[Lane]) -> list[Point]:
@@ -389,9 +428,9 @@ def middle(lanes: Sequence[Lane]) -> list[Point]:
 def residences(
     edges: Sequence[Edge], net: SumoNet, links: Sequence[Link], nodes: Sequence[str], options: Options, flows: Flows
 ) -> list[int]:
-    """Steps in a buffer for each node: the given ones at signals and real junctions, 1 elsewhere. At real junctions
-    without a light, and where streets meet a roundabout, more, as many as its vehicles lose on average that
-    turn or have to look out."""
+    """Steps in a buffer for each of the nodes, which are junctions' names: the given ones at signals and real
+    junctions, 1 elsewhere. At real junctions without a light, and where streets meet a roundabout, more, as many as its
+    vehicles lose on average that turn or have to look out."""
     into, out = Counter(edge.end for edge in edges), Counter(edge.begin for edge in edges)
     real = {name for name in nodes if into[name] >= 2 and out[name] >= 2 and into[name] + out[name] >= 5}
     ring = {name for edge in edges if edge.name in net.roundabouts for name in (edge.begin, edge.end)}
@@ -409,7 +448,8 @@ def longer_here(link: Link, options: Options) -> float:
 
 
 def losses(net: SumoNet, names: Sequence[str], flows: Flows, longer: Mapping[str, float]) -> dict[str, int]:
-    """Whole seconds that vehicles lose at junctions, on average; what rounding owes is carried on to the next."""
+    """Whole seconds that vehicles lose at the junctions of these names, on average; what rounding owes is carried on to
+    the next."""
     connections, found, owed = connections_of(net), {}, 0.0
     for name in names:
         total, seconds = lost(connections[name], net, flows, longer)

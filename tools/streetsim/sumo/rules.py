@@ -1,26 +1,35 @@
 """What is other here than in SUMO, as far as it concerns a network."""
-from __future__ import annotations
-
 from collections import Counter, defaultdict
 
-from .. import limits
-from .net import SumoNet
-from .network import Network
-from .report import Report, some
+from streetsim.base import limits
+from streetsim.base.report import Report, some
+from streetsim.sumo.net import SumoNet
+from streetsim.sumo.network import OTHER_SPEED, Link, Network
 
 MUCH = 1.1  # times as long as in SUMO
 FAST = 22.0  # metres a second: from here on a road with a merge is told
+# What junctions without a light, and states of connections and of lights, are made of here: those of SUMO that are left
+# are zippers, and what is of railways.
+TYPES = {
+    *("priority", "priority_stop", "allway_stop", "right_before_left", "left_before_right", "dead_end", "unregulated"),
+    *("traffic_light", "traffic_light_unregulated", "traffic_light_right_on_red", "unknown", "internal", "district"),
+}
+RING_EDGES, RING_METRES = 12, 400.0  # of a ring, at most
+STATES, SHOWN_STATES = set("Mm=sw-"), set("GgrRyYuUoOs")
 
 
 def warn_of_rules(net: SumoNet, network: Network, report: Report) -> None:
+    """Reports all of them."""
     warn_of_classes(net, network, report)
     warn_of_lengths(network, report)
     warn_of_speeds(network, report)
     warn_of_merges(net, report)
     warn_of_lanes(net, network, report)
+    warn_of_unknown(net, report)
 
 
 def warn_of_classes(net: SumoNet, network: Network, report: Report) -> None:
+    """Lanes that are closed to the classes."""
     if net.closed_lanes:
         classes = " and ".join(network.options.classes)
         report.warn(
@@ -31,14 +40,14 @@ def warn_of_classes(net: SumoNet, network: Network, report: Report) -> None:
 
 
 def warn_of_lengths(network: Network, report: Report) -> None:
+    """Edges that are shorter than a cell, or become longer by more than a tenth."""
     short = sorted({link.edge for link in network.links if link.metres < limits.CELL_METRES})
     if short:
         report.warn(
             f"{len(short)} edges are shorter than a cell of {limits.CELL_METRES} m and get one: {some(short)}", short
         )
-    longer = [
-        link for link in network.links if limits.CELL_METRES <= MUCH * link.metres < link.cells * limits.CELL_METRES
-    ]
+    whole = ((link, limits.cells_of(link.metres) * limits.CELL_METRES) for link in network.links)
+    longer = [link for link, metres in whole if limits.CELL_METRES <= MUCH * link.metres < metres]
     if names := sorted({link.edge for link in longer if link.metres >= limits.CELL_METRES}):
         report.warn(
             f"{len(names)} edges are longer here than in SUMO by more than a tenth, "
@@ -49,17 +58,31 @@ def warn_of_lengths(network: Network, report: Report) -> None:
 
 
 def warn_of_speeds(network: Network, report: Report) -> None:
-    edges_of = defaultdict(list)
+    """Speeds near which no limit is: their links have other cells, so that they take as long as in SUMO."""
+    links_of = defaultdict(list)
     for link in network.links:
-        edges_of[link.speed, link.limit].append(link.edge)
-    for (speed, limit), edges in sorted(edges_of.items()):
+        links_of[link.speed, link.limit].append(link)
+    for (speed, limit), links in sorted(links_of.items()):
         free = (limit - network.options.dawdle / 1000) * limits.CELL_METRES
-        if abs(free - speed) > 0.1 * speed:
+        if abs(free - speed) > OTHER_SPEED * speed:
+            usual, cells = (sum(map(count, links)) for count in (usual_cells, cells_here))
+            share = round(100 * (cells / usual - 1))
+            how = f"{abs(share)} % {'fewer' if share < 0 else 'more'} cells, so that it takes as long as in SUMO"
             told = (
-                f"{speed * 3.6:.0f} km/h becomes {limit} cells a step, {free * 3.6:.0f} km/h when free: "
-                f"{len(edges)} links"
+                f"{speed * 3.6:.0f} km/h becomes {limit} cells a step, {free * 3.6:.0f} km/h when free"
+                f"{f', on {how}' if share else ''}: {len(links)} links"
             )
-            report.warn(told, dict.fromkeys(edges))
+            report.warn(told, dict.fromkeys(link.edge for link in links), light=share != 0)
+
+
+def usual_cells(link: Link) -> int:
+    """The cells of a link's length."""
+    return limits.cells_of(link.metres)
+
+
+def cells_here(link: Link) -> int:
+    """The cells that a link has, by its length or its speed."""
+    return link.cells
 
 
 def warn_of_merges(net: SumoNet, report: Report) -> None:
@@ -81,7 +104,8 @@ def warn_of_merges(net: SumoNet, report: Report) -> None:
 
 
 def warn_of_lanes(net: SumoNet, network: Network, report: Report) -> None:
-    minor = sum(connection.state in "m=" and not connection.light for connection in net.connections)
+    """Connections that give way, turns and links that SUMO does not have, and lanes that are joint."""
+    minor = sum(connection.state in "m=sw" and not connection.light for connection in net.connections)
     if minor:
         told = f"{minor} connections have to give way in SUMO; here those that routes use do, by rounds before each run"
         report.warn(told, light=True)
@@ -100,3 +124,49 @@ def warn_of_lanes(net: SumoNet, network: Network, report: Report) -> None:
     if network.closing:
         names = some(sorted(network.closing))
         report.warn(f"lanes are joint that lead to different edges, as --joint asks: edges {names}", light=True)
+
+
+def warn_of_unknown(net: SumoNet, report: Report) -> None:
+    """Junctions, and states of connections and lights, for which nothing is done here."""
+    ends = {edge.end for edge in net.edges.values()}
+    junctions = defaultdict(list)
+    for name, kind in net.types.items():
+        if kind not in TYPES and name in ends:
+            junctions[kind].append(name)
+    for kind, names in sorted(junctions.items()):
+        told = f"{len(names)} junctions are of type {kind}, which does nothing here: {some(names)}"
+        report.warn(told, names, "judge them by SUMO")
+    edges = defaultdict(list)
+    for one in net.connections:
+        if not one.light and one.state not in STATES:
+            edges[one.state].append(one.source)
+    for state, names in sorted(edges.items()):
+        told = f"{len(names)} connections have the state {state!r}, which does nothing here: edges {some(set(names))}"
+        report.warn(told, dict.fromkeys(names), "judge them by SUMO")
+    for light, program in net.programs.items():
+        if unknown := set().union(*(state for _, state in program.phases)) - SHOWN_STATES:
+            told = f"light {light!r}: states {' '.join(sorted(unknown))} are shown red"
+            report.warn(told, [light], "judge it by SUMO")
+    for names in rings_that_yield(net):
+        told = f"a ring whose entries go first, which fills and locks as in SUMO: edges {some(names)}"
+        report.warn(told, names, "netconvert --roundabouts.guess, or a <roundabout> of them, lets the ring go first")
+
+
+def rings_that_yield(net: SumoNet) -> list[list[str]]:
+    """The short rings of edges in one direction of which each gives way, where streets enter, to these."""
+    ways = {(edge.begin, edge.end) for edge in net.edges.values()}
+    following: dict[str, str] = {}
+    for one in net.connections:
+        source, target = net.edges[one.source], net.edges[one.target]
+        alone = all((edge.end, edge.begin) not in ways for edge in (source, target))
+        if alone and not one.light and one.state in "m=" and net.yields_of(one):
+            following.setdefault(one.source, one.target)
+    found: dict[frozenset[str], list[str]] = {}
+    for begin in following:
+        ring, at = [begin], following[begin]
+        while at != begin and at in following and len(ring) < RING_EDGES:
+            ring.append(at)
+            at = following[at]
+        if at == begin and sum(net.edges[name].lanes[0].metres for name in ring) <= RING_METRES:
+            found.setdefault(frozenset(ring), ring)
+    return list(found.values())

@@ -1,30 +1,26 @@
 """Signal commands, made of SUMO's signal programs."""
-from __future__ import annotations
-
 from collections import defaultdict
 from collections.abc import Iterable, Iterator, Mapping, Sequence
-from itertools import cycle as cycle_of
-from itertools import chain, groupby, product, takewhile
-from typing import TYPE_CHECKING, Any
+from dataclasses import dataclass, field
+from itertools import chain, cycle as cycle_of, groupby, product, takewhile
 
-from .. import limits
-from ..files import Fault
-from .report import Report, some
-from .yielding import GREEN, PERMISSIVE, TWO_PARTS, hidden_middle, hidden_start, movements_of, places, runs_of, settle
+from streetsim.base import limits
+from streetsim.base.files import Fault
+from streetsim.base.report import Report, some
+from streetsim.model.mapping import MapTurn
+from streetsim.model.runs import Command
+from streetsim.model.waiting import TurnKey
+from streetsim.sumo.losses import Flows
+from streetsim.sumo.net import Connection, Program, SumoNet, connections_of
+from streetsim.sumo.network import Network, Turn
+from streetsim.sumo.yielding import (
+    GREEN, OPEN, STOPPED, TWO_PARTS, Movement, hidden_middle, hidden_start, movements_of, places,
+    places_in_red, runs_of, settle,
+)
 
-if TYPE_CHECKING:
-    from ..run.mapping import MapTurn
-    from .conflicts import Flows, TurnKey
-    from .net import Connection, Program, SumoNet
-    from .network import Network, Turn
-    from .yielding import Movement
-
-    Green = frozenset[TurnKey]
-    AtLight = tuple[int, int, int, Turn | MapTurn]  # link, lane, next link
-
-Command = dict[str, Any]
-Own = tuple[Any, ...]  # the words of `signal`
-Told = Mapping[Any, Mapping[int, tuple[int, int]]]  # by index: of each permissive green its seconds and parts
+Green = frozenset[TurnKey]
+AtLight = tuple[int, int, int, Turn | MapTurn]  # link, lane, next link
+Told = Mapping[int | None, Mapping[int, tuple[int, int]]]  # by index: of each permissive green its seconds and parts
 DEFAULT_SHARE = 0.7  # of a permissive green that is shown, where nothing is known of who gives way
 LONGEST = 200_000  # seconds of a cycle that are read
 AFTER = 86_400  # seconds after the last departure for which a program is told that does not fit in one plan
@@ -32,6 +28,28 @@ QUEUED = 90  # seconds of a green above 600 s in which a queue leaves
 GRAINS = (1, 2, 3, 5, 8, 12, 20)  # seconds to which greens are rounded: the first that gives few phases
 # Those to which the seconds left out in the middle of greens are rounded, as they are two at least.
 FINE = GRAINS[:2]
+
+
+@dataclass(frozen=True, slots=True)
+class LitNode:
+    """A node with a light. Without what was found of who gives way, a share of each permissive green is shown."""
+
+    node: int
+    turns: Sequence[AtLight]
+    edges: Mapping[int, str]  # of the turns' links
+    light: str
+    program: Program
+    permissive: float | None  # the share, of each permissive green its last part; none: the usual one
+    report: Report
+    found: Mapping[int, Movement] = field(default_factory=dict)  # by request: who gives way there
+
+    def states(self) -> list[str]:
+        """The light's state in each second of its cycle."""
+        return each_second(self.light, self.program, self.report)
+
+    def told(self, states: Sequence[str]) -> Told:
+        """Of each permissive green what is shown; states: as `states` gives them."""
+        return by_gaps(self.found) if self.found else by_share(self.light, self.turns, states, self.permissive)
 
 
 def movements(net: SumoNet, network: Network, flows: Flows, report: Report) -> dict[str, dict[int, Movement]]:
@@ -42,14 +60,6 @@ def movements(net: SumoNet, network: Network, flows: Flows, report: Report) -> d
     for junction, connections in connections_of(net).items() if flows else ():
         if at_junction := movements_of_junction(junction, connections, net, flows, limits_of, report):
             found[junction] = at_junction
-    return found
-
-
-def connections_of(net: SumoNet) -> dict[str, list[Connection]]:
-    """The connections of each junction."""
-    found = defaultdict(list)
-    for connection in net.connections:
-        found[net.edges[connection.source].end].append(connection)
     return found
 
 
@@ -82,7 +92,8 @@ def light_of(turns: Iterable[Connection], net: SumoNet) -> str | None:
 def signals(
     net: SumoNet, network: Network, movements_at: Mapping[str, Mapping[int, Movement]], report: Report
 ) -> list[tuple[str, Command]]:
-    """A signal command for each node with a light, and for each the light's name."""
+    """A signal command for each node with a light, (the light's name, command), or a line for each phase of a program
+    that does not fit in one plan."""
     turns_at = defaultdict(list)
     for (link, lane, following), turn in network.turns.items():
         turns_at[network.links[link].end].append((link, lane, following, turn))
@@ -99,11 +110,12 @@ def signals(
             edges = {link: network.links[link].edge for link, *_ in turns}
             found = movements_at.get(junction, {}) if network.options.permissive is None else {}
             program, permissive = net.programs[known[0]], network.options.permissive
-            own = node, turns, edges, known[0], program, permissive, report, found
+            own = LitNode(node, turns, edges, known[0], program, permissive, report, found)
             made += [(known[0], command) for command in signal_lines(own, network.options.begin, network.last + AFTER)]
     for light in sorted({light for light, _ in made}):
         if net.programs[light].kind != "static":
-            report.warn(f"light {light!r} is {net.programs[light].kind}: its listed durations are used")
+            but = ", but where streetsim-run drives it by detectors" if net.programs[light].kind == "actuated" else ""
+            report.warn(f"light {light!r} is {net.programs[light].kind}: its listed durations are used{but}")
     return made
 
 
@@ -111,66 +123,55 @@ class TooLong(Fault):
     """A program that does not fit in the phases of one plan."""
 
 
-def signal_lines(own: Own, begin: int, last: int) -> list[Command]:
-    """The signal command of a light, of the words of `signal`; of a program that does not fit in one plan a line for
-    each phase from a begin to a last second, as a plan of one phase stays until the next."""
+def signal_lines(own: LitNode, begin: int, last: int) -> list[Command]:
+    """The signal command of a node; of a program that does not fit in one plan a line for each phase from a begin to a
+    last second, as a plan of one phase stays until the next."""
     try:
-        return [signal(*own)]
+        return [signal(own)]
     except TooLong:
-        light, report = own[3], own[6]
-    report.warn(f"light {light!r}: {cycle_told(own)}; its phases are lines, until {last:,} s", light=True)
+        pass
+    own.report.warn(f"light {own.light!r}: {cycle_told(own)}; its phases are lines, until {last:,} s", light=True)
     lines = takewhile(lambda line: line[0] <= last, phase_lines(own, begin))
     return [{**command, "at": clock} if clock > begin else command for clock, command in lines]
 
 
-def cycle_told(own: Own) -> str:
-    return f"a cycle of {len(each_second(own[3], own[4], own[6])):,} s does not fit in one plan"
+def cycle_told(own: LitNode) -> str:
+    """What is said of a program that does not fit in one plan."""
+    return f"a cycle of {len(own.states()):,} s does not fit in one plan"
 
 
-def phase_lines(own: Own, begin: int) -> Iterator[tuple[int, Command]]:
-    """The signal commands of a light's phases from a begin on, (clock, command), without end: a plan of one phase stays
-    until the next is sent. `own`: the words of `signal`."""
-    node, turns, _, light, program, permissive, report, found = own
-    states = each_second(light, program, report)
-    told = by_gaps(found) if found else by_share(light, turns, states, permissive)
-    greens = green_seconds(light, turns, states, told, 1, True)
-    place = (begin + round(-program.offset)) % len(greens)
+def phase_lines(own: LitNode, begin: int) -> Iterator[tuple[int, Command]]:
+    """The signal commands of a node's phases from a begin on, (clock, command), without end: a plan of one phase stays
+    until the next is sent."""
+    states = own.states()
+    greens = green_seconds(own, states, own.told(states), 1, True)
+    place = (begin + round(-own.program.offset)) % len(greens)
     runs = [(green, len(list(run))) for green, run in groupby(greens[place:] + greens[:place])]
     clock, shown = begin, None
     for green, length in cycle_of(runs) if len(runs) > 1 else runs:
         if green != shown:
             phases = [[limits.PHASE_STEPS, sorted([*turn] for turn in green)]]
-            yield clock, {"cmd": "signal", "node": node, "offset": 0, "phases": phases}
+            yield clock, {"cmd": "signal", "node": own.node, "offset": 0, "phases": phases}
         clock, shown = clock + length, green
 
 
-def signal(
-    node: int,
-    turns: Sequence[AtLight],
-    edges: Mapping[int, str],
-    light: str,
-    program: Program,
-    permissive: float | None,
-    report: Report,
-    found: Mapping[int, Movement] | None = None,
-) -> Command:
-    """The signal command of one node, of its turns (link, lane, next link, with light and index), the edges of their
-    links, and what was found of who gives way there; else the last share of each permissive green is shown."""
-    states = each_second(light, program, report)
-    check_states(light, states, [turn for *_, turn in turns])
+def signal(own: LitNode) -> Command:
+    """The signal command of one node; TooLong where its program does not fit in one plan."""
+    light, report, states = own.light, own.report, own.states()
+    check_states(light, states, [turn for *_, turn in own.turns])
     if len(states) > limits.PHASES * limits.PHASE_STEPS:
         raise TooLong(
             f"light {light!r}: a cycle of {len(states):,} s does not fit in {limits.PHASES} phases of "
             f"{limits.PHASE_STEPS} s"
         )
-    told = by_gaps(found) if found else by_share(light, turns, states, permissive)
+    told = own.told(states)
     for middle, grain in chain(product([True], FINE), product([False], GRAINS)):
-        phases = run_lengths(green_seconds(light, turns, states, told, grain, middle))
+        phases = run_lengths(green_seconds(own, states, told, grain, middle))
         if len(phases) <= limits.PHASES:
             break
     if len(phases) > limits.PHASES:
         report.warn(f"light {light!r}: more than {limits.PHASES} phases, so permissive greens are green throughout")
-        phases = run_lengths(green_seconds(light, turns, states, {}, 1, False))
+        phases = run_lengths(green_seconds(own, states, {}, 1, False))
     if len(phases) > limits.PHASES:
         report.warn(
             f"light {light!r}: still more than {limits.PHASES} phases; the shortest are joined to those before them"
@@ -181,8 +182,8 @@ def signal(
             raise TooLong(f"light {light!r}: {fault}") from None
     never = sorted(
         {
-            edges[link]
-            for link, lane, following, _ in turns
+            own.edges[link]
+            for link, lane, following, _ in own.turns
             if not any((link, lane, following) in green for _, green in phases)
         }
     )
@@ -191,15 +192,15 @@ def signal(
     cycle = sum(duration for duration, _ in phases)
     return {
         "cmd": "signal",
-        "node": node,
-        "offset": round(-program.offset) % cycle,
+        "node": own.node,
+        "offset": round(-own.program.offset) % cycle,
         "phases": [[duration, sorted([*turn] for turn in green)] for duration, green in phases],
     }
 
 
 def each_second(light: str, program: Program, report: Report) -> list[str]:
-    """The program's state in each second of its cycle; durations are rounded by running sum,
-    so that the cycle stays."""
+    """The program's state in each second of its cycle; durations are rounded by running sum, so that the cycle stays.
+    Fault where it is no second long, or far too long."""
     states: list[str] = []
     clock = 0.0
     if (cycle := sum(duration for duration, _ in program.phases)) > LONGEST:
@@ -214,7 +215,7 @@ def each_second(light: str, program: Program, report: Report) -> list[str]:
     return states
 
 
-def check_states(light: str, states: Sequence[str], turns: Iterable[Any]) -> None:
+def check_states(light: str, states: Sequence[str], turns: Iterable[Turn | MapTurn | Connection]) -> None:
     """Refuses a program whose states do not have a place for each of some turns."""
     for turn in turns:
         if turn.light == light and any(turn.index >= len(state) for state in states):
@@ -233,23 +234,22 @@ def by_gaps(found: Mapping[int, Movement]) -> Told:
 
 
 def by_share(light: str, turns: Sequence[AtLight], states: Sequence[str], permissive: float | None) -> Told:
-    """The same by the last share of each permissive green, the usual one where none is given."""
-    share, told = DEFAULT_SHARE if permissive is None else permissive, {}
+    """The same by the last share of each permissive green, 0 to 1, the usual one where none is given."""
+    share = DEFAULT_SHARE if permissive is None else permissive
+    told: dict[int | None, dict[int, tuple[int, int]]] = {}
     for index in {turn.index for *_, turn in turns if turn.light == light}:
-        runs = runs_of("".join(state[index] for state in states), PERMISSIVE)
+        runs = runs_of("".join(state[index] for state in states), OPEN)
         told[index] = {start: (length - round(length * (1 - share)), 1) for start, length in runs.items()}
     return told
 
 
-def green_seconds(
-    light: str, turns: Sequence[AtLight], states: Sequence[str], told: Told, grain: int, middle: bool
-) -> list[Green]:
-    """The green turns of each second. Turns that the light does not control are always green."""
+def green_seconds(own: LitNode, states: Sequence[str], told: Told, grain: int, middle: bool) -> list[Green]:
+    """The green turns of each second, as `shown_green` says. Turns that the light does not control are always green."""
     greens: list[set[TurnKey]] = [set() for _ in states]
-    for link, lane, following, turn in turns:
+    for link, lane, following, turn in own.turns:
         shown = (
             shown_green("".join(state[turn.index] for state in states), told.get(turn.index, {}), turn, grain, middle)
-            if turn.light == light
+            if turn.light == own.light
             else [True] * len(states)
         )
         for green, on in zip(greens, shown, strict=True):
@@ -261,27 +261,32 @@ def green_seconds(
 def shown_green(
     states: str, told: Mapping[int, tuple[int, int]], turn: Turn | MapTurn, grain: int, middle: bool
 ) -> list[bool]:
-    """For each second whether a turn shows green. Of each permissive green only so many seconds as are told, in so many
-    parts. Of each other green that no permissive one goes before seconds are left out, as SUMO's queues start later and
-    turn slower: in its middle, or else at its begin. All is rounded down to a grain of seconds."""
+    """For each second whether a turn shows green; states: its own, a letter a second. Of each permissive green only so
+    many seconds as are told, in so many parts. Of each other green that no permissive one goes before seconds are left
+    out, as SUMO's queues start later and turn slower: in its middle, or else at its begin. All is rounded down to a
+    grain of seconds."""
     count = len(states)
     shown = [state in GREEN for state in states]
-    for start, length in runs_of(states, PERMISSIVE).items():
-        for begin, end in places(length, *told.get(start, (length, 1))):
+    greens, reds = runs_of(states, OPEN).items(), runs_of(states, STOPPED).items()
+    pieces = [(start, length, places(length, *told.get(start, (length, 1)))) for start, length in greens]
+    pieces += [(start, length, places_in_red(length, told.get(start, (0, 1))[0])) for start, length in reds]
+    for start, length, found in pieces:
+        for begin, end in found:
             begin = begin // grain * grain
             end = length if end == length else max(begin + grain, end // grain * grain)
             for second in range(begin, min(end, length)):
                 shown[(start + second) % count] = True
     for start, length in runs_of(states, GREEN).items():
-        if length < count and states[start - 1] not in PERMISSIVE:
+        if length < count and states[start - 1] not in OPEN:
             for second in hidden(length if length <= limits.PHASE_STEPS else QUEUED, turn, grain, middle):
                 shown[(start + second) % count] = False
     return shown
 
 
 def hidden(length: int, turn: Turn | MapTurn, grain: int, middle: bool) -> range:
-    """The seconds of a green that are not shown, in its middle or at its begin. Of a short one they are rounded to the
-    nearest: a second of seven lets a quarter more pass, which a search for plans would find."""
+    """The seconds of a green of such a length that are not shown, from its begin: in its middle, or at its begin. Of a
+    short one they are rounded to the nearest: a second of seven lets a quarter more pass, which a search for plans
+    would find."""
     own = length, turn.speed, turn.limit
     begin, end = hidden_middle(*own) if middle else (0, hidden_start(*own))
     nearest = grain // 2 if length < TWO_PARTS else 0
@@ -290,7 +295,7 @@ def hidden(length: int, turn: Turn | MapTurn, grain: int, middle: bool) -> range
 
 
 def run_lengths(greens: Iterable[Green]) -> list[tuple[int, Green]]:
-    """Phases of at most the longest duration."""
+    """Phases of equal greens, (seconds, green), of at most the longest duration; greens: of each second."""
     phases = []
     for green, run in groupby(greens):
         length = len(list(run))
@@ -301,7 +306,8 @@ def run_lengths(greens: Iterable[Green]) -> list[tuple[int, Green]]:
 
 
 def joined(phases: Iterable[tuple[int, Green]]) -> list[tuple[int, Green]]:
-    """As many phases as there may be: the shortest goes to the one before it, as long as that is not too long."""
+    """As many phases as there may be: the shortest goes to the one before it, as long as that is not too long; TooLong
+    where that does not do."""
     made = list(phases)
     while len(made) > limits.PHASES:
         fitting = [at for at in range(1, len(made)) if made[at - 1][0] + made[at][0] <= limits.PHASE_STEPS]

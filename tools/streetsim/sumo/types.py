@@ -1,14 +1,12 @@
 """Reads SUMO vehicle types and gives their vehicles sizes: how many cells each takes."""
-from __future__ import annotations
-
 import random
 from collections import Counter, defaultdict
 from dataclasses import dataclass
 from xml.etree.ElementTree import Element
 
-from .. import limits
-from ..files import Fault, FilePath, above_zero, at_least_zero, attribute, filled, number, optional, told
-from .report import Report, some
+from streetsim.base import limits
+from streetsim.base.files import Fault, FilePath, above_zero, at_least_zero, attribute, filled, number, optional, told
+from streetsim.base.report import Report, some
 
 # SUMO's vehicle classes.
 CLASSES = (
@@ -64,7 +62,7 @@ class Kind:
 
 
 def class_of(path: FilePath, element: Element) -> str:
-    """The vehicle class of a type, by the name that SUMO has for it."""
+    """The vehicle class of a type, by the name that SUMO has for it; Fault where it has none."""
     name = element.get("vClass") or "passenger"
     name = FORMER.get(name, name)
     if name not in CLASSES and name != FREE:
@@ -73,6 +71,7 @@ def class_of(path: FilePath, element: Element) -> str:
 
 
 def weights_of(text: str) -> list[float]:
+    """Numbers with spaces between, none below 0; ValueError otherwise."""
     return [at_least_zero(number)(part) for part in text.split()]
 
 
@@ -81,6 +80,7 @@ class Types:
     distributions, from which the type of each vehicle is drawn."""
 
     def __init__(self, seed: int, report: Report) -> None:
+        """seed: of the draws from distributions."""
         self.report = report
         self.metres = {DEFAULT: sum(USUAL), "DEFAULT_TAXITYPE": sum(USUAL)}
         self.metres["DEFAULT_BIKETYPE"] = sum(BY_CLASS["bicycle"])
@@ -91,12 +91,14 @@ class Types:
         self.unknown: set[str] = set()
 
     def read(self, path: FilePath, element: Element) -> None:
+        """Adds a type or a distribution of types."""
         if element.tag == "vType":
             self.read_type(path, element)
         else:
             self.read_mix(path, element)
 
     def read_type(self, path: FilePath, element: Element) -> None:
+        """Adds a type; what it does not tell is as SUMO's defaults for its class."""
         vclass = class_of(path, element)
         length, gap = BY_CLASS.get(vclass, USUAL)
         length = optional(path, element, "length", above_zero(number), length)
@@ -109,7 +111,7 @@ class Types:
             self.report.ignored[f"{name} of vTypes"] += 1
 
     def new_name(self, path: FilePath, element: Element) -> str:
-        """The name of a type or a distribution, which no other has."""
+        """The name of a type or a distribution; Fault where another one of the files has it."""
         name = attribute(path, element, "id", filled)
         if name in self.named:
             raise Fault(f"{told(path, element)}: a second vehicle type of this name")
@@ -117,6 +119,7 @@ class Types:
         return name
 
     def read_mix(self, path: FilePath, element: Element) -> None:
+        """Adds a distribution, with the types that stand in it; Fault where it names an unknown one, or has none."""
         names, weights = (element.get("vTypes") or "").split(), []
         shares = attribute(path, element, "probabilities", weights_of) if element.get("probabilities") else []
         for place, name in enumerate(names):
@@ -132,7 +135,8 @@ class Types:
         self.mixes[self.new_name(path, element)] = names, weights
 
     def drawn(self, name: str | None) -> str:
-        """The type that a vehicle has: the one that is named, or one of the distribution that is named."""
+        """The type that a vehicle has: the one that is named, or one of the distribution that is named; the usual one
+        where none is named, or one that no file tells."""
         if name in self.mixes:
             names, weights = self.mixes[name]
             return self.draws.choices(names, weights)[0]
@@ -165,7 +169,8 @@ class Sizes:
         return size
 
     def tell(self, report: Report) -> None:
-        """How many took which size and the metres of all, where some are longer than a cell; what does not fit."""
+        """Reports how many took which size and the metres of all, where some are longer than a cell; what does not
+        fit."""
         if self.types.unknown:
             report.warn(f"vehicle types that no file tells are taken for cars: {some(sorted(self.types.unknown))}")
         if self.too_long:

@@ -15,10 +15,9 @@ from collections.abc import Collection, Iterable, Mapping, Sequence
 from dataclasses import dataclass, field
 from functools import cache
 from itertools import pairwise
-from typing import TYPE_CHECKING, Any
+from typing import Any
 
-if TYPE_CHECKING:
-    from .net import Connection
+from streetsim.sumo.net import Connection
 
 Way = tuple[str, str]  # an edge and the next one
 Meeting = tuple[int, tuple["Movement", ...]]  # seconds, and the foes that are green in them
@@ -39,8 +38,11 @@ SHORT = (0.8, 0.97, 1.68, 2.45, 2.82, 3.37)  # in 1 to 6 seconds so many
 TWO_PARTS = 9  # seconds of green, from which on seconds in its middle hold a queue up as wanted
 USUAL_SPEED = 13.9  # metres a second, where a junction's is not known
 START = USUAL_SPEED / (2 * ACCELERATION) - EARLY  # seconds until a queue moves that drives straight on, in SUMO
-GREEN, PERMISSIVE = "GsO", "go"
-SHOWN = GREEN + PERMISSIVE
+GREEN, OPEN, STOPPED = "GO", "go", "s"  # goes first; when there is a gap; the same after a stop, as right on red
+PERMISSIVE, SHOWN = OPEN + STOPPED, GREEN + OPEN
+# Vehicles an hour that go after a stop into a stream of so many, measured at lone stop signs.
+AFTER_STOP = ((0.0, 568.0), (100.0, 275.0), (200.0, 183.0), (400.0, 130.0), (600.0, 109.0), (1000.0, 84.0))
+LEAST_STOPPED = 0.4  # vehicles in a red, below which none go
 
 
 def hourly_flows(vehicles: Iterable[Any]) -> dict[Way, float]:
@@ -69,6 +71,7 @@ class Movement:
     headway: float  # seconds between vehicles of a queue, in SUMO
     limit: int  # of its link, cells a step
     runs: dict[int, int]  # first second of a permissive green: its length
+    stops: dict[int, int] = field(default_factory=dict)  # the same of reds in which one may go after a stop
     foes: list[Movement] = field(default_factory=list)  # that it gives way to
     meets: dict[int, list[Meeting]] = field(default_factory=dict)  # by first second of a permissive green
     # By first second of a permissive green: how many seconds of it are shown.
@@ -81,7 +84,13 @@ class Movement:
 
     @property
     def waits(self) -> bool:
+        """Whether its vehicles wait for gaps: it has permissive greens, and foes."""
         return bool(self.runs and self.foes)
+
+    @property
+    def shown_open(self) -> int:
+        """The seconds of its permissive greens that are shown."""
+        return sum(self.shown[start] for start in self.runs)
 
 
 def movements_of(
@@ -91,7 +100,8 @@ def movements_of(
     flows: Mapping[Way, float],
     limits_of: Mapping[str, int],
 ) -> dict[int, Movement]:
-    """The movements of a junction, by the connections' requests."""
+    """The movements of a junction, by the connections' requests. states: of its light, by second; yields: by request
+    those that it gives way to; flows: vehicles an hour; limits_of: cells a step, by edge."""
     sharing = Counter((connection.source, connection.target) for connection in connections)
     found = {}
     for connection in connections:
@@ -101,7 +111,8 @@ def movements_of(
         found[connection.request] = movement_of(connection, states, flow, limits_of[connection.source])
     for request, movement in found.items():
         movement.foes = [found[foe] for foe in sorted(yields.get(request, ())) if foe in found and found[foe].flow]
-        movement.meets = {start: meetings(movement, start, length) for start, length in movement.runs.items()}
+        runs = {**movement.runs, **movement.stops}
+        movement.meets = {start: meetings(movement, start, length) for start, length in runs.items()}
     for movement in found.values():
         set_lane(movement, found.values())
     return found
@@ -120,6 +131,8 @@ def set_lane(movement: Movement, movements: Collection[Movement]) -> None:
 
 
 def movement_of(connection: Connection, states: Sequence[str], flow: float, limit: int) -> Movement:
+    """The movement of a connection, alone; states: of its light, by second; flow: vehicles an hour; limit: of its link,
+    cells a step."""
     lit, cycle = connection.light is not None, len(states)
     own = "".join(state[connection.index] for state in states) if lit else "G" * cycle
     return Movement(
@@ -134,16 +147,18 @@ def movement_of(connection: Connection, states: Sequence[str], flow: float, limi
         passing=flow,
         headway=headway(connection.speed or USUAL_SPEED),
         limit=limit,
-        runs=runs_of(own, PERMISSIVE),
+        runs=runs_of(own, OPEN),
+        stops=runs_of(own, STOPPED),
     )
 
 
 def seconds_of(states: str, shown: str) -> int:
+    """The seconds of a cycle, as bits, that show one of some states."""
     return sum(1 << second for second, state in enumerate(states) if state in shown)
 
 
 def seconds_from(start: int, length: int, cycle: int) -> int:
-    """So many seconds from one on, round the cycle."""
+    """So many seconds from one on, round the cycle, as bits."""
     bits = ((1 << min(length, cycle)) - 1) << start % cycle
     return (bits | bits >> cycle) & ((1 << cycle) - 1)
 
@@ -161,12 +176,13 @@ def runs_of(states: str, shown: str) -> dict[int, int]:
 
 
 def red_before(states: str, start: int) -> int:
-    """The seconds without green that end where a green begins."""
+    """The seconds without green that end where a green begins; not all of the cycle may be red."""
     return next(steps for steps in range(len(states)) if states[start - steps - 1] in SHOWN)
 
 
 def meetings(movement: Movement, start: int, length: int) -> list[Meeting]:
-    """The seconds of a permissive green by those that are green then of whom it gives way to."""
+    """The seconds of a permissive green, from its first and so many, by those that are green then of whom it gives way
+    to."""
     found: defaultdict[tuple[Movement, ...], int] = defaultdict(int)
     for second in range(start, start + length):
         place = second % movement.cycle
@@ -175,12 +191,12 @@ def meetings(movement: Movement, start: int, length: int) -> list[Meeting]:
 
 
 def headway(speed: float) -> float:
-    """Seconds between vehicles of a queue that pass a junction in SUMO at a speed."""
+    """Seconds between vehicles of a queue that pass a junction in SUMO at a speed, in metres a second."""
     return BEHIND + ROOM / speed
 
 
 def green_here(vehicles: float, limit: int) -> int:
-    """The seconds of green in which so many leave a queue here."""
+    """The seconds of green in which so many leave a queue here; limit: of their link, cells a step."""
     short = next((second for second, passing in enumerate(SHORT, 1) if passing >= vehicles - 0.1), None)
     return short or round(vehicles * HEADWAYS[limit - 1] - AHEAD)
 
@@ -194,12 +210,13 @@ def settle(movements: Sequence[Movement]) -> None:
     for _ in range(ROUNDS):
         for movement in movements:
             movement.shown = {start: seconds_shown(movement, start, length) for start, length in movement.runs.items()}
+            movement.shown |= {start: seconds_after_stop(movement, start) for start in movement.stops}
         if max([pass_through(sharing) for sharing in lanes.values()]) < CLOSE:
             return
 
 
 def pass_through(sharing: Sequence[Movement]) -> float:
-    """Goes half way to what the movements of a lane let pass; gives how far it is."""
+    """Goes half way to what the movements of a lane let pass; gives how far it was, in vehicles an hour."""
     wish = sum(movement.flow for movement in sharing)
     share = min(1.0, capacity(sharing, wish) / wish) if wish else 1.0
     most = max(abs(movement.flow * share - movement.passing) for movement in sharing)
@@ -209,9 +226,9 @@ def pass_through(sharing: Sequence[Movement]) -> float:
 
 
 def seconds_shown(movement: Movement, start: int, length: int) -> int:
-    """The seconds of a permissive green in which as many leave a queue as find a gap in all of it: the mean of cycles
-    with less and with more traffic than usual. On the only lane of an edge as many of all on it, as those who need not
-    wait go first until one comes that must."""
+    """The seconds of a permissive green, from its first and so many, in which as many leave a queue as find a gap in
+    all of it: the mean of cycles with less and with more traffic than usual. On the only lane of an edge as many of all
+    on it, as those who need not wait go first until one comes that must."""
     usual = sum(foe.passing for foe in movement.foes) * movement.cycle / 3600
     cycles = [(weight, max(0.0, 1 + deviations / max(1.0, usual) ** 0.5)) for weight, deviations in SPREAD]
     if movement.waits and movement.lanes == 1:
@@ -219,6 +236,26 @@ def seconds_shown(movement: Movement, start: int, length: int) -> int:
         return seconds_for(movement, vehicles, length)
     vehicles = sum(weight * max(SNEAKERS, finding_gaps(movement, start, factor)) for weight, factor in cycles)
     return min(length, green_here(vehicles, movement.limit))
+
+
+def seconds_after_stop(movement: Movement, start: int) -> int:
+    """The seconds of a red, by its first, that are shown to those who may go after a stop: as many go as find a gap in
+    it."""
+    vehicles, blocked = 0.0, 0
+    for foe in movement.foes:
+        blocked |= queue_seconds(foe, 1.0)
+    for seconds, foes in movement.meets[start]:
+        against = sum(foe.passing for foe in foes)
+        vehicles += (seconds & ~blocked).bit_count() * after_stop(against) / 3600
+    return green_here(vehicles, movement.limit) if vehicles >= LEAST_STOPPED else 0
+
+
+def after_stop(flow: float) -> float:
+    """Vehicles an hour that go after a stop into a flow of so many."""
+    for (low, more), (high, less) in pairwise(AFTER_STOP):
+        if flow <= high:
+            return more + (less - more) * (flow - low) / (high - low)
+    return AFTER_STOP[-1][1]
 
 
 def lane_there(movement: Movement, start: int, length: int, factor: float) -> float:
@@ -238,8 +275,8 @@ def lane_there(movement: Movement, start: int, length: int, factor: float) -> fl
 
 
 def lane_queue(movement: Movement, foe: Movement, factor: float) -> int:
-    """As `queue_seconds`, of a foe's lane: of all on it, as those who wait hold up the others, but where most do not
-    go first of these alone."""
+    """As `queue_seconds`, of a foe's lane: of all on it, as those who wait hold up the others, but where most do not go
+    first of these alone."""
     first = [one for one in movement.foes if one.lane == foe.lane]
     most = 2 * sum(one.passing for one in first) >= sum(one.passing for one in foe.sharing)
     seconds = sum(one.passing * time_of(one, most_against(one)) for one in (foe.sharing if most else first))
@@ -290,12 +327,21 @@ def seconds_for(movement: Movement, vehicles: float, length: int) -> int:
 
 
 def places(length: int, seconds: int, parts: int) -> list[tuple[int, int]]:
-    """Where so many seconds of a permissive green are shown, as (begin, end): at its end, for those that are given way
-    to go first; or in parts with equal waits before them, so that a vehicle that waits holds its
-    lane up for less long."""
+    """Where so many seconds of a permissive green of some length are shown, as (begin, end) from its begin: at its end,
+    for those that are given way to go first; or in parts with equal waits before them, so that a vehicle that waits
+    holds its lane up for less long."""
     parts = parts if 2 * parts <= seconds <= 0.9 * length else 1
     wait, shown = (length - seconds) / parts, seconds / parts
     return [(round((at + 1) * wait + at * shown), round((at + 1) * (wait + shown))) for at in range(parts)]
+
+
+def places_in_red(length: int, seconds: int) -> list[tuple[int, int]]:
+    """Where so many seconds of a red of some length are shown to those who may go after a stop, as (begin, end) from
+    its begin: evenly, by twos."""
+    parts = max(1, seconds // 2)
+    sizes = [seconds // parts + (at < seconds % parts) for at in range(parts)] if seconds else []
+    begins = [int((at + 1) * length / (parts + 1) - size / 2) for at, size in enumerate(sizes)]
+    return [(begin, begin + size) for begin, size in zip(begins, sizes, strict=True)]
 
 
 def finding_gaps(movement: Movement, start: int, factor: float) -> float:
@@ -310,12 +356,13 @@ def finding_gaps(movement: Movement, start: int, factor: float) -> float:
 
 
 def queue_seconds(foe: Movement, factor: float) -> int:
-    """The seconds of the cycle in which the queue leaves that has waited for a green."""
+    """The seconds of the cycle, as bits, in which a foe's queue leaves that has waited for a green, where its traffic
+    is a factor of the usual."""
     return leaving_seconds(foe, foe.passing * factor * foe.headway / 3600)
 
 
 def leaving_seconds(foe: Movement, rate: float) -> int:
-    """The seconds of the cycle in which a queue leaves that needs so large a share of the time."""
+    """The seconds of the cycle, as bits, in which a queue leaves that needs so large a share (rate) of the time."""
     seconds, rate = 0, min(rate, 0.99)
     for start, red in foe.begins if foe.passing else ():
         seconds |= seconds_from(start, round(LOST + red * rate / (1 - rate)), foe.cycle)
@@ -323,15 +370,15 @@ def leaving_seconds(foe: Movement, rate: float) -> int:
 
 
 def gap_capacity(flow: float) -> float:
-    """Vehicles an hour that find a gap in a flow of so many."""
+    """Vehicles an hour that find a gap in a flow of so many; infinite where there is none."""
     if flow <= 0:
         return math.inf
-    return flow * math.exp(-flow * CRITICAL_GAP / 3600) / (1 - math.exp(-flow * FOLLOW_UP / 3600))
+    return flow * math.exp(-flow * CRITICAL_GAP / 3600) / -math.expm1(-flow * FOLLOW_UP / 3600)
 
 
 def capacity(sharing: Sequence[Movement], wish: float) -> float:
-    """Vehicles an hour that a lane lets pass, by its movements: until the first comes that waits to turn, and then in
-    the seconds that are shown to it."""
+    """Vehicles an hour that a lane lets pass, by its movements, of so many that wish to: until the first comes that
+    waits to turn, and then in the seconds that are shown to it."""
     cycle, green = sharing[0].cycle, 0
     for movement in sharing:
         green |= movement.green
@@ -341,19 +388,20 @@ def capacity(sharing: Sequence[Movement], wish: float) -> float:
     share = sum(movement.flow for movement in waiting) / wish
     if not share:
         return whole * 3600 / cycle
-    shown = max(sum(movement.shown.values()) / HEADWAYS[movement.limit - 1] for movement in waiting)
+    shown = max(movement.shown_open / HEADWAYS[movement.limit - 1] for movement in waiting)
     shown += waiting[0].sure.bit_count() / each
     before = max(0.0, whole - shown)
     return min(whole, until_first(before, share) + shown) * 3600 / cycle
 
 
 def leaving(green: float, speed: float) -> float:
-    """Vehicles that leave a queue in SUMO in so many seconds of green."""
+    """Vehicles that leave a queue in SUMO in so many seconds of green; speed: inside the junction, metres a second."""
     return max(1.0, (green - speed / (2 * ACCELERATION) + EARLY) / headway(speed))
 
 
 def passing_here(seconds: int, limit: int) -> float:
-    """Vehicles that leave a queue here in so many seconds of green."""
+    """Vehicles that leave a queue here in so many seconds of green, one at least; limit: of their link, cells a
+    step."""
     return SHORT[seconds - 1] if seconds <= len(SHORT) else (seconds + AHEAD) / HEADWAYS[limit - 1]
 
 
@@ -365,9 +413,9 @@ def hidden_start(length: int, speed: float, limit: int) -> int:
 
 @cache
 def hidden_middle(length: int, speed: float, limit: int) -> tuple[int, int]:
-    """The same from half of a green on, as (begin, end): who has waited alone for its begin goes at once,
-    as in SUMO. As a queue starts twice they are more seconds; one alone does not hold it up. A short green
-    has them at its begin."""
+    """The same from half of a green on, as (begin, end) from its begin: who has waited alone for its begin goes at
+    once, as in SUMO. As a queue starts twice they are more seconds; one alone does not hold it up. A short green has
+    them at its begin."""
     if length < TWO_PARTS:
         return 0, hidden_start(length, speed, limit)
     half, vehicles = length // 2, leaving(length, speed)
@@ -387,7 +435,7 @@ def equivalents(movements: Iterable[Movement]) -> dict[Way, float]:
     found: dict[Way, float] = {}
     for movement in movements:
         if movement.waits:
-            passing = sum(movement.shown.values()) / HEADWAYS[movement.limit - 1]
+            passing = movement.shown_open / HEADWAYS[movement.limit - 1]
             passing += movement.sure.bit_count() / movement.headway
             most = min(MOST_EQUIVALENT, movement.green.bit_count() / movement.headway / max(passing, 0.5))
             found[movement.way] = max(found.get(movement.way, 1.0), most)

@@ -4,55 +4,40 @@
 runs them with the program that STREETSIM_PROGRAM names. Steps are of one second. What streetsim has nothing for
 says what to do instead.
 """
-from __future__ import annotations
-
 import sys
-import tempfile
 from collections.abc import Sequence
-from pathlib import Path
 from types import ModuleType
 from typing import Any
 
-from ..client import ProgramEnded, Refused
-from ..files import Fault
-from . import constants
-from .advice import advice_on
-from .domain import Domain
-from .errors import FatalTraCIError, NotHere, TraCIException
-from .listeners import StepListener
-from .opening import open_session
-from .options import options_of
-from .quiet import GUI, SHAPES, Quiet
-from .roads import Edge, InductionLoop, Junction, Lane, LaneArea
-from .session import Session
-from .simulation import Route, Simulation
-from .trafficlights import TrafficLight
-from .vehicles import Vehicle, VehicleType
+from streetsim.base.client import ProgramEnded, Refused
+from streetsim.base.files import Fault
+from streetsim.simulation.errors import FatalTraCIError, NotHere, TraCIException
+from streetsim.simulation.opening import open_session
+from streetsim.simulation.session import Session
+from streetsim.traci import constants
+from streetsim.traci.advice import advice_on
+from streetsim.traci.domain import Domain
+from streetsim.traci.listeners import Listeners, StepListener
+from streetsim.traci.quiet import GUI, SHAPES, Quiet
+from streetsim.traci.roads import Edge, InductionLoop, Junction, Lane, LaneArea
+from streetsim.traci.simulation import Route, Simulation
+from streetsim.traci.trafficlights import TrafficLight
+from streetsim.traci.vehicles import Vehicle, VehicleType
 
 __all__ = [
-    *(
-        "FatalTraCIError", "NotHere", "StepListener", "TraCIException", "addStepListener", "close", "constants",
-        "getConnection",
-    ),
-    *(
-        "getLabel", "getVersion", "hasGUI", "isLibsumo", "isLibtraci", "isLoaded", "load", "removeStepListener",
-        "setOrder",
-    ),
-    *("simulationStep", "start", "switch"),
+    "FatalTraCIError", "NotHere", "StepListener", "TraCIException", "addStepListener", "close", "constants",
+    "getConnection", "getLabel", "getVersion", "hasGUI", "isLibsumo", "isLibtraci", "isLoaded", "load",
+    "removeStepListener", "setOrder", "simulationStep", "start", "switch",
 ]
 
 _running: list[Session] = []
 _label = ["default"]
+_listeners = Listeners()
 
 
 def start(
-    cmd: Sequence[str],
-    port: Any = None,
-    numRetries: Any = None,
-    label: str = "default",
-    verbose: bool = False,
-    *_: Any,
-    **__: Any,
+    cmd: Sequence[str], port: object = None, numRetries: object = None, label: str = "default", *_: object,
+    **__: object,
 ) -> tuple[int, str]:
     """Starts a run, of the words of SUMO's command line: -c, or -n, -r and -a, --seed and --begin, the outputs
     --tripinfo-output, --summary-output, --fcd-output and --queue-output, and the words of streetsim-import (--classes,
@@ -60,17 +45,16 @@ def start(
     do here. Gives the version, as SUMO does."""
     if _running:
         raise TraCIException("a run is under way: close() it first; there is one at a time")
-    options = options_of(list(cmd)[1:])
-    with tempfile.TemporaryDirectory() as folder:
-        try:
-            _running.append(open_session(Path(folder), options))
-        except (Fault, Refused, ProgramEnded) as fault:
-            raise FatalTraCIError(str(fault)) from None
+    try:
+        _running.append(open_session(list(cmd)[1:]))
+    except (Fault, Refused, ProgramEnded) as fault:
+        raise FatalTraCIError(str(fault)) from None
     _label[0] = label
     return getVersion()
 
 
 def _now() -> Session:
+    """The run; FatalTraCIError where none is under way."""
     if not _running:
         raise FatalTraCIError("Not connected.")
     return _running[0]
@@ -78,22 +62,22 @@ def _now() -> Session:
 
 def simulationStep(step: float = 0) -> None:
     """One step, or all steps until a time in seconds is reached; none where it is."""
-    session = _now()
-    session.step(step)
-    session.listeners.step(step)
+    _now().step(step)
+    _listeners.step(step)
 
 
 def close(wait: bool = True) -> None:
+    """Ends the run; output files take their names, and all subscriptions and listeners are forgotten."""
     session = _now()
     _running.clear()
     for domain in _domains:
         domain.forget()
-    session.listeners.clean_up()
+    _listeners.clean_up()
     session.close()
 
 
 def load(args: Sequence[str]) -> None:
-    """Ends the run and starts another one, of SUMO's words."""
+    """Ends the run and starts another one, of SUMO's words without its name."""
     close()
     start(["sumo", *args])
 
@@ -114,24 +98,27 @@ def getLabel() -> str:
 
 
 def switch(label: str) -> None:
-    """The run of a label; there is one at a time."""
+    """Refuses a label that is not the run's; there is one at a time."""
     if not _running or label != _label[0]:
         raise TraCIException(f"connection '{label}' is not known.")
 
 
 def getConnection(label: str = "default") -> ModuleType:
-    """The run of a label, with all domains and calls of this module."""
+    """This module, with all its domains and calls, for the run of a label; TraCIException where it is another one."""
     switch(label)
     return sys.modules[__name__]
 
 
 def addStepListener(listener: StepListener) -> int | None:
     """Calls listener.step(time) after each simulationStep, as long as it gives True; gives its number."""
-    return _now().listeners.add(listener)
+    _now()
+    return _listeners.add(listener)
 
 
 def removeStepListener(listenerID: int) -> bool:
-    return _now().listeners.remove(listenerID)
+    """Takes a listener off, by its number; whether there was one."""
+    _now()
+    return _listeners.remove(listenerID)
 
 
 def setOrder(order: int) -> None:

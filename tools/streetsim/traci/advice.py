@@ -1,6 +1,4 @@
 """What is said of SUMO's calls that are not here: why, and what to do instead."""
-from __future__ import annotations
-
 import re
 
 ALONE = (
@@ -74,5 +72,5 @@ SENTENCES = {
 
 
 def advice_on(call: str) -> str:
-    """Why a call is not here and what to do in its place."""
+    """Why a call, 'domain.call', is not here and what to do in its place."""
     return next((text for pattern, text in SENTENCES.items() if re.search(pattern, call)), NOTHING)

@@ -1,13 +1,4 @@
 """TraCI's exceptions."""
+from streetsim.simulation.errors import FatalTraCIError, NotHere, TraCIException
 
-
-class TraCIException(Exception):
-    """A call that cannot be answered; the run goes on."""
-
-
-class FatalTraCIError(Exception):
-    """The run cannot go on."""
-
-
-class NotHere(TraCIException, AttributeError):
-    """A call that streetsim has nothing for; the text says what to do instead."""
+__all__ = ["FatalTraCIError", "NotHere", "TraCIException"]

@@ -1,13 +1,11 @@
 """Calls that only change what a window shows. There is no window: they do nothing,
 and the first of each domain says so."""
-from __future__ import annotations
-
 import sys
 from collections.abc import Callable
 from typing import Any
 
-from .advice import WINDOW
-from .errors import NotHere
+from streetsim.simulation.errors import NotHere
+from streetsim.traci.advice import WINDOW
 
 SHOWN = "shows nothing here: there is no window; streetsim-live and streetsim-plot show runs"
 
@@ -25,13 +23,14 @@ class Quiet:
             raise NotHere(f"{self.name}.{call} is not here: {WINDOW}")
         return self.nothing
 
-    def nothing(self, *_: Any, **__: Any) -> None:
+    def nothing(self, *_: object, **__: object) -> None:
+        """Does nothing; the first of a run says so."""
         if not self.told:
             print(f"warning: traci.{self.name} {SHOWN}", file=sys.stderr)
             self.told = True
 
     def forget(self) -> None:
-        """At the end of a run."""
+        """Lets the next run say so again."""
         self.told = False
 
 

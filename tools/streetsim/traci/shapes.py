@@ -1,6 +1,4 @@
 """Lines of points, in metres."""
-from __future__ import annotations
-
 from collections.abc import Sequence
 from itertools import pairwise
 from math import atan2, degrees, hypot
@@ -10,11 +8,12 @@ Line = Sequence[Sequence[float]]  # of points
 
 
 def lengths(line: Line) -> list[float]:
+    """Metres of each part of a line."""
     return [hypot(bx - ax, by - ay) for (ax, ay), (bx, by) in pairwise(line)]
 
 
 def along(line: Line, share: float) -> Point:
-    """The point at a share of the length of a line."""
+    """The point at a share (0 to 1) of the length of a line."""
     at, rest = segment_at(line, share)
     if at is None:
         return float(line[-1][0]), float(line[-1][1])
@@ -23,14 +22,15 @@ def along(line: Line, share: float) -> Point:
 
 
 def heading(line: Line, share: float) -> float:
-    """The direction at a share of the length of a line, in degrees clockwise from north."""
+    """The direction at a share (0 to 1) of the length of a line, in degrees clockwise from north."""
     at, _ = segment_at(line, share)
     (ax, ay), (bx, by) = line[at if at is not None else -2], line[at + 1 if at is not None else -1]
     return degrees(atan2(bx - ax, by - ay)) % 360
 
 
 def segment_at(line: Line, share: float) -> tuple[int | None, float]:
-    """The part of a line in which a share of its length lies, and the share of that part; no part behind its end."""
+    """The part of a line, by the number of its first point, in which a share of its length lies, and the share of that
+    part; none behind its end."""
     left = share * sum(lengths(line))
     for at, size in enumerate(lengths(line)):
         if left <= size and size:
@@ -40,7 +40,7 @@ def segment_at(line: Line, share: float) -> tuple[int | None, float]:
 
 
 def nearest(point: Point, line: Line) -> tuple[float, float]:
-    """How far a point is from a line of points or from a single one, and how far along the line that is."""
+    """Metres from a point to a line of points or to a single one, and how far along the line that is."""
     (x, y), passed, best = point, 0.0, (hypot(point[0] - line[0][0], point[1] - line[0][1]), 0.0)
     for ((ax, ay), (bx, by)), size in zip(pairwise(line), lengths(line), strict=True):
         if size:
@@ -52,4 +52,5 @@ def nearest(point: Point, line: Line) -> tuple[float, float]:
 
 
 def distance(point: Point, line: Line) -> float:
+    """Metres from a point to a line of points or to a single one."""
     return nearest(point, line)[0]

@@ -1,18 +1,18 @@
 """TraCI's simulation and routes."""
-from __future__ import annotations
-
 import sys
 from collections.abc import Iterable, Sequence
 from dataclasses import dataclass
 from math import hypot
 from typing import Any
 
-from . import constants as tc
-from .domain import Domain
-from .errors import NotHere, TraCIException
-from .saving import load_state, save_state
-from .shapes import Point, along, nearest
-from .street_facts import LaneFacts
+from streetsim.simulation.calls import SimulationCalls
+from streetsim.simulation.errors import NotHere, TraCIException
+from streetsim.simulation.saving import load_state, save_state
+from streetsim.simulation.session import Session
+from streetsim.simulation.street_facts import LaneFacts
+from streetsim.traci import constants as tc
+from streetsim.traci.domain import Domain, Values
+from streetsim.traci.shapes import Point, along, nearest
 
 
 @dataclass
@@ -34,31 +34,27 @@ class Stage:
     description: str = ""
 
 
-class Simulation(Domain):
+class Simulation(Domain, SimulationCalls[Session]):
+    """As SUMO's traci.simulation: seconds, metres."""
+
     kind, name = "Simulation", "simulation"
     variables = {
-        tc.VAR_TIME: "getTime",
-        tc.VAR_LOADED_VEHICLES_NUMBER: "getLoadedNumber",
-        tc.VAR_LOADED_VEHICLES_IDS: "getLoadedIDList",
-        tc.VAR_DEPARTED_VEHICLES_NUMBER: "getDepartedNumber",
-        tc.VAR_DEPARTED_VEHICLES_IDS: "getDepartedIDList",
-        tc.VAR_ARRIVED_VEHICLES_NUMBER: "getArrivedNumber",
-        tc.VAR_ARRIVED_VEHICLES_IDS: "getArrivedIDList",
-        tc.VAR_MIN_EXPECTED_VEHICLES: "getMinExpectedNumber",
+        tc.VAR_TIME: "getTime", tc.VAR_LOADED_VEHICLES_NUMBER: "getLoadedNumber",
+        tc.VAR_LOADED_VEHICLES_IDS: "getLoadedIDList", tc.VAR_DEPARTED_VEHICLES_NUMBER: "getDepartedNumber",
+        tc.VAR_DEPARTED_VEHICLES_IDS: "getDepartedIDList", tc.VAR_ARRIVED_VEHICLES_NUMBER: "getArrivedNumber",
+        tc.VAR_ARRIVED_VEHICLES_IDS: "getArrivedIDList", tc.VAR_MIN_EXPECTED_VEHICLES: "getMinExpectedNumber",
         tc.VAR_PENDING_VEHICLES: "getPendingVehicles",
     }
     first = (tc.VAR_DEPARTED_VEHICLES_IDS,)
 
     def subjects(self) -> tuple[str, ...]:
+        """The one simulation, which has no name."""
         return ("",)
 
     # Time and vehicles
 
-    def getTime(self) -> float:
-        return float(self.now().clock)
-
     def getCurrentTime(self) -> int:
-        """Milliseconds."""
+        """The clock in milliseconds."""
         return self.now().clock * 1000
 
     def getDeltaT(self) -> float:
@@ -72,7 +68,7 @@ class Simulation(Domain):
         return 1.0
 
     def getOption(self, option: str) -> str:
-        """What the words or the configuration say of an option of SUMO's."""
+        """What the words or the configuration say of an option of SUMO's; TraCIException where they do not name it."""
         if option not in self.now().options:
             raise TraCIException(f"Option '{option}' was not given.")
         return self.now().options[option]
@@ -86,35 +82,30 @@ class Simulation(Domain):
 
     def getDepartedIDList(self) -> tuple[str, ...]:
         session = self.now().follow()
-        return tuple(session.names[car] for car in session.departed)
+        return tuple(session.fleet.names[car] for car in session.view.departed)
 
     def getDepartedNumber(self) -> int:
-        return len(self.now().follow().departed)
+        return len(self.now().follow().view.departed)
 
     def getArrivedIDList(self) -> tuple[str, ...]:
         session = self.now().follow()
-        return tuple(session.names[car] for car in session.arrived)
+        return tuple(session.fleet.names[car] for car in session.view.arrived)
 
     def getArrivedNumber(self) -> int:
-        return len(self.now().follow().arrived)
+        return len(self.now().follow().view.arrived)
 
     def getPendingVehicles(self) -> tuple[str, ...]:
         """Vehicles that would have departed and wait for room."""
         session = self.now().follow()
-        return tuple(session.names[car] for car in session.waiting_to_depart())
-
-    def getMinExpectedNumber(self) -> int:
-        """Vehicles that have not ended."""
-        session = self.now()
-        census = session.ask(b'{"cmd":"count"}\n')
-        return len(session.source.enters) - session.entered + census.admitted - census.arrived - census.taken
+        return tuple(session.fleet.names[car] for car in session.view.waiting_to_depart())
 
     def none(self) -> int:
-        """Under a script nobody teleports; nobody collides, brakes in an emergency, parks or stops,
-        and there are no persons."""
+        """0: under a script nobody teleports; nobody collides, brakes in an emergency, parks or stops, and there are no
+        persons."""
         return 0
 
     def nobody(self) -> tuple[str, ...]:
+        """Under a script none of these are there."""
         return ()
 
     getStartingTeleportNumber = getEndingTeleportNumber = getCollidingVehiclesNumber = none
@@ -133,7 +124,7 @@ class Simulation(Domain):
         return self.now().facts.boundary
 
     def convert2D(self, edgeID: str, pos: float, laneIndex: int = 0, toGeo: bool = False) -> Point:
-        """The point of a place on a lane."""
+        """The point of a place on a lane, in metres from its begin."""
         if toGeo:
             raise NotHere("simulation.convert2D: degrees are not here; streetsim-export writes them")
         lane = self.lane(edgeID, laneIndex)
@@ -150,6 +141,7 @@ class Simulation(Domain):
         return edge, nearest((x, y), shapes[lane])[1], int(index)
 
     def lane(self, edge: str, index: int) -> LaneFacts:
+        """What the network's file says of a lane; TraCIException where the import has no such lane."""
         self.check(f"{edge}_{index}", self.now().lane_of)
         return self.now().facts.lanes[f"{edge}_{index}"]
 
@@ -165,7 +157,8 @@ class Simulation(Domain):
         return self.getDistanceRoad(edge1, pos1, edge2, pos2, True)
 
     def getDistanceRoad(self, edgeID1: str, pos1: float, edgeID2: str, pos2: float, isDriving: bool = False) -> float:
-        """The same between two places on edges; driving, on the shortest way and through its junctions."""
+        """Metres between two places on edges, in metres from their begins: as the crow flies or, driving, on the
+        shortest way and through its junctions."""
         if not isDriving:
             return self.getDistance2D(*self.convert2D(edgeID1, pos1), *self.convert2D(edgeID2, pos2))
         if edgeID1 == edgeID2 and pos1 <= pos2:
@@ -176,10 +169,11 @@ class Simulation(Domain):
         self, fromEdge: str, toEdge: str, vType: str = "", depart: float = -1.0, routingMode: int = 0
     ) -> Stage:
         """The way between two edges that is shortest by the travel times of now."""
-        ways, session = self.now().router(), self.now()
-        links, seconds = ways.way(fromEdge, toEdge)
+        session = self.now()
+        links, seconds = session.router().way(fromEdge, toEdge)
+        edges = session.edges(links)
         metres = sum(session.map.links[link].metres for link in links) + session.inside.along(links)
-        return Stage(tc.STAGE_DRIVING, vType, edges=ways.edges(links), travelTime=seconds, cost=seconds, length=metres)
+        return Stage(tc.STAGE_DRIVING, vType, edges=edges, travelTime=seconds, cost=seconds, length=metres)
 
     # States
 
@@ -197,21 +191,23 @@ class Simulation(Domain):
     # Subscriptions
 
     def subscribe(  # type: ignore[override]  # there is one simulation, which has no name
-        self, varIDs: Sequence[int] | None = None, begin: Any = None, end: Any = None
+        self, varIDs: Sequence[int] | None = None, begin: object = None, end: object = None
     ) -> None:
         self.note("", varIDs)
 
     def unsubscribe(self) -> None:  # type: ignore[override]
         self.subscribed.clear()
 
-    def getSubscriptionResults(self) -> dict[int, Any]:  # type: ignore[override]
+    def getSubscriptionResults(self) -> Values:  # type: ignore[override]
         return {variable: getattr(self, self.variables[variable])() for variable in self.subscribed.get("", ())}
 
-    def getAllSubscriptionResults(self) -> dict[str, dict[int, Any]]:
+    def getAllSubscriptionResults(self) -> dict[str, Values]:
         return {"": self.getSubscriptionResults()} if self.subscribed else {}
 
 
 class Route(Domain):
+    """As SUMO's traci.route."""
+
     kind, name = "Route", "route"
     variables = {tc.VAR_EDGES: "getEdges"}
     first = (tc.VAR_EDGES,)
@@ -221,11 +217,12 @@ class Route(Domain):
         return tuple(dict.fromkeys((*self.now().facts.routes, *self.now().routes)))
 
     def add(self, name: str, edges: Iterable[str]) -> None:
+        """Names a way along edges; TraCIException where the name is taken, or the edges do not lead on."""
         session = self.now()
         if name in session.routes or name in session.facts.routes:
             raise TraCIException(f"Route '{name}' exists already.")
         try:
-            session.routes[name] = session.plan(list(edges))
+            session.routes[name] = session.connections.plan(list(edges))
         except ValueError as fault:
             raise TraCIException(f"Route '{name}': {fault}") from None
 
@@ -234,4 +231,4 @@ class Route(Domain):
         session = self.now()
         if name in session.facts.routes:
             return session.facts.routes[name]
-        return tuple(session.map.links[link].edge for link in session.routes[name])
+        return session.edges(session.routes[name])

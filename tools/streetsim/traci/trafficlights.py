@@ -1,17 +1,17 @@
 """TraCI's traffic lights."""
-from __future__ import annotations
-
 from collections.abc import Sequence
 from dataclasses import dataclass, field
 
-from . import constants as tc
-from .domain import Domain
-from .errors import TraCIException
-from .lights import CONSTANT, Light, Phases
+from streetsim.simulation.errors import TraCIException
+from streetsim.simulation.lights import Light, Phases
+from streetsim.traci import constants as tc
+from streetsim.traci.domain import Domain
 
 
 @dataclass
 class Phase:
+    """A phase, as SUMO's scripts read it; seconds."""
+
     duration: float
     state: str
     minDur: float = -1.0
@@ -22,6 +22,8 @@ class Phase:
 
 @dataclass
 class Logic:
+    """A program, as SUMO's scripts read it."""
+
     programID: str
     type: int
     currentPhaseIndex: int
@@ -36,23 +38,23 @@ Program = Logic  # which the class below has as an attribute of its own name
 
 
 class TrafficLight(Domain):
+    """As SUMO's traci.trafficlight; names are of lights, not of junctions."""
+
     kind, name = "Traffic light", "trafficlight"
     Phase, Logic = Phase, Logic
     variables = {
-        tc.TL_RED_YELLOW_GREEN_STATE: "getRedYellowGreenState",
-        tc.TL_PHASE_DURATION: "getPhaseDuration",
-        tc.TL_CONTROLLED_LANES: "getControlledLanes",
-        tc.TL_CURRENT_PHASE: "getPhase",
-        tc.TL_CURRENT_PROGRAM: "getProgram",
-        tc.TL_NEXT_SWITCH: "getNextSwitch",
+        tc.TL_RED_YELLOW_GREEN_STATE: "getRedYellowGreenState", tc.TL_PHASE_DURATION: "getPhaseDuration",
+        tc.TL_CONTROLLED_LANES: "getControlledLanes", tc.TL_CURRENT_PHASE: "getPhase",
+        tc.TL_CURRENT_PROGRAM: "getProgram", tc.TL_NEXT_SWITCH: "getNextSwitch",
     }
     first = (tc.TL_CURRENT_PHASE,)
 
     def getIDList(self) -> tuple[str, ...]:
-        return tuple(sorted(self.now().lights))
+        return tuple(sorted(self.now().control.lights))
 
     def at(self, name: str) -> tuple[Light, int, float]:
-        light = self.now().light(name)
+        """The light, the index of its phase, and the seconds that are left of it by its program."""
+        light = self.now().control.light(name)
         return light, *light.at(self.now().clock)
 
     def getRedYellowGreenState(self, name: str) -> str:
@@ -63,24 +65,25 @@ class TrafficLight(Domain):
         return self.at(name)[1]
 
     def getPhaseDuration(self, name: str) -> float:
+        """Seconds of the present phase, by the program."""
         light, index, _ = self.at(name)
         return float(light.phases[index][0])
 
     def getNextSwitch(self, name: str) -> float:
-        """The time at which the phase ends."""
-        timers = [clock for clock, light, _ in self.now().timers if light == name]
+        """The clock, in seconds, at which the phase ends."""
+        timers = [clock for clock, light, _ in self.now().control.timers if light == name]
         return float(min(timers)) if timers else float(self.now().clock + self.at(name)[2])
 
     def getProgram(self, name: str) -> str:
-        return self.now().light(name).program
+        return self.now().control.light(name).program
 
     def getControlledLanes(self, name: str) -> tuple[str, ...]:
         """The lane of each signal, by its index."""
-        return tuple(link[0] if link else "" for link in self.now().light(name).links)
+        return tuple(link[0] if link else "" for link in self.now().control.light(name).links)
 
     def getControlledLinks(self, name: str) -> tuple[list[tuple[str, str, str]], ...]:
         """For each signal [(lane, next lane, lane inside the junction)]."""
-        return tuple([link] if link else [] for link in self.now().light(name).links)
+        return tuple([link] if link else [] for link in self.now().control.light(name).links)
 
     def getAllProgramLogics(self, name: str) -> tuple[Program, ...]:
         """The program that runs, and those of the files that do not, from their first phase."""
@@ -100,50 +103,45 @@ class TrafficLight(Domain):
         light.names[index] = str(text)
 
     def setPhase(self, name: str, index: int) -> None:
-        light, session = self.now().light(name), self.now()
-        if not 0 <= index < len(light.phases):
-            raise TraCIException(f"Traffic light '{name}' has no phase {index}")
-        session.timers = [timer for timer in session.timers if timer[1] != name]
-        session.show_phase(name, index)
+        """Goes on with a phase of the program, from its begin."""
+        self.now().control.go_to(name, index)
 
     def setPhaseDuration(self, name: str, seconds: float) -> None:
-        """The phase ends so many seconds from now; the next ones last as in the program."""
-        session, (light, index, _) = self.now(), self.at(name)
+        """Ends the phase so many seconds from now; the next ones last as in the program."""
+        control = self.now().control
+        control.light(name)
         if not seconds >= 0:
             raise TraCIException(f"Traffic light '{name}': a phase of {seconds} s")
-        session.timers = [timer for timer in session.timers if timer[1] != name]
-        ends = session.clock + max(0, round(seconds))
-        session.timers.append((ends, name, (index + 1) % len(light.phases)))
-        session.set_light(name, [(CONSTANT, light.phases[index][1].replace("g", "G"))], 0)
+        control.end_phase(name, self.now().clock + round(seconds))
 
     def setRedYellowGreenState(self, name: str, state: str) -> None:
-        self.now().hold(name, state)
+        self.now().control.hold(name, state)
 
     def setLinkState(self, name: str, index: int, state: str) -> None:
-        """One signal of the light as it is now, and so until the next call that sets it."""
+        """Sets one signal of the light, the others as they are now, until the next call that sets it."""
         shown = self.getRedYellowGreenState(name)
         if not 0 <= index < len(shown):
             raise TraCIException(f"Traffic light '{name}' has no signal {index}")
-        self.now().hold(name, shown[:index] + state + shown[index + 1 :])
+        self.now().control.hold(name, shown[:index] + state + shown[index + 1 :])
 
     def setProgram(self, name: str, programID: str) -> None:
-        """A program of the files or one that was set before, as far as its cycle is at this clock."""
-        light, session = self.now().light(name), self.now()
+        """Shows a program of the files or one that was set before, as far as its cycle is at this clock."""
+        light, session = self.now().control.light(name), self.now()
         if programID not in light.programs:
             raise TraCIException(f"Traffic light '{name}' has no program {programID!r}")
         phases, names = light.programs[programID]
-        session.show_program(name, phases, 0, programID, names)
+        session.control.show_program(name, phases, 0, programID, names)
         light.begin = session.facts.offsets.get((name, programID), 0.0)
-        session.send_light(name, light)
+        session.control.show_cycle(name)
 
     def setProgramLogic(self, name: str, logic: Program) -> None:
-        """A whole program, from the begin of its current phase."""
+        """Sets a whole program, from the begin of its current phase; it can be chosen again by its name."""
         phases = [(float(phase.duration), phase.state) for phase in logic.phases]
         if not phases:
             raise TraCIException(f"Traffic light '{name}': a program without phases")
         names = [phase.name for phase in logic.phases]
-        self.now().show_program(name, phases, logic.currentPhaseIndex, logic.programID, names)
-        self.now().light(name).programs[logic.programID] = phases, names
+        self.now().control.show_program(name, phases, logic.currentPhaseIndex, logic.programID, names)
+        self.now().control.light(name).programs[logic.programID] = phases, names
 
     setCompleteRedYellowGreenDefinition = setProgramLogic
 

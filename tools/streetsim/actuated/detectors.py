@@ -1,0 +1,138 @@
+"""Where the detectors of an actuated light lie, and which phases they extend, as SUMO 1.15 has it
+(MSActuatedTrafficLightLogic::init)."""
+from __future__ import annotations
+
+from collections import defaultdict
+from collections.abc import Iterable, Mapping, Sequence
+from dataclasses import dataclass, field
+from typing import NamedTuple
+
+from streetsim.actuated.logic import GO, Phase
+
+LEAD, PASSING, GAP = 2.0, 1.9, 3.0  # seconds: SUMO's detector-gap, passing-time and max-gap where none is given
+ROOM = 7.5  # metres of a vehicle in a queue
+NO_DETECTOR = "NO_DETECTOR"  # the value of a lane's name, for a lane without one
+MAJOR, MINOR = "G", "g"
+
+
+class Stretch(NamedTuple):
+    """A lane, or one before it that leads to it alone, without a light."""
+
+    lane: str
+    metres: float
+
+
+class Spot(NamedTuple):
+    """Where a detector lies: on a lane, so many metres from its begin."""
+
+    lane: str
+    metres: float
+
+
+@dataclass(slots=True, frozen=True)
+class Way:
+    """A connection at the light."""
+
+    index: int  # in a state
+    lane: str
+    target: str  # lane
+    turns_back: bool = False
+
+
+@dataclass(slots=True, frozen=True)
+class LitLane:
+    """A lane that ends at the light."""
+
+    name: str
+    speed: float  # metres a second
+    alone: bool  # its edge has no other
+    stretches: tuple[Stretch, ...]  # itself, and those before it
+
+
+@dataclass(slots=True, frozen=True)
+class Layout:
+    """What lies at a light, and the parameters of its program."""
+
+    ways: Sequence[Way]
+    lanes: Mapping[str, LitLane]
+    parameters: Mapping[str, str] = field(default_factory=dict)
+
+    def value(self, name: str, usual: float, lane: str = "") -> float:
+        """A number among the parameters, of a lane or of all."""
+        return float(self.parameters.get(f"{name}:{lane}", self.parameters.get(name, usual)))
+
+    def indexes(self) -> dict[str, set[int]]:
+        """The places in a state of each lane's ways."""
+        found: defaultdict[str, set[int]] = defaultdict(set)
+        for way in self.ways:
+            found[way.lane].add(way.index)
+        return found
+
+
+def spots(layout: Layout, phases: Sequence[Phase]) -> dict[str, Spot]:
+    """By lane, where its detector lies: on each lane that is green in a phase which detectors extend. Lanes with a
+    detector of the user's own, by a parameter of the lane's name, are left out."""
+    found = {}
+    for lane, least in shortest_greens(layout, phases).items():
+        if lane not in layout.parameters:
+            before = min(
+                layout.value("detector-gap", LEAD) * layout.lanes[lane].speed,
+                (least / layout.value("passing-time", PASSING) + 0.5) * ROOM,
+            )
+            found[lane] = spot_before(layout.lanes[lane].stretches, before)
+    return found
+
+
+def shortest_greens(layout: Layout, phases: Sequence[Phase]) -> dict[str, int]:
+    """By lane the least seconds of its phases that detectors extend; none for lanes that are green in no such one."""
+    found: dict[str, int] = {}
+    for lane, indexes in sorted(layout.indexes().items()):
+        own = [one.least for one in phases if one.least != one.most and any(one.state[at] in GO for at in indexes)]
+        if own:
+            found[lane] = min(own)
+    return found
+
+
+def spot_before(stretches: Iterable[Stretch], metres: float) -> Spot:
+    """So many metres before the end of a lane, or of one that leads to it; at the begin where these are shorter."""
+    spot = Spot("", 0.0)
+    for stretch in stretches:
+        spot = Spot(stretch.lane, max(0.0, stretch.metres - metres))
+        metres -= stretch.metres
+        if metres <= 0:
+            break
+    return spot
+
+
+def extending(layout: Layout, phases: Sequence[Phase], detected: Iterable[str]) -> list[list[str]]:
+    """For each phase the lanes, of those with a detector, whose detectors extend it: those all of whose ways are green
+    in it, and do not lead to another lane of this light that is red."""
+    indexes, detected = layout.indexes(), sorted(detected)
+    leads: defaultdict[str, set[str]] = defaultdict(set)
+    for way in layout.ways:
+        if not way.turns_back:
+            leads[way.lane].add(way.target)
+    found = []
+    for phase in phases:
+        green = greens(layout, phases, phase.state) if phase.least != phase.most else set()
+        usable = [lane for lane in detected if indexes[lane] and indexes[lane] <= green]
+        beyond = {lane: leads[lane] & {*detected} for lane in usable}
+        found.append([lane for lane in usable if all(indexes[other] <= green for other in beyond[lane])])
+    return found
+
+
+def greens(layout: Layout, phases: Sequence[Phase], state: str) -> set[int]:
+    """The places of a state that count as green: those that go first; of those that give way the ones that never go
+    first, or turn back, beside one of their lane that does, and those on the only lane of an edge."""
+    by_index: defaultdict[int, list[Way]] = defaultdict(list)
+    for way in layout.ways:
+        by_index[way.index].append(way)
+    first = {way.lane for way in layout.ways if state[way.index] == MAJOR}
+    found = set()
+    for at, ways in by_index.items():
+        never = all(phase.state[at] != MAJOR for phase in phases) or all(way.turns_back for way in ways)
+        beside = never and any(way.lane in first for way in ways)
+        alone = any(layout.lanes[way.lane].alone for way in ways)
+        if state[at] == MAJOR or (state[at] == MINOR and (beside or alone)):
+            found.add(at)
+    return found

@@ -1,0 +1,243 @@
+"""The lights of a run that detectors drive: what its map keeps of their programs, and why others go by their list."""
+from __future__ import annotations
+
+from collections import Counter
+from collections.abc import Iterable, Iterator, Mapping
+from dataclasses import dataclass, field
+from functools import cached_property
+from itertools import pairwise
+from typing import Any
+
+from streetsim.actuated.detectors import GAP, LEAD, NO_DETECTOR, Layout, LitLane, Spot, Stretch, Way, extending, spots
+from streetsim.actuated.logic import Actuated, Phase
+from streetsim.base import limits
+from streetsim.base.files import Fault, Json
+from streetsim.base.report import some
+from streetsim.model.detectors import E1
+from streetsim.model.mapping import Map
+from streetsim.model.runs import Run
+from streetsim.sumo.net import Connection
+
+ACTUATED = "actuated"  # the kind of a program that is driven
+LONGEST = 1_000_000  # seconds, where a green has no most
+CALLS = 1.0  # of the program, a light and second: reads of detectors and signals
+SHARE = 0.5  # of the program's calls, that lights may take
+NUMBERS = ("max-gap", "detector-gap", "passing-time")
+ZERO = ("detector-length", "jam-threshold")  # parameters that are driven where they are 0 or less
+UNLIKE = ("linkMaxDur", "linkMinDur", "vTypes", "coordinated")  # others that change when SUMO's phases end
+OFF = ("", "0", "false")
+
+
+class Listed(Fault):
+    """Why a light goes by its listed seconds."""
+
+
+@dataclass(frozen=True, slots=True)
+class Cell:
+    """Where a detector is placed."""
+
+    link: int
+    lane: int
+    cell: int
+
+
+@dataclass(frozen=True, slots=True)
+class NodeOf:
+    """A node with a light, and what says who gives way there."""
+
+    node: int
+    connections: tuple[Connection, ...]
+    yields: Mapping[int, frozenset[int]]  # by request: those that it gives way to
+    flows: Mapping[tuple[str, str], float]  # vehicles an hour from edge to edge
+
+
+@dataclass(frozen=True, slots=True)
+class Driven:
+    """A light that detectors drive."""
+
+    name: str
+    offset: int
+    phases: tuple[Phase, ...]
+    lead: float
+    cells: tuple[Cell, ...]  # of its detectors
+    gaps: tuple[float, ...]
+    nodes: tuple[NodeOf, ...]
+
+    def logic(self) -> Actuated:
+        return Actuated(self.phases, self.gaps, self.lead)
+
+
+@dataclass(frozen=True)
+class Lights:
+    """Those of a run."""
+
+    driven: tuple[Driven, ...] = ()
+    listed: Mapping[str, str] = field(default_factory=dict)  # of the others that SUMO times by detectors: why
+
+    @property
+    def calls(self) -> float:
+        """Of the program, a second."""
+        return 1 + CALLS * len(self.driven) if self.driven else 0.0
+
+    @cached_property
+    def meters(self) -> int:
+        return sum(len(one.cells) for one in self.driven)
+
+    @cached_property
+    def longest(self) -> int:
+        """The seconds in which each light has shown all that it shows."""
+        most = (sum(min(phase.most, limits.PHASE_STEPS) for phase in one.phases) for one in self.driven)
+        return max(most, default=0)
+
+    def going_by(self, mapping: Map) -> list[str]:
+        """Those of a map that SUMO times by detectors and that go by their list here."""
+        own = {one.name for one in self.driven}
+        return [light for light in mapping.actuated if light not in own]
+
+    def notes(self) -> Iterator[str]:
+        """Says which lights go by their list, by reason."""
+        for why in dict.fromkeys(self.listed.values()):
+            names = [light for light, reason in self.listed.items() if reason == why]
+            yield f"lights show their listed seconds, {why}: {some(names)}"
+
+
+LISTED = Lights()  # all go by their list
+
+
+def driven_lights(run: Run, mapping: Map, until: int, calls: int) -> Lights:
+    """Those that detectors drive in a run up to a clock, those first that most vehicles pass, as far as there are
+    meters, as counts have others in further runs, and calls (0: any number)."""
+    most = int(SHARE * calls / (until - run.start()) / CALLS) if calls else len(mapping.actuated)
+    timed = {line.command["node"] for _, line in run.timed if line.command["cmd"] == "signal"}
+    kept, left = {one["light"]: one for one in mapping.programs}, limits.METERS - len(mapping.detectors)
+    driven: list[Driven] = []
+    listed: dict[str, str] = {}
+    use = passing(run, mapping)
+    for light in sorted(mapping.actuated, key=lambda one: -use[one]):
+        try:
+            if any(node in timed for name, node in mapping.signals if name == light):
+                raise Listed("as lines of the run change their plans")
+            found = driven_of(kept_of(kept, light), mapping)
+            if len(driven) >= most:
+                raise Listed("as the program takes no more calls")
+            if len(found.cells) > left:
+                raise Listed(f"as no more than {limits.METERS:,} detectors are to be had")
+            left -= len(found.cells)
+            driven.append(found)
+        except Listed as why:
+            listed[light] = str(why)
+    return Lights(tuple(driven), listed)
+
+
+def kept_of(kept: Mapping[str, Json], light: str) -> Json:
+    if light not in kept:
+        raise Listed("as their map was written by an older streetsim-import")
+    return kept[light]
+
+
+def passing(run: Run, mapping: Map) -> Counter[str]:
+    """How many vehicles pass each light."""
+    light_at = {(turn.link, turn.next): turn.light for turn in mapping.turns if turn.light}
+    pairs = (pair for line in run.enters for pair in pairwise(line.command["plan"]))
+    return Counter(light_at[pair] for pair in pairs if pair in light_at)
+
+
+def driven_of(kept: Mapping[str, Any], mapping: Map) -> Driven:
+    """A light of what a map keeps of its program."""
+    refuse_unlike(kept)
+    phases = [phase_of(one) for one in kept["phases"]]
+    layout = layout_of(kept)
+    cells = {lane: cell for lane, spot in spots(layout, phases).items() if (cell := cell_of(spot, mapping)) is not None}
+    cells |= own_detectors(layout, mapping)
+    number = {lane: at for at, lane in enumerate(cells)}
+    loops = extending(layout, phases, cells)
+    return Driven(
+        name=kept["light"],
+        offset=round(kept["offset"]),
+        phases=tuple(with_detectors(phase, (number[lane] for lane in own)) for phase, own in zip(phases, loops)),
+        lead=layout.value("detector-gap", LEAD),
+        cells=tuple(cells.values()),
+        gaps=tuple(gap_of(layout, lane) for lane in cells),
+        nodes=tuple(node_of(one) for one in kept["nodes"]),
+    )
+
+
+def refuse_unlike(kept: Mapping[str, Any]) -> None:
+    """Refuses a program of which something is not driven as in SUMO."""
+    if kept["kind"] != ACTUATED:
+        raise Listed(f"as {kept['kind']} is not driven here")
+    if kept["more"]:
+        raise Listed(f"as {', '.join(kept['more'])} of their programs is not driven here")
+    if any(len(following) > 1 for *_, following in kept["phases"]):
+        raise Listed("as phases with several next ones are not driven here")
+    for name, value in kept["parameters"].items():
+        key = name.partition(":")[0]
+        least = 0.1 if key == "passing-time" else 0.0
+        unread = key in NUMBERS and number_of(value) < least
+        if unread or (key in UNLIKE and value not in OFF) or (key in ZERO and number_of(value) > 0):
+            raise Listed(f"as {name}={value} is not driven here")
+
+
+def number_of(text: str) -> float:
+    try:
+        return float(text)
+    except ValueError:
+        raise Listed(f"as {text!r} of their parameters is no number") from None
+
+
+def phase_of(kept: list[Any]) -> Phase:
+    """A phase, of its seconds, state, least, most and next ones. Without a least a phase lasts as listed; with one and
+    no most it has none, as in SUMO."""
+    seconds, state, least, most, following = kept
+    shortest = seconds if least is None else least
+    longest = most if most is not None else seconds if least is None else LONGEST
+    step = following[0] if following and following[0] >= 0 else None
+    return Phase(state, round(seconds), round(shortest), max(round(shortest), round(longest)), next=step)
+
+
+def with_detectors(phase: Phase, detectors: Iterable[int]) -> Phase:
+    return Phase(phase.state, phase.seconds, phase.least, phase.most, tuple(detectors), phase.next)
+
+
+def layout_of(kept: Mapping[str, Any]) -> Layout:
+    lanes = {
+        name: LitLane(name, speed, alone, tuple(Stretch(*one) for one in stretches))
+        for name, speed, alone, stretches in kept["lanes"]
+    }
+    return Layout([Way(*one) for one in kept["ways"]], lanes, kept["parameters"])
+
+
+def gap_of(layout: Layout, lane: str) -> float:
+    """The gap of a lane's detector, of which no more is known than the seconds that a detector keeps."""
+    gap = layout.value("max-gap", GAP, lane)
+    if gap >= limits.ROWS:
+        raise Listed(f"as detectors keep {limits.ROWS} s and max-gap={gap:g}")
+    return gap
+
+
+def cell_of(spot: Spot, mapping: Map) -> Cell | None:
+    """The cell of a spot; none where its lane is not one of the map."""
+    place = mapping.place_of(spot.lane)
+    if place is None:
+        return None
+    link = mapping.links[place[0]]
+    return Cell(*place, min(link.cells - 1, int(spot.metres / link.metres * link.cells)))
+
+
+def own_detectors(layout: Layout, mapping: Map) -> dict[str, Cell]:
+    """The induction loops of the user's own, by the lanes that they are for."""
+    loops = {one.name: one for one in mapping.detectors if one.kind == E1}
+    found = {}
+    for lane in layout.lanes:
+        name = layout.parameters.get(lane, NO_DETECTOR)
+        if name != NO_DETECTOR and name not in loops:
+            raise Listed(f"as the map has no inductionLoop {name}")
+        if name in loops:
+            found[lane] = Cell(loops[name].link, loops[name].lane, loops[name].first)
+    return found
+
+
+def node_of(kept: Mapping[str, Any]) -> NodeOf:
+    connections = tuple(Connection(*one) for one in kept["connections"])
+    yields = {request: frozenset(foes) for request, foes in kept["yields"]}
+    return NodeOf(kept["node"], connections, yields, {(begin, end): flow for begin, end, flow in kept["flows"]})

@@ -1,0 +1,106 @@
+"""SUMO's actuated logic: how long each phase of one light lasts. It knows nothing of streetsim: it is told when a
+detector last saw anybody.
+
+After SUMO 1.15's MSActuatedTrafficLightLogic: a green lasts its least time, and then until no detector that may extend
+it saw anybody for its gap, or until its most. When somebody was seen the light is looked at again so many seconds after
+that as the way from the detector to the stop line takes, else each second.
+"""
+from __future__ import annotations
+
+from collections.abc import Callable, Sequence
+from dataclasses import dataclass, field
+from math import ceil
+from typing import NamedTuple
+
+GapOf = Callable[[int], float]  # the seconds since a detector last saw anybody, 0 while somebody is on it
+GO, YELLOW = "Gg", "yY"  # letters of a state
+BY_GAP, BY_MOST, LISTED = "gap", "most", "listed"  # why a phase ended
+
+
+@dataclass(slots=True, frozen=True)
+class Phase:
+    state: str
+    seconds: int  # as listed
+    least: int
+    most: int
+    detectors: tuple[int, ...] = ()  # that may extend it
+    next: int | None = None  # none: the one that follows
+
+    @property
+    def is_green(self) -> bool:
+        return any(one in GO for one in self.state) and not any(one in YELLOW for one in self.state)
+
+    @property
+    def is_extended(self) -> bool:
+        """Whether detectors say how long it lasts."""
+        return self.is_green and self.least < self.most
+
+    @property
+    def usual(self) -> int:
+        """The seconds that it is thought to last as long as nothing is known."""
+        return min(max(self.seconds, self.least), self.most) if self.is_extended else self.shortest
+
+    @property
+    def shortest(self) -> int:
+        return max(1, self.least)
+
+
+class Ended(NamedTuple):
+    phase: int
+    begin: int
+    seconds: int
+    why: str
+
+
+@dataclass(slots=True)
+class Actuated:
+    """One light. `due` is the next second at which `look` must be called; nothing need be asked before."""
+
+    phases: Sequence[Phase]
+    gaps: Sequence[float]  # of each detector: so long nobody, and it extends no green
+    lead: float = 2.0  # seconds from the detectors to the stop line: SUMO's detector-gap
+    at: int = 0  # the phase that is shown
+    since: int = 0  # its begin
+    due: int = 0
+    ended: list[Ended] = field(default_factory=list)
+    first: dict[int, int] = field(default_factory=dict)  # by phase: the detector that extended it last
+
+    def start(self, now: int, offset: int = 0) -> None:
+        """Begins where a light with the listed seconds would be that began its first phase at an offset."""
+        self.since, place = now, (now - offset) % max(1, sum(phase.seconds for phase in self.phases))
+        for self.at, phase in enumerate(self.phases):
+            if place < phase.seconds:
+                break
+            place -= phase.seconds
+        self.due = now + max(1, self.phases[self.at].seconds - place)
+
+    def look(self, now: int, gap: GapOf) -> bool:
+        """Goes on to the next phase if this one is over; says whether. Sets when to look again."""
+        phase = self.phases[self.at]
+        wait = self.wait(phase, gap) if phase.is_green and now - self.since < phase.most else 0
+        if wait:
+            self.due = min(max(now + wait, self.since + phase.least), self.since + phase.most)
+            return False
+        self.ended.append(Ended(self.at, self.since, now - self.since, self.why(phase, now)))
+        self.at = (self.at + 1) % len(self.phases) if phase.next is None else phase.next
+        self.since, self.due = now, now + self.phases[self.at].shortest
+        return True
+
+    def why(self, phase: Phase, now: int) -> str:
+        """Why a phase ends now."""
+        if not phase.is_extended:
+            return LISTED
+        return BY_MOST if now - self.since >= phase.most else BY_GAP
+
+    def wait(self, phase: Phase, gap: GapOf) -> int:
+        """The seconds until the phase can end by its detectors, 0 if it can now: not before the gap of one that saw
+        somebody is long enough. The one that extended the phase last is asked first, and often is enough."""
+        longest, enough = 0, self.lead <= min(self.gaps, default=0.0)
+        for detector in sorted(phase.detectors, key=lambda one: one != self.first.get(self.at)):
+            seen, most = gap(detector), self.gaps[detector]
+            if seen < most:
+                self.first[self.at] = detector
+                longest = max(longest, ceil(max(most, self.lead) - seen))
+                if enough and longest >= most - 1:
+                    break
+        return longest

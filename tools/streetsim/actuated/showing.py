@@ -1,0 +1,87 @@
+"""What a light shows here of a phase whose end is not known yet: what the import's rules show of a plan in which each
+phase has the mean length that it had so far, as who gives way and what starts late depends on how long a green is.
+Where a phase lasts longer its last second goes on."""
+from __future__ import annotations
+
+from collections.abc import Iterator, Sequence
+from dataclasses import replace
+from itertools import groupby
+
+from streetsim.actuated.lights import Driven, NodeOf
+from streetsim.actuated.logic import Actuated
+from streetsim.base import limits
+from streetsim.base.report import Report
+from streetsim.model.mapping import Map
+from streetsim.model.runs import Command
+from streetsim.sumo.net import Program
+from streetsim.sumo.signals import Green, LitNode, green_seconds, joined
+from streetsim.sumo.yielding import Movement, movements_of, settle
+
+WEIGHT = 0.2  # of the newest length in a phase's mean, chosen at eight rows of four networks
+Lengths = tuple[int, ...]
+
+
+class Shown:
+    """What the nodes of one light show."""
+
+    def __init__(self, light: Driven, mapping: Map) -> None:
+        self.light, self.limits = light, {link.edge: link.limit for link in mapping.links}
+        self.nodes = [(one, lit_node(light, one, mapping)) for one in light.nodes]
+        self.means = [float(phase.usual) for phase in light.phases]
+        self.known = 0  # ended phases that are in the means
+        self.rows: dict[tuple[int, Lengths], list[Green]] = {}
+
+    def learn(self, logic: Actuated) -> Lengths:
+        """Takes what ended since into the means; the first phase may have begun before the run."""
+        for place in range(max(1, self.known), len(logic.ended)):
+            at, _, seconds, _ = logic.ended[place]
+            self.means[at] += WEIGHT * (seconds - self.means[at])
+        self.known = len(logic.ended)
+        return tuple(max(1, round(min(mean, limits.PHASE_STEPS))) for mean in self.means)
+
+    def plans(self, logic: Actuated, now: int) -> Iterator[Command]:
+        """The signal commands of the phase that is shown from now on."""
+        lengths = self.learn(logic)
+        end = sum(lengths[: logic.at + 1])
+        # At the begin of a run the end of a phase may be all that is left of it.
+        left = lengths[logic.at] if logic.ended else min(lengths[logic.at], logic.due - now)
+        for at, (kept, node) in enumerate(self.nodes):
+            if (at, lengths) not in self.rows:
+                self.rows[at, lengths] = self.seconds(kept, node, lengths)
+            yield plan_of(node.node, self.rows[at, lengths][end - left : end], now)
+
+    def seconds(self, kept: NodeOf, node: LitNode, lengths: Lengths) -> list[Green]:
+        """The green turns of each second of a plan with phases of some lengths."""
+        pairs = zip(self.light.phases, lengths, strict=True)
+        states = [phase.state for phase, length in pairs for _ in range(length)]
+        found: dict[int, Movement] = {}
+        if node.permissive is None and kept.flows and kept.yields:
+            found = movements_of(kept.connections, states, kept.yields, kept.flows, self.limits)
+            settle(list(found.values()))
+        own = replace(node, found=found)
+        return green_seconds(own, states, own.told(states), 1, True)
+
+
+def lit_node(light: Driven, kept: NodeOf, mapping: Map) -> LitNode:
+    """A node as the import had it."""
+    turns = [
+        (turn.link, turn.lane, turn.next, turn) for turn in mapping.turns if mapping.links[turn.link].end == kept.node
+    ]
+    edges = {link: mapping.links[link].edge for link, *_ in turns}
+    program = Program(light.offset, [(float(one.seconds), one.state) for one in light.phases], "actuated")
+    return LitNode(kept.node, turns, edges, light.name, program, mapping.options.get("permissive"), Report())
+
+
+def plan_of(node: int, rows: Sequence[Green], now: int) -> Command:
+    """The plan of some seconds from now on, the last of which goes on for as long as a part of a plan may last."""
+    runs = [(len(list(run)), green) for green, run in groupby(rows)]
+    phases = joined(runs)
+    phases[-1] = (limits.PHASE_STEPS, phases[-1][1])
+    cycle = sum(seconds for seconds, _ in phases)
+    parts = [[seconds, sorted([*turn] for turn in green)] for seconds, green in phases]
+    return {"cmd": "signal", "node": node, "offset": -now % cycle, "phases": parts}
+
+
+def lasting(command: Command) -> Command:
+    """The plan that goes on showing what a plan of such a command shows at its end."""
+    return {**command, "offset": 0, "phases": [[limits.PHASE_STEPS, command["phases"][-1][1]]]}

@@ -1,0 +1,86 @@
+"""What is being written: files and folders of other names until they are whole, and what a killed tool left of them.
+
+A tool holds a lock on what it writes, which ends with it however it ends; so what is not held was left, and is removed.
+"""
+import contextlib
+import fcntl
+import glob
+import os
+import shutil
+import tempfile
+from collections.abc import Callable, Iterator
+
+FOLDER = ".half-"
+
+
+@contextlib.contextmanager
+def half_folder(inside: str | os.PathLike[str]) -> Iterator[str]:
+    """A hidden folder to write to inside another one; it is away in the end."""
+    remove_left(os.path.join(glob.escape(os.fspath(inside)), f"{FOLDER}*"))
+    path, held = hold_new(lambda: tempfile.mkdtemp(prefix=FOLDER, dir=inside))
+    try:
+        yield path
+    finally:
+        shutil.rmtree(path, ignore_errors=True)
+        os.close(held)
+
+
+@contextlib.contextmanager
+def half_file(path: str) -> Iterator[str]:
+    """The path of a hidden file to write beside another one; it is away in the end, or has another name."""
+    folder, name = os.path.split(path)
+    stem, dot, end = name.partition(".")
+    remove_left(os.path.join(glob.escape(folder), f".{glob.escape(stem)}.*.half{glob.escape(dot + end)}"))
+    half, held = hold_new(lambda: new_file(os.path.join(folder, f".{stem}.{os.getpid()}.half{dot}{end}")))
+    try:
+        yield half
+    finally:
+        with contextlib.suppress(OSError):
+            os.remove(half)
+        os.close(held)
+
+
+def is_half(path: str) -> bool:
+    """Whether a path is of what is being written, or lies in it."""
+    return any(part.startswith(FOLDER) or (part[:1] == "." and ".half" in part) for part in str(path).split(os.sep))
+
+
+def new_file(path: str) -> str:
+    """Makes a file that is empty, or leaves one as it is; gives its path."""
+    os.close(os.open(path, os.O_CREAT | os.O_WRONLY, 0o666))
+    return path
+
+
+def hold_new(make: Callable[[], str]) -> tuple[str, int]:
+    """The path of what `make` makes, and the descriptor by which it is held; made anew where another tool has just
+    taken it for left."""
+    while True:
+        path = make()
+        with contextlib.suppress(FileNotFoundError):
+            held = os.open(path, os.O_RDONLY)
+            if lock(held) is not False and os.path.exists(path):
+                return path, held
+            os.close(held)
+
+
+def lock(held: int) -> bool | None:
+    """Takes the lock on an open file: false where another tool holds it, none where its file system has no locks."""
+    try:
+        fcntl.flock(held, fcntl.LOCK_EX | fcntl.LOCK_NB)
+    except BlockingIOError:
+        return False
+    except OSError:
+        return None
+    return True
+
+
+def remove_left(pattern: str) -> None:
+    """Removes the files and folders of a pattern (as glob's) that no tool holds; what cannot be removed stays."""
+    for path in glob.glob(pattern, include_hidden=True):
+        with contextlib.suppress(OSError):
+            held = os.open(path, os.O_RDONLY | os.O_NOFOLLOW)
+            try:
+                if lock(held):
+                    shutil.rmtree(path) if os.path.isdir(path) else os.remove(path)
+            finally:
+                os.close(held)

@@ -1,0 +1,84 @@
+"""Work in processes side by side."""
+import multiprocessing
+import os
+import signal
+from collections.abc import Callable, Iterable
+from multiprocessing.connection import Connection, wait
+from multiprocessing.process import BaseProcess
+from typing import Any, TypeVar
+
+from streetsim.base.files import Fault
+
+Item = TypeVar("Item")
+Result = TypeVar("Result")
+Tell = Callable[[Any], object]  # how far a work is
+Told = Callable[[int, Any], object]  # the same with the place of its item
+Running = dict[Connection, tuple[int, BaseProcess]]
+CORES = len(os.sched_getaffinity(0))
+
+
+def side_by_side(
+    work: Callable[[Item, Tell], Result],
+    items: Iterable[Item],
+    jobs: int = CORES,
+    told: Told = lambda place, value: None,
+) -> list[Result]:
+    """What a function gives for each item, in the items' order.
+    Each runs in a process of its own, at most so many at once.
+
+    The function gets an item and a function to tell how far it is; what it tells goes to `told(place, value)`.
+    A Fault of one ends all the others and is raised.
+    """
+    waiting = list(enumerate(items))
+    running: Running = {}
+    results: dict[int, Result] = {}
+    try:
+        while waiting or running:
+            while waiting and len(running) < jobs:
+                begin(work, *waiting.pop(0), running)
+            for pipe in wait(list(running)):
+                assert isinstance(pipe, Connection)
+                hear(pipe, running, results, told)
+    finally:
+        for _, process in running.values():
+            process.kill()
+            process.join()
+    return [results[place] for place in sorted(results)]
+
+
+def begin(work: Callable[[Item, Tell], object], place: int, item: Item, running: Running) -> None:
+    """Starts a process; what it tells comes from the pipe that is its key."""
+    pipe, end = multiprocessing.Pipe(duplex=False)
+    process = multiprocessing.get_context("fork").Process(target=do, args=(work, item, end))
+    process.start()
+    end.close()
+    running[pipe] = place, process
+
+
+def do(work: Callable[[Item, Tell], object], item: Item, pipe: Connection) -> None:
+    """Runs in the process: ends by signals as programs do, and tells a result or a Fault."""
+    signal.signal(signal.SIGINT, signal.SIG_IGN)
+    for number in (signal.SIGTERM, signal.SIGHUP):
+        signal.signal(number, signal.SIG_DFL)
+    try:
+        pipe.send(("done", work(item, lambda value: pipe.send(("told", value)))))
+    except Fault as fault:
+        pipe.send(("fault", str(fault)))
+
+
+def hear(pipe: Connection, running: Running, results: dict[int, Result], told: Told) -> None:
+    """Takes one message of a process."""
+    place, process = running[pipe]
+    try:
+        kind, value = pipe.recv()
+    except EOFError:
+        process.join()
+        raise Fault(f"a process ended before its work was done, with status {process.exitcode}") from None
+    if kind == "fault":
+        raise Fault(value)
+    if kind == "told":
+        told(place, value)
+        return
+    results[place] = value
+    process.join()
+    del running[pipe]

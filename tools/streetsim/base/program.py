@@ -1,0 +1,36 @@
+"""Which program the tools run."""
+import os
+import shutil
+from pathlib import Path
+
+from streetsim.base.files import Fault
+
+VARIABLE = "STREETSIM_PROGRAM"
+BUILT = "crates/street_sim/out/street_sim"  # where `./build` of the repository puts it
+HELP = f"the simulator (default: ${VARIABLE})"
+
+
+def find_program(given: str | None = None) -> str:
+    """The path of the program that is given, else of the one that STREETSIM_PROGRAM names; Fault where there is none.
+
+    The repository's script `streetsim` stands for the program that was built there: no tool starts a build.
+    """
+    named = given or os.environ.get(VARIABLE)
+    if not named:
+        raise Fault(
+            f"no simulator: give --program PATH or set {VARIABLE}; `./build` in streetsim's repository makes {BUILT}"
+        )
+    found = shutil.which(named)
+    if found is None:
+        raise Fault(f"{named}: no program that can be run; `./build` in streetsim's repository makes {BUILT}")
+    path = Path(found).resolve()
+    return str(path.parent / BUILT) if is_script(path) else str(path)
+
+
+def is_script(path: Path) -> bool:
+    """Whether this is the repository's script; Fault where nothing was built there."""
+    if path.name != "streetsim" or not (path.parent / "crates/street_sim").is_dir():
+        return False
+    if not os.access(path.parent / BUILT, os.X_OK):
+        raise Fault(f"{path.parent}: the simulator is not built: run `./build` there first")
+    return True

@@ -1,0 +1,149 @@
+"""Long work: a line on a terminal that says how far it is, and an end that the user asks for by Ctrl-C."""
+import signal
+import sys
+import threading
+import time
+from types import FrameType
+from typing import IO, Any, Self
+
+from streetsim.base.client import Census
+
+PAUSE = 0.2  # seconds between two writings of a line
+
+
+class TerminalLine:
+    """A line that is written over and over on a terminal. Nothing elsewhere."""
+
+    def __init__(self, stream: IO[str] | None = None) -> None:
+        self.stream = stream or sys.stderr
+        self.shown, self.begin, self.last, self.width = self.stream.isatty(), time.monotonic(), 0.0, 0
+
+    def seconds(self) -> float:
+        """Since the begin."""
+        return time.monotonic() - self.begin
+
+    def is_due(self, ended: bool) -> bool:
+        """Whether to write it now: at most five times a second, and at the end."""
+        now = time.monotonic()
+        if not self.shown or (now - self.last < PAUSE and not ended):
+            return False
+        self.last = now
+        return True
+
+    def write(self, text: str, end: str = "") -> None:
+        """Writes a text from the line's begin on, and what ends it."""
+        print(f"\r{text}", end=end, file=self.stream, flush=True)
+
+    def write_over(self, text: str) -> None:
+        """Writes it where one was that may be longer."""
+        self.write(f"{text:{self.width}}")
+        self.width = len(text)
+
+    def end(self) -> None:
+        """Takes the line away."""
+        if self.width:
+            self.write(f"{'':{self.width}}\r")
+            self.width = 0
+
+
+class Meanwhile(TerminalLine):
+    """How much is done of what, what else there is to say, minutes left."""
+
+    def __init__(self, what: str, total: int, stream: IO[str] | None = None) -> None:
+        super().__init__(stream)
+        self.what, self.total = what, total
+
+    def show(self, done: int, more: str = "") -> None:
+        """Writes the line where it is due; done: of the total; more: what else there is to say."""
+        if self.is_due(done >= self.total):
+            self.write_over(self.line(done, more, self.seconds()))
+
+    def line(self, done: int, more: str, seconds: float) -> str:
+        """The line's text; seconds: since the begin."""
+        left = seconds * (self.total - done) / max(1, done) / 60
+        parts = [
+            f"[{bar(done, self.total)}] {done:,} of {self.total:,} {self.what}",
+            *([more] if more else []),
+            f"{left:.1f} min left",
+        ]
+        return ", ".join(parts)
+
+
+class UnderWay(TerminalLine):
+    """The clock of a run, or how many of several are done; vehicles on their way, arrived,
+    steps a second. It stays there."""
+
+    def __init__(self, until: int, runs: int = 1, stream: IO[str] | None = None) -> None:
+        super().__init__(stream)
+        self.until = until
+        self.clocks, self.ways, self.arrived = [0] * runs, [0] * runs, [0] * runs
+
+    def show(self, clock: int, census: Census | None, run: int = 0) -> None:
+        """Notes how far a run (by its place) is; nothing before its first census."""
+        if not self.shown or census is None:
+            return
+        self.clocks[run], self.ways[run], self.arrived[run] = clock, census.cells + census.buffers, census.arrived
+        ended = min(self.clocks) >= self.until
+        if self.is_due(ended):
+            self.write(f"{self.line(self.seconds())} ", "\n" if ended else "")
+
+    def line(self, seconds: float) -> str:
+        """The line's text; seconds: since the begin."""
+        done, runs = sum(self.clocks), len(self.clocks)
+        over = sum(clock >= self.until for clock in self.clocks)
+        place = f"{self.clocks[0]:,} s" if runs == 1 else f"{over} of {runs} runs done"
+        return (
+            f"[{bar(done, self.until * runs)}] {place}, {sum(self.ways):,} on their way, "
+            f"{sum(self.arrived):,} arrived, {done / max(0.001, seconds):,.0f} steps/s"
+        )
+
+
+class Slow(TerminalLine):
+    """What a tool does and since when, once that has taken two seconds."""
+
+    def __init__(self, text: str, stream: IO[str] | None = None, wait: float = 2.0) -> None:
+        """text: what the tool does; wait: seconds before the line comes."""
+        super().__init__(stream)
+        self.text, self.wait = text, wait
+        self.ended = threading.Event()
+        self.thread = threading.Thread(target=self.show, daemon=True)
+
+    def __enter__(self) -> Self:
+        if self.shown:
+            self.thread.start()
+        return self
+
+    def __exit__(self, *_: object) -> None:
+        self.ended.set()
+        if self.thread.ident is not None:
+            self.thread.join()
+            self.end()
+
+    def show(self) -> None:
+        """Writes the line anew until the end; runs in a thread of its own."""
+        while not self.ended.wait(self.wait if not self.width else 0.5):
+            self.write_over(f"{self.text}, {self.seconds():.0f} s")
+
+
+def bar(done: int, total: int) -> str:
+    """What is done, as 30 characters."""
+    return f"{'#' * (30 * done // max(1, total)):30}"
+
+
+class Stopping:
+    """Ctrl-C asks for an end, which `asked` then tells; a second one ends the tool as anywhere."""
+
+    def __init__(self) -> None:
+        self.asked = False
+
+    def __enter__(self) -> Self:
+        self.before: Any = signal.signal(signal.SIGINT, self.note)
+        return self
+
+    def __exit__(self, *_: object) -> None:
+        signal.signal(signal.SIGINT, self.before)
+
+    def note(self, _number: int, _frame: FrameType | None) -> None:
+        """Handles the first Ctrl-C."""
+        self.asked = True
+        signal.signal(signal.SIGINT, self.before)

@@ -1,0 +1,78 @@
+"""Seeds, and what runs with several of them tell: means, intervals, how many runs are needed."""
+from collections.abc import Sequence
+from math import ceil, sqrt
+from statistics import NormalDist, fmean, stdev
+
+from streetsim.base.files import Fault
+
+MOST_SEEDS = 1000
+MOST_RUNS = 1_000_000
+NORMAL = NormalDist().inv_cdf(0.975)
+# Quantiles of Student's t at 97.5 %, for 1 to 30 degrees of freedom.
+STUDENT = (
+    12.706, 4.303, 3.182, 2.776, 2.571, 2.447, 2.365, 2.306, 2.262, 2.228, 2.201, 2.179, 2.160, 2.145, 2.131, 2.120,
+    2.110, 2.101, 2.093, 2.086, 2.080, 2.074, 2.069, 2.064, 2.060, 2.056, 2.052, 2.048, 2.045, 2.042,
+)
+
+
+def seeds_of(text: str | int, name: str) -> range:
+    """The seeds of FIRST-LAST, or of one number; Fault where it is neither; name: what the user calls them."""
+    first, _, last = str(text).partition("-")
+    last = last or first
+    if not (first.isdecimal() and last.isdecimal() and int(first) <= int(last) < min(int(first) + MOST_SEEDS, 2**64)):
+        raise Fault(f"{name} {text!r}: expected FIRST-LAST, at most {MOST_SEEDS:,} of them")
+    return range(int(first), int(last) + 1)
+
+
+def student(degrees: int) -> float:
+    """The quantile of Student's t at 97.5 % for so many degrees of freedom: of the table, and beyond it by the first
+    terms of its expansion about the normal one, which are exact to 0.001 there."""
+    if degrees <= len(STUDENT):
+        return STUDENT[degrees - 1]
+    z = NORMAL
+    return z + (z**3 + z) / (4 * degrees) + (5 * z**5 + 16 * z**3 + 3 * z) / (96 * degrees**2)
+
+
+def half_width(deviation: float, runs: int) -> float:
+    """Half the width of the 95 % interval of a mean of so many runs, two at least, of their standard deviation."""
+    return student(runs - 1) * deviation / sqrt(runs)
+
+
+def paired(before: Sequence[float], after: Sequence[float]) -> tuple[float, float | None]:
+    """The mean difference of runs with equal seeds, in the order of both, and half the width of its 95 % interval (none
+    for one run)."""
+    return interval([there - here for here, there in zip(before, after, strict=True)])
+
+
+def unpaired(before: Sequence[float], after: Sequence[float]) -> float:
+    """Half the width of the 95 % interval of a difference of means, were the runs of other seeds."""
+    return half_width(sqrt(stdev(before) ** 2 + stdev(after) ** 2), len(before))
+
+
+def runs_needed(deviation: float, error: float) -> int | None:
+    """The least number of runs whose interval reaches at most an error, in the values' unit, to each side: n = (t s /
+    e)^2 with the t of n - 1; none above a million."""
+    low, high = 2, 2
+    while half_width(deviation, high) > error:
+        if high >= MOST_RUNS:
+            return None
+        low, high = high, high * 2
+    while low < high:
+        middle = (low + high) // 2
+        low, high = (low, middle) if half_width(deviation, middle) <= error else (middle + 1, high)
+    return low
+
+
+def seeds_for(values: Sequence[float], spread: float = 0.005, error: float = 0.01, most: int = 10) -> int:
+    """How many seeds a search needs, by runs of the given plan: one where their standard deviation is at most half a
+    percent of the mean; else so many that the standard error of their mean is at most a percent, two at least."""
+    relative = stdev(values) / fmean(values) if fmean(values) else 0.0
+    return 1 if relative <= spread else min(most, max(2, ceil((relative / error) ** 2)))
+
+
+def interval(values: Sequence[float]) -> tuple[float, float | None]:
+    """The mean of some values and half the width of its 95 % interval (none for one value)."""
+    if len(values) < 2:
+        return fmean(values), None
+    quantile = STUDENT[len(values) - 2] if len(values) - 2 < len(STUDENT) else 1.96
+    return fmean(values), quantile * stdev(values) / len(values) ** 0.5

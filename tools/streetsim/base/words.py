@@ -1,0 +1,127 @@
+"""The words of a command: what is wrong with them is told in one line; times and lists are read as SUMO reads them."""
+import argparse
+import os
+import re
+import sys
+from collections.abc import Callable, Iterable, Sequence
+from typing import Any, NoReturn
+
+from streetsim.base.files import Fault, seconds
+from streetsim.base.jobs import CORES
+
+ROUNDS, MOST_ROUNDS = 2, 10  # before a run that counts
+FALSE = ("false", "0", "no", "off", "f")  # as SUMO reads a word that is on or off
+FREE = ("--title",)  # words whose text may be empty
+
+
+class Parser(argparse.ArgumentParser):
+    """A parser for which wrong words are a Fault, one line without the usage.
+    A word that begins with - and is no option is a value, as many of SUMO's edges begin so."""
+
+    def __init__(self, *args: Any, **more: Any) -> None:
+        super().__init__(*args, **more)
+        self._negative_number_matcher = re.compile("-[^-]")  # what argparse takes for a value all the same
+
+    def parse_known_args(self, args: Any = None, namespace: Any = None) -> Any:
+        """As argparse's; words that name nothing are a Fault."""
+        if (told := naming_nothing(sys.argv[1:] if args is None else list(args))) is not None:
+            self.error(told)
+        return super().parse_known_args(args, namespace)
+
+    def error(self, message: str) -> NoReturn:
+        """The Fault of wrong words."""
+        raise Fault(f"{message.removeprefix('argument ')} (what may be given: {self.prog} --help)")
+
+
+def naming_nothing(words: Sequence[str]) -> str | None:
+    """Tells of the first word without a name in it, as a variable of the shell that is not set leaves one: a tool would
+    go on as if it were not there; none where all name something."""
+    for before, word in zip(("", *words), words):
+        name, sign, text = word.partition("=")
+        option, value = (name, text) if sign and word.startswith("--") else (before, word)
+        if option not in FREE and not listed(value):
+            return f"{option}: {value!r} names nothing" if option.startswith("-") else f"{value!r} names nothing"
+    return None
+
+
+def within(least: int, most: int) -> Callable[[str], int]:
+    """A conversion that takes whole numbers from least to most, both included."""
+
+    def number(text: str) -> int:
+        if not text.isdecimal() or not least <= int(text) <= most:
+            raise argparse.ArgumentTypeError(f"{text!r} is not {least} to {most:,}")
+        return int(text)
+
+    return number
+
+
+def time_within(least: int, most: int) -> Callable[[str], int]:
+    """A conversion that takes whole seconds of a range, written as SUMO's times: 3600, 01:00:00 or 0:01:00:00."""
+
+    def time(text: str) -> int:
+        value = whole_seconds(text)
+        if value is None or not least <= value <= most:
+            raise argparse.ArgumentTypeError(f"{text!r} is not {least} to {most:,} s, in seconds or as HH:MM:SS")
+        return value
+
+    return time
+
+
+def whole_seconds(text: str) -> int | None:
+    """The seconds of a SUMO time; none where it is no time or no whole second."""
+    try:
+        value = seconds(text)
+    except ValueError:
+        return None
+    return int(value) if value == int(value) else None
+
+
+def listed(text: str) -> list[str]:
+    """The names of a list, with spaces or commas between; neither stands in a name of SUMO's."""
+    return [name for name in re.split(r"[\s,]+", text) if name]
+
+
+def add_run(made: argparse.ArgumentParser) -> None:
+    """The words that name what streetsim-import made."""
+    made.add_argument("run", help="the run (.jsonl)")
+    made.add_argument("--map", required=True, help="its map of names (.json)")
+
+
+def add_jobs(made: argparse.ArgumentParser) -> None:
+    """The word that says how many runs go side by side."""
+    made.add_argument(
+        "--jobs",
+        type=within(1, 1024),
+        default=CORES,
+        help="runs side by side (default: one for each core, %(default)s)",
+    )
+
+
+def add_merge(made: argparse.ArgumentParser) -> None:
+    """The word that says how vehicles merge before works."""
+    made.add_argument(
+        "--merge",
+        choices=["turns", "none"],
+        default="turns",
+        help="before road works on one lane of a joint link the lanes take turns; none: who stands there waits for a "
+        "gap (default %(default)s)",
+    )
+
+
+def add_rounds(made: argparse.ArgumentParser, default: int | None = ROUNDS, usual: str = "default %(default)s") -> None:
+    """The word that says by how many rounds vehicles give way without a light; usual: what its help says of its
+    default."""
+    made.add_argument(
+        "--rounds",
+        type=within(0, MOST_ROUNDS),
+        default=default,
+        metavar="N",
+        help=f"runs before the one that counts, by which those who give way without a light find gaps ({usual}; "
+        "0: nobody gives way)",
+    )
+
+
+def files_of(words: Iterable[str]) -> list[str]:
+    """The files that words name, each one or several with commas between, as in SUMO; a file whose name has a comma is
+    one."""
+    return [path for word in words for path in ([word] if os.path.exists(word) else filter(None, word.split(",")))]

@@ -1,0 +1,96 @@
+"""streetsim-compare: how close a run is to SUMO's own outputs of the same demand, or to counts."""
+import argparse
+import sys
+
+from streetsim.base.files import Fault, whole_folder
+from streetsim.base.progress import Slow
+from streetsim.base.words import Parser, files_of
+from streetsim.counts.judging import judged
+from streetsim.counts.pictures import draw
+from streetsim.counts.reading import read_counts
+from streetsim.counts.seen import passed_in
+from streetsim.counts.writing import JUDGED_AT_WISH, LAST, write_judged
+from streetsim.model import trust
+from streetsim.model.folder import read_folder
+from streetsim.results.compare import compare_edges, compare_trips, edges_of, read_edges, read_tripinfo, trips_of
+
+
+def parser() -> argparse.ArgumentParser:
+    made = Parser(
+        prog="streetsim-compare",
+        description="Compares a run with SUMO's tripinfo and, if given, edgeData of the same periods; or with counts.",
+    )
+    made.add_argument("folder", help="what streetsim-run wrote")
+    made.add_argument(
+        "--sumo",
+        nargs="+",
+        default=[],
+        metavar="FILE",
+        help="tripinfo.xml, and edgedata.xml made with freq=900 (or the run's period)",
+    )
+    made.add_argument(
+        "--counts",
+        nargs="+",
+        default=[],
+        metavar="FILE",
+        help="counts of edges and turns, as of streetsim-demand; a column group names screen lines",
+    )
+    made.add_argument(
+        "--attribute",
+        metavar="NAME",
+        help="of SUMO's files of counts, that is the count (default: left, entered or count)",
+    )
+    made.add_argument("--out", metavar="DIR", help="the folder for tables and pictures of --counts")
+    return made
+
+
+def main(arguments: list[str]) -> int:
+    words = parser().parse_args(arguments)
+    sumo, counts = files_of(words.sumo), files_of(words.counts)
+    if not sumo and not counts:
+        what = "what to compare with: --sumo tripinfo.xml .., or --counts FILE .."
+        raise Fault(f"{what} (what may be given: streetsim-compare --help)")
+    if sumo and counts:
+        raise Fault("--sumo and --counts are two comparisons: one at a time")
+    if (words.out or words.attribute) and not counts:
+        raise Fault(f"--{'out' if words.out else 'attribute'} is of --counts: give it too")
+    return with_counts(words.folder, counts, words.attribute, words.out) if counts else with_sumo(words.folder, sumo)
+
+
+def with_sumo(path: str, files: list[str]) -> int:
+    """Trips, and edges where their file is given, of a folder beside SUMO's. Status 1 where nothing is common to
+    both."""
+    if len(files) > 2:
+        raise Fault("--sumo takes tripinfo.xml and at most one edgedata.xml")
+    with Slow(f"reading {path}") as shown:
+        folder = read_folder(path)
+        here, names = trips_of(folder), [row["id"] for row in folder.trips()]
+        shown.text = f"reading {files[0]}"
+        there = read_tripinfo(files[0])
+        lines, common = list(compare_trips(here, there, names)), bool(here.keys() & there.keys())
+        if len(files) == 2:
+            shown.text = f"reading {files[1]}"
+            edges, sumo = edges_of(folder), read_edges(files[1])
+            lines += compare_edges(edges, sumo, folder.period, len(folder.mapping.links_of))
+            common = common and any(key in sumo for key in edges)
+    print(*lines, sep="\n")
+    if not common:
+        print("nothing is common to both", file=sys.stderr)
+    return 0 if common else 1
+
+
+def with_counts(path: str, files: list[str], attribute: str | None, out: str | None) -> int:
+    """The usual criteria by hour; tables and pictures where a folder is named. Status 1 where they are not passed."""
+    with Slow(f"reading {path}") as shown:
+        folder = read_folder(path)
+        counts = read_counts(files, attribute)
+        shown.text = f"comparing with {len(counts):,} counts"
+        fit = judged(counts, passed_in(folder, counts))
+        if out:
+            with whole_folder(out, LAST, JUDGED_AT_WISH) as made:
+                write_judged(made, fit)
+                draw(made, fit, folder.mapping.links, "passed in the run")
+    print(*fit.lines(), sep="\n")
+    if folder.doubts:
+        print(trust.verdict(folder.doubts))
+    return 0 if fit.fits else 1

@@ -1,0 +1,152 @@
+"""streetsim-demand: from counts, matrices or turn ratios to a demand that fits them, on paper and in the simulation."""
+import argparse
+import os
+from collections.abc import Sequence
+from dataclasses import replace
+
+from streetsim.base import program
+from streetsim.base.files import Fault, place_of, refuse_equal
+from streetsim.base.progress import Slow, Stopping
+from streetsim.base.report import Report
+from streetsim.base.words import Parser, add_rounds, files_of, within
+from streetsim.cli.import_ import add_options, options_of
+from streetsim.counts import demanding, making
+from streetsim.counts.demanding import Asked
+from streetsim.counts.fitting import ERROR
+from streetsim.counts.making import Outputs, Running
+from streetsim.routes.loading import read_town
+
+
+def parser() -> argparse.ArgumentParser:
+    made = Parser(
+        prog="streetsim-demand",
+        description="Makes vehicles with routes of counts of edges and turns, of matrices between zones, or of flows "
+        "and turn ratios, and says how well they fit.",
+    )
+    made.add_argument("net", help="the network (.net.xml, .net.xml.gz)")
+    made.add_argument(
+        "additional", nargs="*", default=[], help="additional files with signal programs and vehicle types"
+    )
+    add_inputs(made)
+    add_fit(made)
+    made.add_argument("-o", "--output", required=True, help="the vehicles (.rou.xml)")
+    made.add_argument("--out", required=True, metavar="DIR", help="the folder for tables and pictures")
+    made.add_argument("--run", help="the run of these vehicles, as streetsim-import makes it (.jsonl); with --map")
+    made.add_argument("--map", help="the map of that run (.json)")
+    made.add_argument("--program", help=program.HELP)
+    add_options(made)
+    return made
+
+
+def add_inputs(made: argparse.ArgumentParser) -> None:
+    """The words that name what a demand is made of."""
+    for name, words in (
+        ("counts", "CSV (begin,end,from,to,vehicles; to is empty for an edge), or SUMO's edgeData or edgeRelations"),
+        ("zones", "CSV (zone,edges), or SUMO's TAZ"),
+        ("matrix", "CSV (from,to,vehicles; begin,end), SUMO's O or V format, or tazRelations"),
+        ("flows", "flows with from and without to, which go on by --ratios"),
+        ("ratios", "turn ratios, as SUMO's jtrrouter takes them"),
+        ("candidates", "files of routes that vehicles may take"),
+    ):
+        made.add_argument(f"--{name}", nargs="+", default=[], metavar="FILE", help=words)
+    made.add_argument(
+        "--attribute", metavar="NAME", help="of SUMO's files, that is the count (default: left, entered or count)"
+    )
+    made.add_argument(
+        "--ends",
+        choices=["fringe", "all"],
+        default="fringe",
+        help="without zones: fringe: trips begin and end where the network does, if it does; all: on any edge "
+        "(default %(default)s)",
+    )
+
+
+def add_fit(made: argparse.ArgumentParser) -> None:
+    """The words that say how numbers are found."""
+    made.add_argument(
+        "--ways", type=within(0, 20), metavar="N", help="at most, of each pair (default 3; with --candidates 0)"
+    )
+    made.add_argument(
+        "--most",
+        type=within(1, 1_000_000),
+        default=60_000,
+        metavar="N",
+        help="ways at most, about; of more pairs some are drawn (default %(default)s)",
+    )
+    made.add_argument(
+        "--error", type=error_of, default=ERROR, metavar="SHARE", help="by which counts are wrong (default %(default)s)"
+    )
+    made.add_argument(
+        "--runs",
+        type=within(0, 100),
+        default=0,
+        metavar="N",
+        help="at most so many runs, after each of which the fit is corrected by what passed (default %(default)s)",
+    )
+    add_rounds(made)
+
+
+def error_of(text: str) -> float:
+    """A share, 0 to 1; argparse's error otherwise."""
+    try:
+        value = float(text)
+    except ValueError:
+        value = -1.0
+    if not 0 <= value <= 1:
+        raise argparse.ArgumentTypeError(f"{text!r} is not 0 to 1")
+    return value
+
+
+def main(arguments: Sequence[str]) -> int:
+    words = parser().parse_args(arguments)
+    asked, outputs = asked_of(words), Outputs(words.output, words.out, words.run, words.map)
+    check_words(words)
+    running = Running(program.find_program(words.program), words.runs, words.rounds) if words.runs else None
+    with Slow(f"reading {words.net}") as shown:
+
+        def told(text: str) -> None:
+            shown.text = text
+
+        town = read_town(words.net, words.additional, options_of(words), Report())
+        basis = demanding.basis_of(town, asked, told)
+        if not words.begin:
+            basis = replace(basis, town=demanding.with_begin(town, basis.slices.bounds[0]))
+        told("fitting")
+        fitted = demanding.fit(basis, asked, basis.free_costs())
+        making.tell_inputs(basis, fitted)
+        with Stopping() as stopping:
+            tried = making.tried(basis, asked, running, fitted, lambda: stopping.asked, told) if running else []
+        made = making.made_of(basis, asked, fitted, tried)
+        told("writing")
+        making.write(outputs, made, making.setting_of(asked, made, words.runs))
+    return making.tell(made)
+
+
+def asked_of(words: argparse.Namespace) -> Asked:
+    """What the words ask for; additional files are listed in the words."""
+    names = ("counts", "zones", "flows", "ratios", "candidates")
+    files = {name: tuple(files_of(getattr(words, name))) for name in names}
+    words.additional = files_of(words.additional)
+    return Asked(
+        matrices=tuple(files_of(words.matrix)), attribute=words.attribute, ways=words.ways, most=words.most,
+        everywhere=words.ends == "all", error=words.error, seed=words.seed, **files,
+    )  # fmt: skip
+
+
+def check_words(words: argparse.Namespace) -> None:
+    """Refuses words that do not fit to each other, before anything is read."""
+    if (words.run is None) != (words.map is None):
+        raise Fault("--run and --map are given together or not at all")
+    if words.runs and not words.counts:
+        raise Fault("--runs compares with counts: give --counts")
+    if words.ends == "all" and (words.zones or words.matrix or words.flows):
+        raise Fault("--ends says where trips begin without zones: give no --zones, --matrix or --flows beside")
+    inputs = [words.net, *words.additional, *words.counts, *words.zones, *words.matrix, *words.flows, *words.ratios]
+    outputs = {"-o": words.output, "--run": words.run, "--map": words.map}
+    given = {name: path for name, path in outputs.items() if path is not None}
+    refuse_equal(given, [*inputs, *words.candidates])
+    for path in given.values():
+        if not os.path.isdir(os.path.dirname(place_of(path))):
+            raise Fault(f"{path}: there is no folder {os.path.dirname(place_of(path))}")
+    if os.path.exists(words.out) and not os.path.isdir(words.out):
+        raise Fault(f"{words.out}: exists and is no folder")

@@ -1,0 +1,40 @@
+"""streetsim-export: edges and junctions with what is known of them, for geographic information systems."""
+import json
+import os
+import shutil
+
+from streetsim.base.files import Fault, place_of
+from streetsim.base.words import Parser
+from streetsim.gis.exporting import features, told, write_package, write_text
+from streetsim.gis.places import places_of
+from streetsim.results.reading import read_any
+
+
+def parser() -> Parser:
+    made = Parser(
+        prog="streetsim-export",
+        description="Writes the edges and junctions of a run with flow, speed, control delay, level of service, "
+        "v/c and queues by interval, in WGS84: GeoJSON, or a GeoPackage by GDAL's ogr2ogr. "
+        "With --seeds means over the seeds.",
+    )
+    made.add_argument("run", metavar="RUN", help="a folder that streetsim-run wrote, or one with seeds")
+    made.add_argument("-o", "--output", required=True, help="the file (.geojson, .gpkg)")
+    made.add_argument("--projection", help="of a network that tells none: EPSG:25832, '+proj=utm +zone=32', ..")
+    return made
+
+
+def main(arguments: list[str]) -> int:
+    words = parser().parse_args(arguments)
+    ending = os.path.splitext(words.output)[1].lower()
+    if ending not in (".geojson", ".gpkg"):
+        raise Fault(f"{words.output}: an export's name ends with .geojson or .gpkg")
+    if ending == ".gpkg" and not shutil.which("ogr2ogr"):
+        raise Fault("a GeoPackage needs ogr2ogr (Debian: apt install gdal-bin); a .geojson needs none")
+    place_of(words.output)
+    runs = read_any(words.run)
+    mapping = runs.first.mapping
+    found = list(features(runs, places_of(mapping.location, words.projection, runs.first.path)))
+    text = json.dumps({"type": "FeatureCollection", "features": found}, separators=(",", ":"))
+    (write_package if ending == ".gpkg" else write_text)(words.output, text)
+    print(told(words.output, runs, found))
+    return 0

@@ -1,0 +1,194 @@
+"""streetsim-import: SUMO networks and routes to streetsim's commands."""
+import argparse
+import sys
+from typing import Any
+
+from streetsim.base import limits
+from streetsim.base.files import Fault, place_of, refuse_equal
+from streetsim.base.progress import Slow
+from streetsim.base.report import COLUMNS, Report
+from streetsim.base.words import FALSE, Parser, files_of, listed, time_within, within
+from streetsim.importing.convert import read_and_converted, write_run
+from streetsim.model.sources import Sources
+from streetsim.model.tables import write_table
+from streetsim.sumo.configuration import DEFAULTS, files_named, read_configuration
+from streetsim.sumo.network import Options
+from streetsim.sumo.types import CLASSES
+
+
+def parser() -> argparse.ArgumentParser:
+    made = Parser(
+        prog="streetsim-import",
+        description="Makes load, signal and enter lines, and a map of the names, of a SUMO network and its routes.",
+    )
+    made.add_argument("net", nargs="?", help="the network (.net.xml, .net.xml.gz)")
+    made.add_argument(
+        "-c",
+        "--configuration",
+        metavar="FILE",
+        help="SUMO's configuration (.sumocfg): its network, files, begin, end and seed, where no words give others",
+    )
+    made.add_argument(
+        "additional",
+        nargs="*",
+        help="additional files with signal programs, of which the last of a light counts, vehicle types, "
+        "detectors, and demand",
+    )
+    made.add_argument("--routes", nargs="+", default=[], metavar="FILE", help="vehicles, flows and routes (.rou.xml)")
+    made.add_argument(
+        "--trips",
+        nargs="+",
+        default=[],
+        metavar="FILE",
+        help="trips, and flows with from and to: each gets the way that is shortest with the waits at signals and the "
+        "volumes so far (better ways: streetsim-route)",
+    )
+    made.add_argument("-o", "--output", required=True, help="the run: lines of JSON (.jsonl, .jsonl.gz)")
+    made.add_argument("--map", required=True, help="the map of names to write (.json)")
+    made.add_argument("--warnings", metavar="FILE", help="a table of all that is said, with all names (.csv)")
+    made.add_argument("--strict", action="store_true", help="end with status 1 where vehicles were skipped")
+    add_options(made)
+    return made
+
+
+def add_options(made: argparse.ArgumentParser) -> None:
+    """The words that say how a network and its vehicles become commands."""
+    add_lanes(made)
+    add_vehicles(made)
+    add_numbers(made)
+    made.add_argument(
+        "--permissive",
+        type=float,
+        metavar="SHARE",
+        help="the last share of each permissive green that is shown (default: by the flows that it gives way to)",
+    )
+
+
+def add_lanes(made: argparse.ArgumentParser) -> None:
+    """The words that say which lanes there are, and how vehicles go from one to the next."""
+    made.add_argument(
+        "--classes", default="passenger", help="keep lanes that allow one of these vehicle classes, with commas between"
+    )
+    made.add_argument(
+        "--turns",
+        choices=["both", "strict"],
+        default="both",
+        help="both: each lane of two leads to each next link; strict: SUMO's connections alone",
+    )
+    made.add_argument(
+        "--sizes",
+        choices=["on", "off"],
+        default="on",
+        help="on: vehicles take as many cells, 1 to 4, as their type is long with its gap; off: one cell each",
+    )
+    made.add_argument(
+        "--joint",
+        default="",
+        metavar="NAMES",
+        help="edges, or lanes (edge_index), with commas between: links of two lanes also where lanes lead to different "
+        "edges, so that vehicles change between them; for lanes that a program closes later",
+    )
+
+
+def add_vehicles(made: argparse.ArgumentParser) -> None:
+    """The words that say which vehicles there are."""
+    made.add_argument(
+        "--begin",
+        type=time_within(0, limits.CLOCK),
+        default=0,
+        metavar="S",
+        help="the clock at the start; vehicles before it are skipped",
+    )
+    made.add_argument(
+        "--end",
+        type=time_within(0, limits.CLOCK),
+        metavar="S",
+        help="leave out vehicles that depart at this time or later",
+    )
+    made.add_argument(
+        "--ignore-route-errors",
+        action="store_true",
+        help="leave out vehicles whose route has edges without a connection, and count them",
+    )
+
+
+def add_numbers(made: argparse.ArgumentParser) -> None:
+    """The words that set numbers of the model."""
+    for name, most, words in (
+        ("dawdle", 1000, "chance of slowing down, of 1,000"),
+        ("change", 1000, "chance of changing lane, of 1,000"),
+        ("zone", 1000, "turn zone in cells"),
+        ("seed", 2**64 - 1, "of all draws"),
+        ("residence", limits.RESIDENCE, "steps in a buffer at signals and real junctions"),
+        ("buffer", limits.BUFFER, "vehicles in a buffer"),
+    ):
+        made.add_argument(
+            f"--{name}",
+            type=within(1 if name in ("residence", "buffer") else 0, most),
+            default=getattr(Options(), name),
+            help=f"{words} (default %(default)s)",
+        )
+
+
+def options_of(words: argparse.Namespace) -> Options:
+    """The options that the words name; Fault where they do not fit to each other."""
+    if words.permissive is not None and not 0 <= words.permissive <= 1:
+        raise Fault("--permissive is a share from 0 to 1")
+    if words.end is not None and words.end <= words.begin:
+        raise Fault(f"the end, {words.end} s, is not after the begin, {words.begin} s: nobody would depart")
+    classes = tuple(listed(words.classes))
+    unknown = [name for name in classes if name not in CLASSES]
+    if unknown:
+        raise Fault(f"--classes: SUMO has no vehicle class {unknown[0]!r}; it has {', '.join(CLASSES)}")
+    names = (
+        "dawdle", "change", "zone", "seed", "residence", "buffer", "permissive", "begin", "end", "ignore_route_errors",
+    )
+    given = {name: getattr(words, name) for name in names}
+    given.update(strict_turns=words.turns == "strict", sizes=words.sizes == "on")
+    given["joint"] = tuple(listed(words.joint))
+    return Options(classes=classes, **given)
+
+
+def words_of(arguments: list[str]) -> tuple[argparse.Namespace, dict[str, str]]:
+    """The words of a command, and the options of the configuration that they name (none where they name none), which
+    stand where no word says otherwise."""
+    made = parser()
+    words = made.parse_args(arguments)
+    if not words.configuration:
+        if not words.net:
+            raise Fault("no network: give NET.net.xml, or -c FILE.sumocfg (what may be given: streetsim-import --help)")
+        return words, {}
+    options = read_configuration(words.configuration)
+    given: dict[str, Any] = {name.replace("-", "_"): options[name] for name in DEFAULTS if options.get(name)}
+    if given.get("end", "").startswith("-"):
+        del given["end"]  # SUMO's -1: none
+    if "ignore_route_errors" in given:
+        given["ignore_route_errors"] = given["ignore_route_errors"].lower() not in FALSE
+    made.set_defaults(**given)
+    words = made.parse_args(arguments)
+    net, additional, routes = files_named(words.configuration, options)
+    words.net, words.additional = words.net or net, words.additional or additional
+    words.routes = words.routes or (routes if not words.trips else [])
+    return words, options
+
+
+def main(arguments: list[str]) -> int:
+    words, told = words_of(arguments)
+    words.additional, words.routes, words.trips = map(files_of, (words.additional, words.routes, words.trips))
+    sources = Sources(words.net, words.additional, words.routes, words.trips)
+    outputs = {"-o": words.output, "--map": words.map, **({"--warnings": words.warnings} if words.warnings else {})}
+    refuse_equal(outputs, sources.paths())
+    place_of(words.output), place_of(words.map)
+    report, options = Report(), options_of(words)
+    with Slow(f"importing {words.net}"):
+        made = read_and_converted(sources, options, report, told)
+    mapping = write_run(words.output, words.map, made, report, sources)
+    if words.warnings:
+        write_table(words.warnings, COLUMNS, report.rows())
+    print(*report.lines(), sep="\n", end="\n" if any(report.lines()) else "", file=sys.stderr)
+    print(
+        f"{len(mapping.nodes):,} nodes, {len(mapping.links):,} links, {len(mapping.turns):,} turns, "
+        f"{len(mapping.signals):,} signals, {len(mapping.cars):,} vehicles",
+        file=sys.stderr,
+    )
+    return 1 if words.strict and report.skipped else 0

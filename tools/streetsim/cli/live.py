@@ -1,0 +1,73 @@
+"""streetsim-live: a page that runs a simulation."""
+import contextlib
+import sys
+import webbrowser
+
+from streetsim.base.files import Fault, whole_file
+from streetsim.base.words import Parser, listed, within
+from streetsim.live.bridge import HOST, Bridge
+from streetsim.live.engine import Engine
+from streetsim.live.joining import Joining
+from streetsim.live.programs import NATIVE, VARIABLE, is_built, module_of, program_of
+from streetsim.model.runs import read_with_map
+
+PROVED = "The program is proved"
+GIVEN = "Nothing is known of a proof of the program that was given"
+CLAIM = "its translation for browsers, the browser and the page's script are tested, not proved."
+
+
+def parser() -> Parser:
+    made = Parser(
+        prog="streetsim-live",
+        description="A page that runs a simulation: watch it, change signal plans, close lanes, take vehicles out, "
+        "read detectors; what was done is saved as lines. It is served on this machine alone until Ctrl-C, "
+        "or written as one file that needs nothing else.",
+    )
+    made.add_argument("run", help="the run file that streetsim-import wrote")
+    made.add_argument("--map", required=True, help="the map file that it wrote")
+    made.add_argument(
+        "--program", help=f"the page's program, {NATIVE} (default: ${VARIABLE}, else the one that ./build --page made)"
+    )
+    made.add_argument(
+        "--joint",
+        default="",
+        metavar="NAMES",
+        help="edges or lanes, with commas between, that are imported anew as joint links, so that they can be closed",
+    )
+    made.add_argument("--port", type=within(0, 65_535), default=0, help="of the address (default: one that is free)")
+    made.add_argument("--no-open", action="store_true", help="print the address and open no browser")
+    made.add_argument("-o", "--output", help="write one file (.html) with the engine inside, for Chromium and its kin")
+    return made
+
+
+def serve(bridge: Bridge, opens: bool) -> None:
+    """Serves a page until Ctrl-C; opens: in a browser too."""
+    print(f"{bridge.address}\n(on this machine alone, for one page at a time; Ctrl-C ends)", flush=True)
+    if opens:
+        webbrowser.open(bridge.address)
+    with contextlib.suppress(KeyboardInterrupt):
+        bridge.serve_forever()
+
+
+def main(arguments: list[str]) -> int:
+    words = parser().parse_args(arguments)
+    proved = is_built(words.program, bool(words.output))
+    joining = Joining(*read_with_map(words.run, words.map), words.map, proved, tuple(listed(words.joint)))
+    page, lines, told = joining.page(module_of(words.program) if words.output else None)
+    print(*told, sep="\n", end="\n" if told else "", file=sys.stderr)
+    if words.output:
+        with whole_file(words.output) as file:
+            file.write(page.decode())
+        print(f"{len(page):,} bytes, for Chromium and its kin. {PROVED if proved else GIVEN}; {CLAIM}")
+        return 0
+    program = program_of(words.program)
+    engines = [Engine(program, lines) for _ in ("as it is", "as it was")]
+    try:
+        with Bridge(engines, page, words.port, joining.join) as bridge:
+            serve(bridge, not words.no_open)
+    except OSError as fault:
+        raise Fault(f"--port {words.port} of {HOST}: {fault.strerror}") from None
+    finally:
+        for engine in engines:
+            engine.close()
+    return 0

@@ -1,0 +1,112 @@
+"""streetsim-plot: pictures of a run, as PNG, SVG or PDF."""
+import argparse
+
+from streetsim.base import limits, program
+from streetsim.base.files import Fault, place_of
+from streetsim.base.words import Parser, listed, time_within, within
+from streetsim.model.folder import read_folder
+from streetsim.pictures import maps
+from streetsim.pictures.drawing import Figure, Pyplot, drawing, ending_of, save
+from streetsim.pictures.greens import draw_greens
+from streetsim.pictures.plots import (
+    MARKERS, Corridor, draw_arrivals, draw_corridor, draw_fundamental, draw_queues, draw_ring,
+)
+from streetsim.pictures.works import draw_works
+
+second = time_within(0, limits.CLOCK)
+
+
+def parser() -> Parser:
+    made = Parser(prog="streetsim-plot", description="Draws pictures of what streetsim-run wrote.")
+    kinds = made.add_subparsers(dest="kind", required=True)
+    for kind, words in (
+        ("corridor", "ways of the vehicles along a path over time, with red signals; run with --every 1"),
+        ("fundamental", "flow over density, at mid-link, of the counts (--counts) or of a ring (--ring)"),
+        ("map", "the streets by density, delay, level of service, v/c, flow or queue"),
+        ("queues", "queues at the stop lines over time"),
+        ("works", "queues before road works over time and place"),
+        ("greens", "how long the greens of lights that detectors drive lasted, over time"),
+        ("arrivals", "departures and arrivals over time"),
+    ):
+        one = kinds.add_parser(kind, help=words, description=words)
+        often = "?" if kind == "fundamental" else None
+        # None is usual.
+        one.add_argument("folder", nargs=often, help="what streetsim-run wrote")  # type: ignore[arg-type]
+        one.add_argument("-o", "--output", required=True, help="the picture (.png, .svg, .pdf)")
+        if kind in ("corridor", "fundamental"):
+            one.add_argument(
+                "--edges", required=kind == "corridor", default="", help="edges, with spaces or commas between"
+            )
+        if kind == "corridor":
+            one.add_argument("--both", action="store_true", help="the other direction too, below")
+            one.add_argument("--first", type=second, default=0, metavar="S", help="the first second shown")
+            one.add_argument("--last", type=second, default=600, metavar="S", help="the last second shown")
+        if kind == "fundamental":
+            one.add_argument("--counts", action="store_true", help="at the stop lines, by counts.csv")
+            one.add_argument(
+                "--ring",
+                type=dawdles,
+                metavar="DAWDLES",
+                help="measure a ring for these chances of dawdling, of 1,000, with commas between",
+            )
+            one.add_argument(
+                "--limit",
+                type=within(1, limits.LIMIT),
+                default=limits.LIMIT,
+                help="of the ring, cells a step (default %(default)s)",
+            )
+            one.add_argument("--program", help=f"for the ring: {program.HELP}")
+        if kind == "map":
+            one.add_argument("--what", choices=maps.WHAT, default="density", help="(default: %(default)s)")
+            one.add_argument(
+                "--begin", type=second, metavar="S", help="the interval shown (default: the busiest; of density all)"
+            )
+        if kind == "greens":
+            one.add_argument(
+                "--lights", default="", help="those shown, with spaces or commas between (default: the first six)"
+            )
+        if kind == "arrivals":
+            one.add_argument("--sumo", metavar="TRIPINFO", help="SUMO's trips of the same demand, drawn beside")
+    return made
+
+
+def dawdles(text: str) -> list[int]:
+    """Up to six chances of dawdling, of 1,000, with commas between; argparse's error otherwise."""
+    values = [within(0, 1000)(part) for part in text.split(",")]
+    if len(values) > len(MARKERS):
+        raise argparse.ArgumentTypeError(f"at most {len(MARKERS)} of them")
+    return values
+
+
+def main(arguments: list[str]) -> int:
+    words = parser().parse_args(arguments)
+    if words.folder is None and not words.ring:
+        raise Fault("fundamental needs a folder or --ring")
+    if words.kind == "fundamental" and words.ring and (words.counts or words.edges or words.folder):
+        raise Fault("--ring goes without a folder, --edges and --counts")
+    if words.kind == "map" and words.what == "density" and words.begin is not None:
+        raise Fault("--begin: the map of density is of all polls; it goes with --what delay, los, vc, flow and queue")
+    ending_of(words.output)
+    place_of(words.output)
+    save(drawn(drawing(), words), words.output)
+    return 0
+
+
+def drawn(pyplot: Pyplot, words: argparse.Namespace) -> Figure:
+    """The picture that the words ask for."""
+    if words.kind == "map" and words.what != "density":
+        return maps.draw(pyplot, words.folder, words.what, words.begin)
+    if words.kind == "fundamental" and words.ring:
+        return draw_ring(pyplot, words.program, words.ring, words.limit)
+    folder = read_folder(words.folder)
+    if words.kind == "map":
+        return maps.draw_density(pyplot, folder)
+    if words.kind == "corridor":
+        return draw_corridor(pyplot, folder, Corridor(listed(words.edges), words.first, words.last, words.both))
+    if words.kind == "fundamental":
+        return draw_fundamental(pyplot, folder, listed(words.edges), words.counts)
+    if words.kind == "greens":
+        return draw_greens(pyplot, folder, listed(words.lights))
+    if words.kind == "works":
+        return draw_works(pyplot, folder)
+    return draw_queues(pyplot, folder) if words.kind == "queues" else draw_arrivals(pyplot, folder, words.sumo)

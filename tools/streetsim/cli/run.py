@@ -1,0 +1,144 @@
+"""streetsim-run: runs a file and writes its tables."""
+import argparse
+
+from streetsim.base import limits, program
+from streetsim.base.words import Parser, add_jobs, add_merge, add_rounds, add_run, time_within, within
+from streetsim.outputs.kinds import KINDS, kinds_of
+
+
+def parser() -> argparse.ArgumentParser:
+    made = Parser(
+        prog="streetsim-run",
+        description="Runs a file that streetsim-import made, and writes counts, trips, queues, a summary "
+        "and what stood on the lanes.",
+    )
+    add_run(made)
+    add_looks(made)
+    add_seeds(made)
+    add_lanes(made)
+    add_outputs(made)
+    add_lights(made)
+    made.add_argument("--program", help=program.HELP)
+    made.add_argument("--workers", type=within(1, 64), default=1, help="of the simulator (default %(default)s)")
+    return made
+
+
+def add_looks(made: argparse.ArgumentParser) -> None:
+    """The words that say when a run ends, and what is looked at on the way."""
+    made.add_argument(
+        "--until",
+        type=time_within(1, limits.CLOCK),
+        metavar="S",
+        help="the clock at the end (default: when all have arrived, no vehicle has changed its cell for longer than "
+        "the longest cycle, or the calls are spent)",
+    )
+    made.add_argument(
+        "--every",
+        type=time_within(0, limits.CLOCK),
+        metavar="S",
+        help="seconds between polls of the lanes; 0: never (default: 10, or more where the calls do not allow that)",
+    )
+    made.add_argument(
+        "--period",
+        type=time_within(1, limits.PERIOD),
+        default=900,
+        metavar="S",
+        help="seconds of a count (default %(default)s)",
+    )
+    made.add_argument(
+        "--edges", default="", help="edges whose lanes are polled, with spaces or commas between (default: all)"
+    )
+    made.add_argument(
+        "--rescue",
+        type=time_within(0, limits.CLOCK),
+        default=300,
+        metavar="S",
+        help="take out who stood so long at a stop line and enter it on the next link; 0: never (default %(default)s)",
+    )
+    made.add_argument(
+        "--counted",
+        choices=["all", "busiest"],
+        default="all",
+        help=f"all: where a run has more than {limits.METERS:,} lanes, further runs repeat it to count the others; "
+        "busiest: the lanes on most plans alone",
+    )
+
+
+def add_seeds(made: argparse.ArgumentParser) -> None:
+    """The words that say how much is run."""
+    made.add_argument(
+        "--calls",
+        type=within(1, limits.CALLS),
+        metavar="N",
+        help="take at most so many calls of the program (default: all)",
+    )
+    made.add_argument(
+        "--seeds", metavar="FIRST-LAST", help="run each of these seeds, side by side, into folders of their own"
+    )
+    add_jobs(made)
+
+
+def add_lanes(made: argparse.ArgumentParser) -> None:
+    """The words that close lanes, and that make them joint."""
+    made.add_argument(
+        "--close",
+        action="append",
+        default=[],
+        metavar="LANE:METRES-METRES:S-S",
+        help="road works: close a lane (edge_index) between two places, from one second to another; "
+        "several with commas between, or by the word again",
+    )
+    add_merge(made)
+    made.add_argument(
+        "--lost",
+        choices=["lead", "wait"],
+        default="lead",
+        help="those whose only lane for a turn is closed are led from the lane beside it, or wait until the works end "
+        "(default %(default)s)",
+    )
+    made.add_argument(
+        "--joint",
+        default="",
+        metavar="NAMES",
+        help="edges or lanes, with commas between, that are joint as if they had road works, for a run to compare with",
+    )
+
+
+def add_lights(made: argparse.ArgumentParser) -> None:
+    """The word that says how lights go that SUMO times by detectors."""
+    made.add_argument(
+        "--lights",
+        choices=["actuated", "listed"],
+        default="actuated",
+        help="actuated: detectors drive the lights of SUMO's type actuated, as there; listed: they show the seconds "
+        "that their programs list (default %(default)s)",
+    )
+
+
+def add_outputs(made: argparse.ArgumentParser) -> None:
+    """The words that say what is written and where; and by which rounds it is made."""
+    made.add_argument(
+        "--sumo-output",
+        type=kinds_of,
+        default=(),
+        metavar="KINDS",
+        help=f"also write SUMO's own output files into DIR/sumo: of {','.join(KINDS)}",
+    )
+    add_rounds(made)
+    made.add_argument(
+        "--junctions",
+        nargs="?",
+        type=within(60, limits.CLOCK),
+        const=0,
+        metavar="S",
+        help="also write delay, level of service, queues and v/c of movements, approaches and junctions, "
+        "by intervals of so many seconds (default: --period)",
+    )
+    made.add_argument("--out", required=True, metavar="DIR", help="the folder to write to")
+
+
+def main(arguments: list[str]) -> int:
+    words = parser().parse_args(arguments)
+    from streetsim.cli.running import run_by
+
+    return run_by(words)

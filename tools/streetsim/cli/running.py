@@ -1,0 +1,140 @@
+"""A run by the words of streetsim-run."""
+import argparse
+import os
+import sys
+from collections.abc import Callable
+from dataclasses import replace
+
+from streetsim.actuated.lights import driven_lights
+from streetsim.base import program
+from streetsim.base.client import Census, most_calls
+from streetsim.base.files import Fault, whole_folder
+from streetsim.base.jobs import side_by_side
+from streetsim.base.progress import UnderWay
+from streetsim.base.seeds import interval, seeds_of
+from streetsim.base.words import listed
+from streetsim.model import trust
+from streetsim.model.folder import NAME
+from streetsim.model.mapping import Map
+from streetsim.model.runs import Run, read_with_map, seeded
+from streetsim.model.tables import PHASES_FILE, SEEDS, WORKS_FILE, write_table
+from streetsim.outputs.folder import Figures, Making, first_poll, one_run
+from streetsim.outputs.kinds import KINDS
+from streetsim.run.ending import first_guess
+from streetsim.run.settings import Settings
+from streetsim.works.asked import all_works
+from streetsim.works.sites import with_works
+
+DETECTORS = {"e1": "inductionLoop", "e2": "laneAreaDetector"}  # SUMO's names, by the kind of output
+# What a run writes where a word asks for it.
+AT_WISH = (
+    *(PHASES_FILE, WORKS_FILE, "movements.csv", "approaches.csv", "junctions.csv"),
+    *(f"sumo/{kind}.xml" for kind in KINDS),
+)
+
+
+def run_by(words: argparse.Namespace) -> int:
+    """Runs as the words ask, and tells what it gave; gives the status."""
+    run, mapping = read_with_map(words.run, words.map)
+    settings = settings_of(words, run)
+    refuse_unknown(words, settings, mapping)
+    works = all_works(words.close, mapping, run.start(), words.until)
+    run, mapping, told = with_works(run, mapping, words.map, works, listed(words.joint), words.lost == "wait")
+    print(*told, sep="\n", end="\n" if told else "", file=sys.stderr)
+    if settings.until <= run.start():
+        raise Fault(f"--until {settings.until}: the run starts at {run.start()}")
+    if not settings.open_end:
+        refuse_no_poll(settings, run.start())
+    making = making_of(words)
+    if words.lights == "actuated" and mapping.actuated:
+        calls = settings.calls or most_calls(making.program)
+        settings = replace(settings, lights=driven_lights(run, mapping, settings.until, calls))
+    if words.seeds:
+        return run_seeds(words, making, run, mapping, settings)
+    shown = UnderWay(settings.until)
+    with whole_folder(words.out, NAME, AT_WISH) as folder:
+        figures = one_run(making, run, mapping, settings, folder, shown.show)
+    report(figures, "")
+    return 0
+
+
+def settings_of(words: argparse.Namespace, run: Run) -> Settings:
+    """What a run is asked for; without a last second one is guessed."""
+    return Settings(
+        until=words.until or first_guess(run),
+        every=words.every,
+        period=words.period,
+        rescue=words.rescue,
+        edges=tuple(listed(words.edges)),
+        calls=words.calls,
+        all_counted=words.counted == "all",
+        open_end=words.until is None,
+        merging=words.merge == "turns",
+    )
+
+
+def making_of(words: argparse.Namespace) -> Making:
+    """How the words ask for a run to be made."""
+    simulator = program.find_program(words.program)
+    return Making(simulator, words.rounds, words.workers, words.jobs, words.sumo_output, words.junctions)
+
+
+def refuse_unknown(words: argparse.Namespace, settings: Settings, mapping: Map) -> None:
+    """Refuses edges and detectors that the map does not have, and edges that nothing would poll."""
+    if unknown := [edge for edge in settings.edges if edge not in mapping.links_of]:
+        raise Fault(f"--edges: the map has no edge {unknown[0]!r}")
+    if settings.edges and settings.every == 0:
+        raise Fault("--edges are those whose lanes are polled, and --every 0 polls none")
+    for kind in DETECTORS.keys() & set(words.sumo_output):
+        if not any(one.kind == kind for one in mapping.detectors):
+            missing = f"the map has no {DETECTORS[kind]}: import an additional file that has one"
+            raise Fault(f"--sumo-output {kind}: {missing}")
+
+
+def refuse_no_poll(settings: Settings, start: int) -> None:
+    """Refuses seconds between polls that are so many that a run ends before the first one."""
+    if (first := first_poll(settings.every, start)) > settings.until:
+        raise Fault(
+            f"--every {settings.every}: the first poll of the lanes is at {first} s, and the run ends at "
+            f"{settings.until} s: take --every {settings.until - start} or less, or --every 0, which polls none"
+        )
+
+
+def report(figures: Figures, name: str) -> None:
+    """Prints what a run gave."""
+    for told in figures.notes:
+        print(f"{name}{told}", file=sys.stderr)
+    print(f"{name}{figures.told}")
+    if figures.doubts:
+        print(f"{name}{trust.verdict(figures.doubts)}")
+
+
+def run_seeds(words: argparse.Namespace, making: Making, run: Run, mapping: Map, settings: Settings) -> int:
+    """A run for each seed, side by side; prints and writes each mean trip, their mean and its 95 % interval."""
+    seeds, making = seeds_of(words.seeds, "--seeds"), replace(making, jobs=1)
+    shown = UnderWay(settings.until, len(seeds))
+    with whole_folder(words.out, NAME, AT_WISH) as folder:
+
+        def run_seed(seed: int, tell: Callable[[tuple[int, Census | None]], object]) -> Figures:
+            place = f"{folder}/seed-{seed}"
+            os.mkdir(place)
+
+            def told(clock: int, census: Census | None) -> None:
+                tell((clock, census))
+
+            return one_run(making, seeded(run, seed), mapping, settings, place, told)
+
+        figures = side_by_side(
+            run_seed, seeds, words.jobs, lambda place, values: shown.show(values[0], values[1], place)
+        )
+        rows = [(seed, *(getattr(one, name) for name in SEEDS[1:])) for seed, one in zip(seeds, figures, strict=True)]
+        write_table(f"{folder}/seeds.csv", SEEDS, rows)
+    for seed, one in zip(seeds, figures, strict=True):
+        report(one, f"seed {seed}: ")
+    if means := [one.mean_trip_s for one in figures if one.mean_trip_s is not None]:
+        mean, half = interval(means)
+        told = f", 95 % interval {mean - half:.1f} to {mean + half:.1f} s" if half is not None else ""
+        print(f"mean trip {mean:.1f} s{told}")
+    if doubtful := [str(seed) for seed, one in zip(seeds, figures, strict=True) if one.doubts]:
+        print(f"not to be trusted: seed{'s' if len(doubtful) > 1 else ''} {', '.join(doubtful)}")
+    return 0

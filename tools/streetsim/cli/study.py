@@ -1,0 +1,96 @@
+"""streetsim-study: seeds times variants, each run once, and how sure their differences are."""
+import argparse
+import os
+
+from streetsim.base import program
+from streetsim.base.files import Fault, whole_folder
+from streetsim.base.progress import Meanwhile, Slow
+from streetsim.base.words import ROUNDS, Parser, add_rounds
+from streetsim.cli.signals import add_machines
+from streetsim.model import trust
+from streetsim.model.tables import write_table
+from streetsim.sessions.giving import outcome_giving_way
+from streetsim.sessions.machines import machines
+from streetsim.sessions.prepared import Outcome
+from streetsim.study.differences import DIFFERENCES, RUNS, differences, run_rows, written
+from streetsim.study.telling import doubts, draw, tell, tell_ends, tell_giving_way
+from streetsim.study.variants import Study, read_study
+
+LAST = "differences.csv"
+
+
+def parser() -> Parser:
+    made = Parser(
+        prog="streetsim-study",
+        description="Runs each variant of a study with each seed, and writes the differences of their mean trips with "
+        "95 % intervals, and how many runs a precision needs.",
+    )
+    made.add_argument("study", help="the study (.toml)")
+    add_machines(made)
+    add_rounds(made, None, f"default: rounds of the study, else {ROUNDS}")
+    made.add_argument(
+        "--precision",
+        type=percent,
+        default=1.0,
+        metavar="PERCENT",
+        help="half the width that intervals are to have, of the base's mean trip (default %(default)s)",
+    )
+    made.add_argument("--out", required=True, metavar="DIR", help="the folder to write to")
+    return made
+
+
+def percent(text: str) -> float:
+    """Above 0 and at most 100; argparse's error otherwise."""
+    try:
+        value = float(text)
+    except ValueError:
+        value = 0.0
+    if not 0 < value <= 100:
+        raise argparse.ArgumentTypeError(f"{text!r} is not above 0 and at most 100")
+    return value
+
+
+def main(arguments: list[str]) -> int:
+    words = parser().parse_args(arguments)
+    if os.path.exists(words.out) and not os.path.isdir(words.out):
+        raise Fault(f"{words.out}: exists and is no folder")
+    words.program = program.find_program(words.program)
+    with Slow(f"reading {words.study}"):
+        study = read_study(words.study, words.program, words.rounds)
+    results = run_all(words, study)
+    rows = differences(study, results, words.precision)
+    found = {name: list(doubts(study, name, results[name])) for name in study.variants}
+    named = [f"{name}: {text}" for name, texts in found.items() for text in texts]
+    with whole_folder(words.out, LAST) as folder:
+        write_table(f"{folder}/runs.csv", RUNS, run_rows(study, results))
+        write_table(f"{folder}/{LAST}", DIFFERENCES, (written((*row, "; ".join(found[row[0]]))) for row in rows))
+        trust.write_doubts(folder, named)
+        draw(study, rows, f"{folder}/differences.png")
+    tell(rows)
+    tell_ends(study, results)
+    tell_giving_way(results)
+    if named:
+        print(trust.verdict(named))
+    return 0
+
+
+def run_all(words: argparse.Namespace, study: Study) -> dict[str, list[Outcome]]:
+    """What each variant gives with each seed, {variant: outcomes}."""
+    sessions = [variant.session for variant in study.variants.values()]
+    total = len(study.variants) * len(study.seeds)
+    meanwhile = Meanwhile("runs", total)
+    results: dict[str, list[Outcome]] = {}
+    with machines(words.jobs, words.cluster, sessions) as workers:
+        tasks = [
+            (f"variant {name!r}, seed {seed}", outcome_giving_way, place, variant.signals, seed)
+            for place, (name, variant) in enumerate(study.variants.items())
+            for seed in study.seeds
+        ]
+        found = workers.ordered(tasks)
+        for name in study.variants:
+            results[name] = []
+            for _ in study.seeds:
+                results[name].append(next(found))
+                meanwhile.show(sum(map(len, results.values())))
+    meanwhile.end()
+    return results

@@ -1,0 +1,260 @@
+"""The ways that a demand may take: the shortest by time between entries, exits and zones, several a pair."""
+import random
+from collections import Counter, defaultdict
+from collections.abc import Iterable, Iterator, Mapping, Sequence
+from dataclasses import dataclass, replace
+from itertools import pairwise
+from typing import Any
+
+from streetsim.base.files import Fault
+from streetsim.counts.science import needed
+from streetsim.counts.values import Zone
+from streetsim.sumo.net import SumoNet
+from streetsim.ways.costs import TURN_BACK
+from streetsim.ways.graph import END, Graph
+from streetsim.ways.router import Path
+
+LONGEST = 1.5  # times the seconds of the shortest way of a pair
+SPREAD = 0.25  # of the logarithm of seconds that are drawn to find further ways
+DRAWS = 3  # of them for each further way
+BATCH = 200  # ends from which ways are searched at once
+
+
+@dataclass(frozen=True, slots=True)
+class End:
+    """How many begin or end at a place before anything is counted, beside others of its kind: where the network begins
+    or ends (outside), or within it."""
+
+    weight: float = 1.0
+    outside: bool = False
+
+
+@dataclass(frozen=True, slots=True)
+class Pair:
+    """Where trips begin and end: names of zones or edges, and edges by number with their weights."""
+
+    source: str
+    target: str
+    sources: Mapping[int, float]
+    sinks: Mapping[int, float]
+    begins: End = End()
+    ends: End = End()
+
+
+@dataclass(frozen=True, slots=True)
+class Way:
+    """A way of a pair: seconds without other traffic, the share of the pair's vehicles that would take it, seconds
+    without waits at signals too, and what its ends have of the pair's vehicles (0: the share is told, and stays)."""
+
+    pair: int
+    path: Path
+    seconds: float
+    share: float
+    driven: float = 0.0
+    weight: float = 0.0
+
+
+def entries_and_exits(graph: Graph) -> tuple[list[int], list[int]]:
+    """The edges that nothing leads to, and that lead nowhere, but by turning back."""
+    back = graph.turns_back
+    return (
+        [edge for edge, into in enumerate(graph.into) if all(back[movement] for _, movement in into)],
+        [edge for edge, out in enumerate(graph.out) if all(back[movement] for _, movement in out)],
+    )
+
+
+def pairs_of_edges(graph: Graph, net: SumoNet, everywhere: bool) -> list[Pair]:
+    """All pairs of an entry and an exit; of any two edges where there are none, or where trips begin everywhere."""
+    entries, exits = entries_and_exits(graph)
+    begins, ends = (ends_of(graph, net, some) for some in (entries, exits))
+    if everywhere or not entries or not exits:
+        entries = exits = list(range(len(graph.edges)))
+    reverse = {
+        (one, other) for at, (one, other) in enumerate(graph.movements) if other != END and graph.turns_back[at]
+    }
+    return [
+        Pair(graph.edges[one], graph.edges[other], {one: 1.0}, {other: 1.0}, begins[one], ends[other])
+        for one in entries for other in exits
+        if one != other and (one, other) not in reverse and (other, one) not in reverse
+    ]  # fmt: skip
+
+
+def ends_of(graph: Graph, net: SumoNet, outside: Iterable[int]) -> list[End]:
+    """For each edge what may begin or end there: by its lanes where it is one of `outside`, at which the network begins
+    or ends, else by the metres of its lanes, as for the houses along it."""
+    lanes = [net.edges[name].lanes for name in graph.edges]
+    metres = [sum(lane.metres for lane in some) for some in lanes]
+    there = set(outside)
+    return [
+        End(float(len(some)), True) if edge in there else End(length)
+        for edge, (some, length) in enumerate(zip(lanes, metres, strict=True))
+    ]
+
+
+def pairs_of_zones(graph: Graph, zones: Mapping[str, Zone], wanted: Iterable[tuple[str, str]]) -> list[Pair]:
+    """The pairs of zones, (source, target), that are wanted; their edges are numbers of the graph."""
+
+    def numbers(weights: Mapping[str, float]) -> dict[int, float]:
+        return {graph.number[name]: weight for name, weight in weights.items() if weight}
+
+    return [
+        Pair(source, target, numbers(zones[source].sources), numbers(zones[target].sinks)) for source, target in wanted
+    ]
+
+
+def thinned(pairs: Sequence[Pair], ways: int, most: int, seed: int) -> tuple[list[Pair], int]:
+    """Pairs, and how many ways of each are to be found, so that there are not more ways than asked for: fewer of each
+    pair, as pairs that are left out cost more; of more pairs than that a seed draws some."""
+    count = sum(len(pair.sources) * len(pair.sinks) for pair in pairs)
+    each = max(1, min(ways, most // max(1, count)))
+    if count <= most:
+        return list(pairs), each
+    kept = sorted(random.Random(f"pairs {seed}").sample(range(len(pairs)), max(1, most * len(pairs) // count)))
+    return [pairs[at] for at in kept], each
+
+
+@dataclass(frozen=True, slots=True)
+class Times:
+    """Seconds of each movement where nobody is in the way: with the mean waits at signals, and without them."""
+
+    whole: Sequence[float]
+    driven: Sequence[float]
+
+
+def ways_between(graph: Graph, pairs: Sequence[Pair], times: Times, most: int, seed: int) -> list[Way]:
+    """At most so many ways of each pair of edges: the shortest by time with the waits at signals, then without, and
+    further ones as draws of these seconds find them; their shares fall with their seconds."""
+    numpy, _ = needed()
+    both = [
+        numpy.array([value + (TURN_BACK if back else 0.0) for value, back in zip(some, graph.turns_back, strict=True)])
+        for some in (times.whole, times.driven)
+    ]
+    costs = both[0]
+    found: dict[tuple[int, int], dict[Path, float]] = {}
+    wanted = ends_wanted(pairs)
+    generator = numpy.random.default_rng(seed)
+    for draw in range(1 + DRAWS * (most - 1)):
+        noise = numpy.exp(SPREAD * generator.standard_normal(len(graph.edges)))
+        kind = both[draw % 2]
+        drawn = kind if draw < 2 else kind * noise[[edge for edge, _ in graph.movements]]
+        for origin, target, path in shortest(graph, drawn, wanted):
+            ways = found.setdefault((origin, target), {})
+            if path not in ways and len(ways) < most:
+                time = seconds_of(graph, costs, path)
+                if not ways or time <= LONGEST * next(iter(ways.values())):
+                    ways[path] = time
+    made = [way for at, pair in enumerate(pairs) for way in ways_of_pair(at, pair, found)]
+    made = [replace(way, driven=seconds_of(graph, both[1], way.path)) for way in made]
+    shares = shares_by(made, HABITS[0])
+    return [replace(way, share=float(share)) for way, share in zip(made, shares, strict=True)]
+
+
+@dataclass(frozen=True, slots=True)
+class Habit:
+    """How drivers choose between ways: the part of the waits at signals that they reckon with, and by how much of its
+    seconds a way is longer that e times fewer take."""
+
+    waits: float
+    spread: float
+
+
+HABITS = [Habit(waits, spread) for waits in (1.0, 0.5, 0.0) for spread in (0.1, 0.05, 0.3)]
+
+
+def shares_by(ways: Sequence[Way], habit: Habit) -> Any:
+    """The share of its pair's vehicles that each way has by a habit."""
+    numpy, _ = needed()
+    groups: dict[tuple[int, int, int], int] = {}
+    group = numpy.array([groups.setdefault((way.pair, way.path[0], way.path[-1]), len(groups)) for way in ways], int)
+    driven = numpy.array([way.driven for way in ways])
+    seconds = driven + habit.waits * (numpy.array([way.seconds for way in ways]) - driven)
+    least = numpy.full(len(groups), numpy.inf)
+    numpy.minimum.at(least, group, seconds)
+    parts = numpy.exp(-(seconds - least[group]) / numpy.maximum(1.0, habit.spread * least[group]))
+    return numpy.array([way.weight for way in ways]) * parts / numpy.bincount(group, parts, len(groups))[group]
+
+
+def ends_wanted(pairs: Iterable[Pair]) -> dict[int, list[int]]:
+    """For each edge on which trips begin those on which they end, but for itself."""
+    wanted: dict[int, set[int]] = {}
+    for pair in pairs:
+        for source in pair.sources:
+            wanted.setdefault(source, set()).update(pair.sinks)
+    return {source: sorted(sinks - {source}) for source, sinks in sorted(wanted.items())}
+
+
+def shortest(graph: Graph, costs: Any, wanted: Mapping[int, Sequence[int]]) -> Iterator[tuple[int, int, Path]]:
+    """The shortest path, (origin, target, path), from each edge to the wanted ones, where there is one; costs: seconds
+    of each movement."""
+    numpy, scipy = needed()
+    ways = graph.movements[: len(graph.movements) - len(graph.edges)]
+    ends = numpy.array(ways or [(0, 0)])
+    size = len(graph.edges)
+    table = scipy.sparse.csr_matrix((costs[: len(ways)], (ends[:, 0], ends[:, 1])), shape=(size, size))
+    origins = list(wanted)
+    for at in range(0, len(origins), BATCH):
+        some = origins[at : at + BATCH]
+        _, before = scipy.sparse.csgraph.dijkstra(table, indices=some, return_predecessors=True)
+        for origin, row in zip(some, before.tolist(), strict=True):
+            for target in wanted[origin]:
+                if path := traced(row, origin, target):
+                    yield origin, target, path
+
+
+def traced(before: Sequence[int], origin: int, target: int) -> Path:
+    """The path that a search found, of the edges before each; empty where none leads there."""
+    path, edge = [target], before[target]
+    while edge >= 0:
+        path.append(edge)
+        edge = before[edge]
+    return tuple(reversed(path)) if path[-1] == origin and len(path) > 1 else ()
+
+
+def seconds_of(graph: Graph, costs: Any, path: Path) -> float:
+    """The seconds of a path, its end with them; costs: of each movement."""
+    return float(sum(costs[graph.movement_of[way]] for way in pairwise((*path, END))))
+
+
+def ways_of_pair(at: int, pair: Pair, found: Mapping[tuple[int, int], Mapping[Path, float]]) -> Iterator[Way]:
+    """The ways of a pair, by its place among the pairs, each with what its ends have of the pair's vehicles; shares are
+    told later. found: seconds of the paths between two edges."""
+    ends = {
+        (source, sink): weight * other
+        for source, weight in pair.sources.items() for sink, other in pair.sinks.items()
+        if (source, sink) in found
+    }  # fmt: skip
+    total = sum(ends.values())
+    for key, weight in ends.items():
+        for path, seconds in found[key].items():
+            yield Way(at, path, seconds, 0.0, 0.0, weight / total)
+
+
+def with_given(
+    graph: Graph, pairs: Sequence[Pair], ways: Sequence[Way], routes: Iterable[tuple[str, ...]], costs: Sequence[float]
+) -> tuple[list[Pair], list[Way]]:
+    """Pairs and ways with the routes of files, names of edges, as further candidates, each once. A route is of the pair
+    whose ends it has, else of a pair of its own; of the ways of a pair those of files have as much together as vehicles
+    have them. costs: seconds of each movement."""
+    many = Counter(tuple(graph.number[name] for name in edges) for edges in routes)
+    all_pairs, known = list(pairs), {way.path for way in ways}
+    place = {(one, other): at for at, pair in enumerate(pairs) for one in pair.sources for other in pair.sinks}
+    found: defaultdict[int, list[tuple[Path, int]]] = defaultdict(list)
+    for path, count in many.items():
+        ends = path[0], path[-1]
+        if ends not in place:
+            place[ends] = len(all_pairs)
+            all_pairs.append(Pair(graph.edges[ends[0]], graph.edges[ends[1]], {ends[0]: 1.0}, {ends[1]: 1.0}))
+        if path not in known:
+            found[place[ends]].append((path, count))
+    has = {way.pair for way in ways}
+    halved = [replace(way, share=way.share / 2) if way.pair in found else way for way in ways]
+    for at, some in found.items():
+        total = sum(count for _, count in some) * (2 if at in has else 1)
+        halved += [Way(at, path, seconds_of(graph, costs, path), count / total) for path, count in some]
+    return all_pairs, halved
+
+
+def refuse_none(ways: Sequence[Way]) -> None:
+    """Refuses a demand without a way."""
+    if not ways:
+        raise Fault("no way leads from any place where trips begin to one where they end")

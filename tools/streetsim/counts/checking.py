@@ -1,0 +1,159 @@
+"""Counts against the network and against each other: what is wrong is told with its line."""
+from collections import defaultdict
+from collections.abc import Iterable, Iterator, Mapping, Sequence, Set
+from difflib import get_close_matches
+from itertools import pairwise
+from typing import NamedTuple
+
+from streetsim.base.files import Fault
+from streetsim.counts.values import Count, Zone
+from streetsim.sumo.net import SumoNet
+from streetsim.ways.graph import Graph
+
+APART = 0.1  # of the larger of two numbers that should be equal
+LEAST_APART = 10.0  # vehicles: less is chance
+MOST_A_LANE = 3600.0  # vehicles an hour: one a second
+
+Key = tuple[int, int, str]  # begin, end, class
+
+
+class Contradiction(NamedTuple):
+    """Two numbers of one place that should be about equal, and the lines that tell them."""
+
+    place: str
+    begin: int
+    end: int
+    there: str  # what each number is, with {} for both
+    first: float
+    second: float
+    where: str  # files and lines, as `lines_told` has them
+
+    def told(self) -> str:
+        """It in one line."""
+        what = self.there.format(f"{self.first:g}", f"{self.second:g}")
+        return f"{self.place}, {self.begin:,} to {self.end:,} s: {what} ({self.where})"
+
+
+def check_edges(names: Iterable[str], where: str, net: SumoNet) -> None:
+    """Refuses edges that the network does not have, or on which none of the classes may drive."""
+    for name in names:
+        if name in net.edges:
+            continue
+        if name in net.dropped:
+            raise Fault(f"{where}: edge {name!r} has no lane for the classes (--classes)")
+        near = get_close_matches(name, net.edges, 1)
+        raise Fault(f"{where}: the network has no edge {name!r}{f': {near[0]!r}?' if near else ''}")
+
+
+def check_counts(counts: Sequence[Count], net: SumoNet, graph: Graph) -> None:
+    """Refuses counts of places that there are not, of a place and period twice, and of more than can pass."""
+    for count in counts:
+        check_edges(count.edges, count.where, net)
+        for source, target in pairwise(count.edges):
+            if (graph.number[source], graph.number[target]) not in graph.movement_of:
+                raise Fault(f"{count.where}: no connection leads from edge {source!r} to edge {target!r}")
+        lanes = min(len(net.edges[edge].lanes) for edge in count.edges)
+        if count.vehicles > MOST_A_LANE * lanes * count.hours + 1:
+            raise Fault(
+                f"{count.where}: {count.vehicles:,.0f} vehicles in {count.end - count.begin:,} s are more than one a "
+                f"second and lane"
+            )
+    check_periods(counts)
+    if not any(count.vehicles for count in counts):
+        raise Fault(f"{counts[0].where} and {len(counts) - 1:,} more: all counts are 0")
+
+
+def check_periods(counts: Sequence[Count]) -> None:
+    """Refuses two counts of one place and class whose periods overlap."""
+    of_place: defaultdict[tuple[tuple[str, ...], str], list[Count]] = defaultdict(list)
+    for count in counts:
+        of_place[count.edges, count.kind].append(count)
+    for some in of_place.values():
+        some.sort(key=lambda one: (one.begin, one.end))
+        for first, second in pairwise(some):
+            if second.begin < first.end:
+                same = (first.begin, first.end) == (second.begin, second.end)
+                how = "counted a second time in this period" if same else f"counted already until {first.end:,} s"
+                raise Fault(f"{second.where}: {second.place()} is {how} (as {first.where})")
+
+
+def check_zone_edges(zones: Mapping[str, Zone], net: SumoNet) -> None:
+    """Refuses zones of edges that the network does not have, or on which none of the classes may drive."""
+    for zone in zones.values():
+        check_edges([*zone.sources, *zone.sinks], zone.where, net)
+
+
+NOWHERE: frozenset[int] = frozenset()
+
+
+def contradictions(
+    counts: Sequence[Count], graph: Graph, begins: Set[int] = NOWHERE, ends: Set[int] = NOWHERE
+) -> list[Contradiction]:
+    """What differs by more than a tenth though it should be equal: of an edge its count, all its turns, and all turns
+    into it; of a junction all that comes in and goes out. begins, ends: edges on which trips begin, and end, so that
+    some of these may well differ."""
+    sums: defaultdict[Key, dict[tuple[str, ...], Count]] = defaultdict(dict)
+    for count in counts:
+        sums[count.begin, count.end, count.kind][count.edges] = count
+    found = []
+    for (begin, end, _), there in sums.items():
+        sides = *of_edges(there, graph, begins, ends), *of_junctions(there, graph, begins, ends)
+        for place, text, first, second in sides:
+            one, other = sum(count.vehicles for count in first), sum(count.vehicles for count in second)
+            if abs(one - other) > max(LEAST_APART, APART * max(one, other)):
+                found.append(Contradiction(place, begin, end, text, one, other, lines_told([*first, *second])))
+    return found
+
+
+Sides = tuple[str, str, list[Count], list[Count]]
+There = Mapping[tuple[str, ...], Count]
+
+
+def of_edges(there: There, graph: Graph, begins: Set[int], ends: Set[int]) -> Iterator[Sides]:
+    """Of each edge what should be equal: its count, all its turns, all turns into it; (place, text, counts, counts)."""
+    for edge, name in enumerate(graph.edges):
+        out = every(there, ((name, graph.edges[following]) for following, _ in graph.out[edge]))
+        into = every(there, ((graph.edges[before], name) for before, _ in graph.into[edge]))
+        whole = [there[(name,)]] if (name,) in there else []
+        if whole and out and edge not in ends:
+            yield f"edge {name}", "{} counted on it, {} turn at its end", whole, out
+        if whole and into and edge not in begins:
+            yield f"edge {name}", "{} counted on it, {} turn into it", whole, into
+        if into and out and not whole and edge not in begins and edge not in ends:
+            yield f"edge {name}", "{} turn into it, {} turn at its end", into, out
+
+
+def of_junctions(there: There, graph: Graph, begins: Set[int], ends: Set[int]) -> Iterator[Sides]:
+    """Of junctions all of whose edges are counted, by the edges that lead to the same ones, what comes in and goes out;
+    as `of_edges`."""
+    seen = set()
+    for edge in range(len(graph.edges)):
+        targets = {following for following, _ in graph.out[edge]}
+        sources = {before for target in targets for before, _ in graph.into[target]}
+        targets = {following for source in sources for following, _ in graph.out[source]}
+        key = frozenset(sources)
+        if not targets or key in seen or sources & ends or targets & begins:
+            continue
+        seen.add(key)
+        first, second = (every(there, ((graph.edges[one],) for one in sorted(some))) for some in (sources, targets))
+        if first and second:
+            yield f"junction of {graph.edges[min(sources)]}", "{} come in, {} go out", first, second
+
+
+def every(there: There, keys: Iterable[tuple[str, ...]]) -> list[Count]:
+    """The counts of all places, or none where one has none."""
+    found = [there.get(key) for key in keys]
+    return [] if None in found else [count for count in found if count is not None]
+
+
+def lines_told(counts: Sequence[Count], most: int = 4) -> str:
+    """Where some counts stand: the file once, and lines."""
+    places: defaultdict[str, list[str]] = defaultdict(list)
+    for count in counts:
+        path, _, line = count.where.rpartition(": line ")
+        places[path].append(line)
+    parts = []
+    for path, lines in places.items():
+        more = f" and {len(lines) - most} more" if len(lines) > most else ""
+        parts.append(f"{path}: line{'s' * (len(lines) > 1)} {', '.join(lines[:most])}{more}")
+    return "; ".join(parts)

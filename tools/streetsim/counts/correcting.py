@@ -1,0 +1,169 @@
+"""The fit in the simulation: runs of a demand, and what they show corrected, until it fits or no run is left."""
+from collections.abc import Iterator, Sequence
+from dataclasses import dataclass, field
+from typing import Any
+
+from streetsim.base.report import some
+from streetsim.counts.demanding import Asked, Basis, Fitted, Told, fit, stacked, vehicles_of
+from streetsim.counts.fitting import counted_of
+from streetsim.counts.judging import Compared, Judged, judged, worst
+from streetsim.counts.running import Ran, delays, passed, ran
+from streetsim.counts.science import needed
+from streetsim.counts.values import Count
+from streetsim.model import trust
+from streetsim.routes.loading import Loaded
+from streetsim.routes.watching import Ground
+from streetsim.ways.costs import Costs, costs_of
+from streetsim.ways.graph import Graph
+from streetsim.ways.trips import Trip
+
+HALF = 0.5  # of what a run and the fit differ by, that the next fit makes up for
+FULL = 120.0  # seconds of delay on an edge, from which on it is taken to be full: more than a cycle
+AFTER = 7200  # seconds that a run may last after the last departure
+LATE = 0.1  # of a count, that does not pass though the vehicles for it are there
+
+
+@dataclass(frozen=True, slots=True)
+class Attempt:
+    """A demand and what its run gave. passed: vehicles by count; full: edges that were full in it, with seconds
+    lost."""
+
+    number: int
+    trips: list[Trip]
+    fitted: Fitted
+    judged: Judged
+    loaded: Loaded
+    ran: Ran
+    passed: list[int]
+    full: dict[int, float] = field(default_factory=dict)
+
+    @property
+    def arrived(self) -> int:
+        """How many vehicles have arrived."""
+        return sum(end is not None for end in self.ran.ends)
+
+    def line(self) -> str:
+        """What is told of the run when it ends."""
+        return (
+            f"run {self.number}: {len(self.trips):,} vehicles, {self.arrived:,} arrived, {self.ran.rescues:,} rescues, "
+            f"GEH below 5 for {100 * self.judged.share:.1f} % of the counts by hour, "
+            f"totals within {100 * self.judged.apart:.1f} %"
+        )
+
+    def order(self) -> tuple[bool, float, float]:
+        """Of two attempts the one is better whose order is greater."""
+        return self.judged.fits, round(self.judged.share, 3), -self.judged.apart
+
+
+def attempts(
+    basis: Basis, asked: Asked, ground: Ground, runs: int, first: Fitted, told: Told = lambda _text: None
+) -> Iterator[Attempt]:
+    """Runs, at most so many, each of the demand that the one before corrects, until one fits; first: the fit on
+    paper."""
+    graph, fitted, costs = basis.town.graph, first, basis.free_costs()
+    counted = made_up = counted_of(basis.counts)
+    for number in range(1, runs + 1):
+        told(f"run {number} of {runs}")
+        one = attempt(basis, asked, ground, number, fitted, costs)
+        yield one
+        if one.judged.fits or number == runs:
+            return
+        costs = costs_of(graph, list(one.loaded.free), one.ran.observed, ground.width)
+        told(f"fit after run {number} of {runs}")
+        made_up = corrected(basis, one, costs, counted, made_up)
+        fitted = fit(basis, asked, costs, made_up)
+
+
+def attempt(basis: Basis, asked: Asked, ground: Ground, number: int, fitted: Fitted, costs: Costs) -> Attempt:
+    """The run, by its number from 1, of a fit; costs: seconds of movements, by which the fit was made."""
+    trips = vehicles_of(basis, asked, fitted)
+    town = basis.town
+    loaded = town.loaded(trips)
+    done = ran(ground, loaded, costs, asked.seed)
+    got = passed(basis.places, [trip.path for trip in trips], [kind_of(trip, basis.kinds) for trip in trips], done.left)
+    full = full_edges(town.graph, delays(town.graph, done.observed, loaded.free))
+    return Attempt(number, trips, fitted, judged(basis.counts, got), loaded, done, got, full)
+
+
+def kind_of(trip: Trip, kinds: Sequence[str]) -> str:
+    """The class of a trip, as counts name it; empty where they do not tell it apart."""
+    return trip.type if trip.type in kinds else ""
+
+
+def corrected(basis: Basis, one: Attempt, costs: Costs, counted: Any, before: Any) -> Any:
+    """The counts that the next fit is to meet: what passed less than it would by the seconds that the run showed is
+    made up for by half; but not behind full edges, where more demand would only make the queue longer."""
+    numpy, _ = needed()
+    shown = stacked(basis, costs) @ one.fitted.whole
+    apart = numpy.array(one.passed) - shown
+    behind = numpy.array([is_behind(count, one.full, basis.town.graph) for count in basis.counts])
+    return numpy.where(behind, counted, numpy.maximum(0.0, 0.5 * (before + counted) - HALF * apart))
+
+
+def full_edges(graph: Graph, lost: Sequence[float]) -> dict[int, float]:
+    """The edges on which vehicles lose more than a cycle, with the seconds; lost: by movement."""
+    found: dict[int, float] = {}
+    for (edge, _), seconds in zip(graph.movements, lost, strict=True):
+        if seconds > FULL:
+            found[edge] = max(seconds, found.get(edge, 0.0))
+    return found
+
+
+def is_behind(count: Count, full: dict[int, float], graph: Graph) -> bool:
+    """Whether a count is at the end of a full edge or next after one."""
+    edge = graph.number[count.edges[0]]
+    return edge in full or any(before in full for before, _ in graph.into[edge])
+
+
+def best_of(all_: Sequence[Attempt]) -> Attempt:
+    """The attempt that fits best, of one at least."""
+    return max(all_, key=Attempt.order)
+
+
+def left_over(basis: Basis, one: Attempt) -> Iterator[str]:
+    """What stays of counts that do not fit, and why as far as the run shows it; and which counts tell no demand."""
+    graph = basis.town.graph
+    for each in worst(one.judged):
+        figures = f"{each.passed:,.0f} passed of {each.counted:,.0f}, GEH {each.geh:.1f}"
+        yield f"{place_told(each)}: {figures}{why(basis, one, each)}"
+    if behind := [count for count in basis.counts if is_behind(count, one.full, graph)]:
+        places = len({count.edges for count in behind})
+        edges = some((graph.edges[edge] for edge in sorted(one.full, key=lambda edge: -one.full[edge])), 3)
+        yield (
+            f"{places:,} counted places lie at or behind edges that are full in the run ({edges}): what was counted "
+            "there is what these let pass, and more may want to"
+        )
+
+
+def place_told(each: Compared) -> str:
+    """The place and period of a count, in words."""
+    source, *others = each.edges
+    return f"{source}{f' to {others[-1]}' if others else ''}, {each.begin:,} to {each.end:,} s"
+
+
+def why(basis: Basis, one: Attempt, each: Compared) -> str:
+    """Why a count does not fit, as far as it is known: its vehicles were there and came late, or others speak against
+    it."""
+    planned = sum(
+        value
+        for count, value in zip(basis.counts, one.fitted.passed(), strict=True)
+        if count.edges == each.edges and count.kind == each.kind and each.begin <= count.begin < each.end
+    )
+    if each.passed < each.counted and planned > (1 + LATE) * each.passed:
+        return f": {planned:,.0f} were on their way there, and a queue holds them"
+    if abs(planned - each.counted) > abs(each.passed - each.counted) / 2:
+        return ": other counts speak against it, or no way fits"
+    return ""
+
+
+def doubts_of(one: Attempt) -> list[str]:
+    """Why the run of a demand is not to be trusted."""
+    rescues, (waiting, clock) = one.ran.rescues, one.ran.waiting
+    found = []
+    if rescues > max(1, trust.MOST_RESCUES * len(one.trips)):
+        found.append(f"{rescues:,} rescues of {len(one.trips):,} vehicles")
+    if waiting > trust.MOST_WAITING * len(one.trips):
+        found.append(f"{waiting:,} vehicles waited to enter at {clock:,} s")
+    if one.arrived < (1 - trust.MOST_LATE) * len(one.trips):
+        found.append(f"{len(one.trips) - one.arrived:,} of {len(one.trips):,} vehicles have not arrived")
+    return found

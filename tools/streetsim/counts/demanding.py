@@ -1,0 +1,319 @@
+"""A demand from what a planner has: inputs read and checked, candidates, and the fit."""
+from collections import Counter
+from collections.abc import Callable, Iterable, Mapping, Sequence
+from dataclasses import dataclass, replace
+from itertools import pairwise
+from typing import Any
+from xml.etree.ElementTree import Element
+
+from streetsim.base.files import Fault
+from streetsim.base.report import Report
+from streetsim.counts import candidates, checking, fitting, matrices, ratios, walking
+from streetsim.counts.candidates import Pair, Times, Way
+from streetsim.counts.departing import trips_of
+from streetsim.counts.fitting import Expecting, Problem, counted_of, deviations
+from streetsim.counts.passing import Places, Slices, passing_matrix, slices_of
+from streetsim.counts.reading import read_counts
+from streetsim.counts.rounding import rounded
+from streetsim.counts.science import needed
+from streetsim.counts.values import Cell, Count, Zone
+from streetsim.counts.zones import read_zones
+from streetsim.routes.loading import Town
+from streetsim.sumo.demand import Demand
+from streetsim.sumo.types import CLASSES, Types
+from streetsim.ways.costs import Costs, flat_costs
+from streetsim.ways.empty import map_without_routes, times_without_routes
+from streetsim.ways.seconds import free_seconds
+from streetsim.ways.trips import Trip
+
+CAR = "passenger"  # a class that needs no type of its own
+Told = Callable[[str], object]
+
+
+@dataclass(frozen=True, slots=True)
+class Asked:
+    """What a demand is to be made of. Files, and how."""
+
+    counts: tuple[str, ...] = ()
+    attribute: str | None = None  # of SUMO's files, that is the count
+    zones: tuple[str, ...] = ()
+    matrices: tuple[str, ...] = ()
+    flows: tuple[str, ...] = ()
+    ratios: tuple[str, ...] = ()
+    candidates: tuple[str, ...] = ()
+    ways: int | None = None  # of a pair; none: usual
+    most: int = 60_000  # candidates
+    everywhere: bool = False  # trips begin and end on any edge
+    error: float = fitting.ERROR
+    seed: int = 1
+
+
+@dataclass(frozen=True, slots=True)
+class Basis:
+    """What a fit stands on. given: vehicles by class, way and slice of a matrix or of turn ratios, by class; free:
+    seconds of movements."""
+
+    town: Town
+    counts: list[Count]
+    apart: list[checking.Contradiction]  # counts that contradict each other
+    kinds: tuple[str, ...]
+    pairs: list[Pair]
+    ways: list[Way]
+    slices: Slices
+    places: Places
+    given: Mapping[str, Any]
+    free: Sequence[float]
+    thinned: tuple[int, int]  # pairs that were kept, of how many
+
+    def free_costs(self) -> Costs:
+        """The seconds of movements without other traffic, at any time."""
+        return flat_costs(self.town.graph, list(self.free))
+
+
+@dataclass(frozen=True, slots=True)
+class Fitted:
+    """A fit on paper. passing: the matrix, counts by columns; vehicles: of each class, way and slice; expected: the
+    same before anything was counted; whole: in whole vehicles."""
+
+    passing: Any
+    expected: Any
+    vehicles: Any
+    whole: Any
+
+    def passed(self) -> list[float]:
+        """How many would pass each count."""
+        return [float(value) for value in self.passing @ self.whole]
+
+
+def basis_of(town: Town, asked: Asked, told: Told = lambda _text: None) -> Basis:
+    """Reads and checks what was asked for, and finds candidates; told: gets what is done just now."""
+    needed()
+    refuse_nothing(asked)
+    told("reading counts")
+    counts = read_counts(asked.counts, asked.attribute)
+    if counts:
+        checking.check_counts(counts, town.net, town.graph)
+    free = list(times_without_routes(town.net, town.graph, town.options)[0])
+    driven = free_seconds(town.graph, map_without_routes(town.net, town.options), [], town.dawdle)
+    zones, cells = read_matrix(asked, counts, town)
+    kinds = kinds_of(counts, cells, town.types)
+    told("finding ways")
+    if asked.flows:
+        pairs, ways, departs = by_ratios(town, asked, free)
+        thinned = len(pairs), len(pairs)
+    else:
+        pairs, ways, thinned = by_pairs(town, asked, Times(free, driven), zones, cells)
+        departs = []
+    candidates.refuse_none(ways)
+    lead = max(way.seconds for way in ways) if counts and not cells and not departs else 0.0
+    slices = slices_of(bounds_of(counts, cells, departs), lead, town.options.begin)
+    places = Places(counts, town.graph)
+    given = by_cells(cells, pairs, ways, slices) if cells else by_departures(departs, slices, len(ways))
+    begins, ends = {one for pair in pairs for one in pair.sources}, {one for pair in pairs for one in pair.sinks}
+    apart = checking.contradictions(counts, town.graph, begins, ends)
+    return Basis(town, counts, apart, kinds, pairs, ways, slices, places, given, free, thinned)
+
+
+def refuse_nothing(asked: Asked) -> None:
+    """Refuses words that lead to no demand, or of which one leaves another without effect."""
+    if not (asked.counts or asked.matrices or asked.flows):
+        raise Fault("nothing to make a demand of: give --counts, --matrix or --flows with --ratios")
+    if bool(asked.flows) != bool(asked.ratios):
+        raise Fault("--flows and --ratios are given together or not at all")
+    if asked.flows and (asked.matrices or asked.zones or asked.candidates):
+        raise Fault("--flows have ways by their ratios: give no --matrix, --zones or --candidates beside")
+    if asked.ways == 0 and not asked.candidates:
+        raise Fault("--ways 0 leaves no candidates: give files of routes after --candidates")
+
+
+def read_matrix(asked: Asked, counts: Sequence[Count], town: Town) -> tuple[dict[str, Zone], list[Cell]]:
+    """Zones, and the matrix between them. Without zones a matrix is between edges."""
+    zones = read_zones(asked.zones)
+    checking.check_zone_edges(zones, town.net)
+    period = (min(one.begin for one in counts), max(one.end for one in counts)) if counts else None
+    cells = matrices.read_matrices(asked.matrices, period)
+    if cells and not zones:
+        names = {name for cell in cells for name in (cell.source, cell.target)}
+        if unknown := sorted(names - town.net.edges.keys()):
+            raise Fault(f"{cells[0].where}: there is no zone {unknown[0]!r}: give zones as lists of edges by --zones")
+        zones = {name: Zone(name, {name: 1.0}, {name: 1.0}, "") for name in names}
+    matrices.check_zones(cells, zones)
+    if cells and not any(cell.vehicles for cell in cells):
+        raise Fault(f"{cells[0].where} and {len(cells) - 1:,} more: the matrix is empty")
+    return zones, cells
+
+
+def kinds_of(counts: Iterable[Count], cells: Iterable[Cell], types: Types) -> tuple[str, ...]:
+    """The classes that are told apart, each of which becomes a vehicle type; all others are cars."""
+    found = dict.fromkeys([*((one.kind, one.where) for one in counts), *((one.kind, one.where) for one in cells)])
+    for kind, where in found:
+        if kind and kind not in CLASSES:
+            raise Fault(f"{where}: SUMO has no vehicle class {kind!r}; it has {', '.join(CLASSES)}")
+    kinds = tuple(sorted({kind for kind, _ in found})) or ("",)
+    for kind in kinds:
+        if kind and kind not in types.kinds:
+            types.read("the classes of counts", Element("vType", {"id": kind, "vClass": kind}))
+    return kinds
+
+
+def by_pairs(
+    town: Town, asked: Asked, times: Times, zones: Mapping[str, Zone], cells: Sequence[Cell]
+) -> tuple[list[Pair], list[Way], tuple[int, int]]:
+    """Pairs of a matrix, of zones, or of entries and exits; their ways, with those of route files; and how many pairs
+    were kept of how many."""
+    graph = town.graph
+    count = (0 if asked.candidates else 3) if asked.ways is None else asked.ways
+    if cells:
+        wanted = list(dict.fromkeys((cell.source, cell.target) for cell in cells if cell.vehicles))
+        pairs = candidates.pairs_of_zones(graph, zones, wanted)
+    elif zones:
+        pairs = candidates.pairs_of_zones(graph, zones, [(one, other) for one in zones for other in zones])
+    elif count:
+        pairs = candidates.pairs_of_edges(graph, town.net, asked.everywhere)
+    else:
+        pairs = []
+    kept = pairs
+    if count and not cells:
+        kept, count = candidates.thinned(pairs, count, asked.most, asked.seed)
+    ways = candidates.ways_between(graph, kept, times, count, asked.seed) if count else []
+    if asked.candidates:
+        routes = given_routes(town, asked)
+        kept, ways = candidates.with_given(graph, kept, ways, routes, times.whole)
+    return kept, ways, (len(kept), max(len(pairs), len(kept)))
+
+
+def given_routes(town: Town, asked: Asked) -> list[tuple[str, ...]]:
+    """The edges of each route of the files of candidates: as often as vehicles have it, once where none has. Routes of
+    one edge are left out; a Fault where no connection leads from an edge to the next."""
+    demand = Demand(town.net, town.types, asked.seed, Report())
+    for path in asked.candidates:
+        demand.read(path)
+    driven = [vehicle.edges for vehicle in demand.finish()]
+    taken = set(driven)
+    found = [*driven, *(edges for edges in demand.routes.values() if edges not in taken)]
+    if not found:
+        raise Fault(f"{', '.join(asked.candidates)}: no route is in it")
+    for edges in found:
+        for source, target in pairwise(edges):
+            numbers = town.graph.number.get(source), town.graph.number.get(target)
+            if numbers not in town.graph.movement_of:
+                raise Fault(f"{', '.join(asked.candidates)}: no connection leads from edge {source!r} to {target!r}")
+    return [edges for edges in found if len(edges) > 1]
+
+
+def by_ratios(
+    town: Town, asked: Asked, free: Sequence[float]
+) -> tuple[list[Pair], list[Way], list[tuple[float, int]]]:
+    """Pairs and ways by turn ratios, and for each vehicle its departure and its way's place. free: seconds of
+    movements."""
+    found, sinks = ratios.read_ratios(asked.ratios)
+    inflows = ratios.read_inflows(asked.flows, asked.seed)
+    turns = walking.Turns(found, sinks, town.net, town.graph)
+    walks = list(walking.walked(inflows, turns, free, town.net, asked.seed))
+    routes = [town.graph.names(path) for _, path in walks]
+    pairs, ways = candidates.with_given(town.graph, [], [], routes, free)
+    place = {way.path: at for at, way in enumerate(ways)}
+    return pairs, ways, [(depart, place[path]) for depart, path in walks]
+
+
+def bounds_of(counts: Iterable[Count], cells: Iterable[Cell], departs: Sequence[tuple[float, int]]) -> list[int]:
+    """The begins and ends of slices, rising: of counts and of cells, else of departures, (second, way); Fault where
+    there are none."""
+    periods = [*((one.begin, one.end) for one in counts), *((one.begin, one.end) for one in cells)]
+    bounds = {bound for period in periods for bound in period}
+    if departs and not bounds:
+        bounds = {int(min(depart for depart, _ in departs)), int(max(depart for depart, _ in departs)) + 1}
+    elif departs:
+        bounds |= {min(*bounds, int(departs[0][0]))}
+    if len(bounds) < 2:
+        raise Fault("there is no period in which vehicles depart")
+    return sorted(bounds)
+
+
+def by_cells(cells: Sequence[Cell], pairs: Sequence[Pair], ways: Sequence[Way], slices: Slices) -> dict[str, Any]:
+    """The vehicles of a matrix by class, then by way and slice: those of a cell over the slices of its period and the
+    ways of its pair."""
+    numpy, _ = needed()
+    place = {(pair.source, pair.target): at for at, pair in enumerate(pairs)}
+    of_pair: dict[str, Any] = {}
+    for cell in cells:
+        rows = of_pair.setdefault(cell.kind, numpy.zeros((len(pairs), len(slices))))
+        at = place.get((cell.source, cell.target))
+        for slice_, (begin, end) in enumerate(pairwise(slices.bounds)):
+            share = (min(end, cell.end) - max(begin, cell.begin)) / (cell.end - cell.begin)
+            if share > 0 and at is not None:
+                rows[at, slice_] += cell.vehicles * share
+    pair, shares = numpy.array([way.pair for way in ways]), numpy.array([[way.share] for way in ways])
+    return {kind: (rows[pair] * shares).ravel() for kind, rows in of_pair.items()}
+
+
+def by_departures(departs: Sequence[tuple[float, int]], slices: Slices, ways: int) -> dict[str, Any]:
+    """The vehicles of each way and slice, of no class, of departures (second, way); nothing where there are none."""
+    if not departs:
+        return {}
+    numpy, _ = needed()
+    found = numpy.zeros((ways, len(slices)))
+    for depart, way in departs:
+        slice_ = next((at for at, end in enumerate(slices.bounds[1:]) if depart < end), len(slices) - 1)
+        found[way, slice_] += 1
+    return {"": found.ravel()}
+
+
+def stacked(basis: Basis, costs: Costs) -> Any:
+    """The matrix of all classes: a count of one has the columns of this alone."""
+    numpy, scipy = needed()
+    base = passing_matrix(basis.town.graph, basis.ways, basis.slices, basis.places, costs)
+    masks = [numpy.array([float(one.kind in ("", kind)) for one in basis.counts]) for kind in basis.kinds]
+    return scipy.sparse.hstack([scipy.sparse.diags(mask) @ base for mask in masks]).tocsr()
+
+
+def fit(basis: Basis, asked: Asked, costs: Costs, counted: Any = None) -> Fitted:
+    """The vehicles that fit what was counted; costs: seconds of movements. counted: by count, where it is corrected by
+    what a run showed."""
+    numpy, scipy = needed()
+    size = len(basis.ways) * len(basis.slices)
+    passing = stacked(basis, costs) if basis.counts else scipy.sparse.csr_matrix((0, len(basis.kinds) * size))
+    counted = counted_of(basis.counts) if counted is None else counted
+    parts = [
+        expected_of(basis, asked, kind, passing[:, at * size : (at + 1) * size], counted)
+        for at, kind in enumerate(basis.kinds)
+    ]
+    vehicles = expected = numpy.concatenate(parts)
+    if basis.counts:
+        deviation = deviations(counted, asked.error) / fitting.FIRM**0.5
+        vehicles = fitting.solved(Problem(passing, expected, counted, deviation))
+    return Fitted(passing, expected, vehicles, rounded(vehicles, passing, asked.seed, asked.error))
+
+
+def expected_of(basis: Basis, asked: Asked, kind: str, base: Any, counted: Any) -> Any:
+    """The vehicles of a class that are expected of ways and slices: of a matrix or ratios, else by the counts alone.
+    base: the matrix's columns of this class."""
+    numpy, _ = needed()
+    if kind in basis.given:
+        return basis.given[kind]
+    rows = [at for at, one in enumerate(basis.counts) if one.kind == kind]
+    if not rows:
+        return numpy.zeros(base.shape[1])
+    others: Counter[tuple[int, int, tuple[str, ...]]] = Counter()
+    for one in basis.counts if not kind else ():
+        if one.kind:
+            others[one.begin, one.end, one.edges] += one.vehicles  # type: ignore[assignment]
+    less = [others[one.begin, one.end, one.edges] for one in (basis.counts[at] for at in rows)]
+    own = numpy.maximum(counted[rows] - numpy.array(less), 0.0)
+    expecting = Expecting(basis.ways, basis.pairs, basis.slices, asked.error)
+    return expecting.without_matrix(base[rows], own)
+
+
+def vehicles_of(basis: Basis, asked: Asked, fitted: Fitted) -> list[Trip]:
+    """The trips of a fit by departure; Fault where there are none."""
+    trips = trips_of(fitted.whole, basis.kinds, basis.ways, basis.slices, asked.seed)
+    if not trips:
+        raise Fault("nobody drives: the fit has no vehicle")
+    return trips
+
+
+def with_begin(town: Town, begin: int) -> Town:
+    """The town with runs that begin at a clock."""
+    made = Town(town.net, town.types, replace(town.options, begin=begin))
+    made.works = town.works
+    return made

@@ -1,0 +1,32 @@
+"""Vehicles with their departures, of the numbers that ways and slices have."""
+import random
+from collections import defaultdict
+from collections.abc import Sequence
+from typing import Any
+
+from streetsim.counts.candidates import Way
+from streetsim.counts.passing import Slices
+from streetsim.sumo.types import DEFAULT
+from streetsim.ways.trips import Trip
+
+
+def trips_of(whole: Any, kinds: Sequence[str], ways: Sequence[Way], slices: Slices, seed: int) -> list[Trip]:
+    """Vehicles by departure. Those of a slice that begin on the same edge depart one after another over all of it, each
+    at random within its part. whole: numbers by class, way and slice."""
+    count = len(slices)
+    begun: defaultdict[tuple[int, int], list[tuple[str, Way]]] = defaultdict(list)
+    for at in whole.nonzero()[0].tolist():
+        kind, way = kinds[at // (len(ways) * count)], ways[at // count % len(ways)]
+        begun[at % count, way.path[0]] += [(kind, way)] * int(whole[at])
+    draws = random.Random(f"departures {seed}")
+    found: list[tuple[float, str, Way]] = []
+    for (slice_, _), some in sorted(begun.items()):
+        draws.shuffle(some)
+        width = (slices.bounds[slice_ + 1] - slices.bounds[slice_]) / len(some)
+        for place, (kind, way) in enumerate(some):
+            found.append((slices.bounds[slice_] + width * (place + draws.random()), kind, way))
+    found.sort(key=lambda one: one[0])
+    return [
+        Trip(str(at), depart, way.path[0], way.path[-1], kind or DEFAULT, way.path, depart)
+        for at, (depart, kind, way) in enumerate(found)
+    ]

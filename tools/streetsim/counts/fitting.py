@@ -1,0 +1,173 @@
+"""Vehicles of each way and slice that fit counts best: sparse least squares with bounds."""
+from collections.abc import Sequence
+from dataclasses import dataclass
+from typing import Any
+
+from streetsim.counts.candidates import HABITS, End, Pair, Way, shares_by
+from streetsim.counts.passing import Slices
+from streetsim.counts.science import needed
+from streetsim.counts.values import Count
+
+ERROR = 0.05  # of a count, by which it is taken to be wrong
+CHANCE = 1.0  # vehicles, by which any count is taken to be wrong besides
+FIRM = 10.0  # times as much as that says, counts weigh in the last fit against what is expected of single ways
+ENDS_ROUNDS = 6  # in which the trips that begin and end at each place are estimated
+OUTSIDE = (0, 2, 4)  # times doubled, that an end outside has more than one within: what fits best
+HALF = 0.5  # of what is expected of a way, by what begins and ends at its places
+LEAST = 1e-6  # vehicles that are expected of a way and slice at least, so that it is not ruled out
+STEPS = 500  # of a search
+
+
+@dataclass(frozen=True, slots=True)
+class Problem:
+    """passing: a row for each count, a column for each way and slice; expected: vehicles of each of these before
+    anything was counted; counted, and the deviation of each count."""
+
+    passing: Any
+    expected: Any
+    counted: Any
+    deviation: Any
+
+
+def deviations(counted: Any, error: float) -> Any:
+    """How far off counts are taken to be, in vehicles; error: as a share of a count."""
+    numpy, _ = needed()
+    return numpy.sqrt(CHANCE + (error * counted) ** 2)
+
+
+def solved(problem: Problem) -> Any:
+    """The vehicles of each column for which the squares of what counts differ by, over their deviations, and of what
+    vehicles differ by from those expected, over the spread of a number that is by chance, are least; none below 0."""
+    numpy, scipy = needed()
+    root = numpy.sqrt(numpy.maximum(problem.expected, LEAST))
+    scaled = scipy.sparse.diags(1 / problem.deviation) @ problem.passing @ scipy.sparse.diags(root)
+    scaled = scaled.tocsr()
+    across = scaled.T.tocsr()
+    target = problem.counted / problem.deviation
+
+    def value(of: Any) -> tuple[float, Any]:
+        apart, from_expected = scaled @ of - target, of - root
+        return 0.5 * float(apart @ apart + from_expected @ from_expected), across @ apart + from_expected
+
+    found = scipy.optimize.minimize(
+        value, root, jac=True, method="L-BFGS-B", bounds=scipy.optimize.Bounds(0, numpy.inf),
+        options={"maxiter": STEPS, "maxfun": 2 * STEPS, "maxcor": 20, "ftol": 1e-10, "gtol": 1e-5},
+    )  # fmt: skip
+    return found.x * root
+
+
+def apart_in(problem: Problem, vehicles: Any) -> float:
+    """The sum of squares that is least in a fit."""
+    numpy, _ = needed()
+    counts = (problem.passing @ vehicles - problem.counted) / problem.deviation
+    root = numpy.sqrt(numpy.maximum(problem.expected, LEAST))
+    return float(counts @ counts + ((vehicles - problem.expected) / root) @ ((vehicles - problem.expected) / root))
+
+
+class Ends:
+    """The places where trips begin, or where they end: for each way the number of its place; and for each place its
+    weight beside others of its kind, and its kind."""
+
+    def __init__(self, names: Sequence[str], ends: Sequence[End]) -> None:
+        """names, ends: of each way's place, in the ways' order."""
+        numpy, _ = needed()
+        numbers = {name: at for at, name in enumerate(dict.fromkeys(names))}
+        self.of_way = numpy.array([numbers[name] for name in names])
+        known = dict(zip(names, ends, strict=True))
+        self.weight = numpy.array([known[name].weight for name in numbers])
+        self.kind = numpy.array([int(known[name].outside) for name in numbers])
+
+    def shares(self, vehicles: Any) -> Any:
+        """For each way the vehicles of its place: half as there are, half as places of its kind have by weight."""
+        numpy, _ = needed()
+        own = numpy.bincount(self.of_way, vehicles, len(self.weight))
+        rates = numpy.bincount(self.kind, own, 2) / numpy.maximum(numpy.bincount(self.kind, self.weight, 2), LEAST)
+        return (HALF * own + (1 - HALF) * rates[self.kind] * self.weight)[self.of_way]
+
+
+class Expecting:
+    """What is expected of ways and slices before the counts of each are looked at: how much a slice has by all counts,
+    and how much begins and ends at each place."""
+
+    def __init__(self, ways: Sequence[Way], pairs: Sequence[Pair], slices: Slices, error: float) -> None:
+        numpy, _ = needed()
+        self.slices, self.error, self.ways = slices, error, ways
+        own = [pairs[way.pair] for way in ways]
+        self.begins = Ends([pair.source for pair in own], [pair.begins for pair in own])
+        self.ends = Ends([pair.target for pair in own], [pair.ends for pair in own])
+        self.share = numpy.array([way.share for way in ways])
+        kinds = (ends.kind[ends.of_way] for ends in (self.begins, self.ends))
+        self.outside = 2.0 ** sum(kinds)  # doubles for each end of a way that lies outside
+
+    def without_matrix(self, passing: Any, counted: Any) -> Any:
+        """The vehicles of each way and slice by counts alone: at first by the habit of drivers, and by what ends
+        outside have more, that fit the counts best; then half by what begins and ends at each place, and half by what
+        the counts have shown of each way."""
+        numpy, _ = needed()
+        deviation = deviations(counted, self.error)
+        if all(way.weight for way in self.ways):
+            habits = [shares_by(self.ways, habit) for habit in HABITS]
+            self.share = min(habits, key=lambda share: self.apart(passing, counted, share))
+        starts = [self.share * self.outside**exponent for exponent in OUTSIDE]
+        start = min(starts, key=lambda share: self.apart(passing, counted, share))
+        base, rates = self.scaled(passing, counted, self.by_ends(start))
+        for _ in range(ENDS_ROUNDS):
+            found = solved(Problem(pooled_columns(passing, rates), base, counted, deviation))
+            base, rates = self.scaled(passing, counted, HALF * self.by_ends(found) + (1 - HALF) * found)
+        base = solved(Problem(pooled_columns(passing, rates), base, counted, deviation))
+        return numpy.outer(numpy.maximum(base, LEAST), rates).ravel()
+
+    def apart(self, passing: Any, counted: Any, share: Any) -> float:
+        """How far counts, and what is expected by some shares of ways, stay apart in a fit."""
+        base, rates = self.scaled(passing, counted, self.by_ends(share))
+        problem = Problem(pooled_columns(passing, rates), base, counted, deviations(counted, self.error))
+        return apart_in(problem, solved(problem))
+
+    def scaled(self, passing: Any, counted: Any, base: Any) -> tuple[Any, Any]:
+        """The vehicles of ways over all slices, and the share that each slice has of them, by all counts; base: how
+        ways share."""
+        rates = self.rates(passing, counted, base)
+        total = float(rates.sum())
+        return base * total, rates / total
+
+    def by_ends(self, vehicles: Any) -> Any:
+        """The vehicles of ways as the product of how many begin and how many end at each place."""
+        made = self.begins.shares(vehicles) * self.ends.shares(vehicles) * self.share
+        return made * (vehicles.sum() / max(made.sum(), LEAST))
+
+    def rates(self, passing: Any, counted: Any, base: Any) -> Any:
+        """How many vehicles a slice has for one of the base; the slice that leads in as many a second as the next."""
+        numpy, scipy = needed()
+        count = len(self.slices)
+        columns = numpy.arange(passing.shape[1])
+        sums = scipy.sparse.csr_matrix((base[columns // count], (columns, columns % count)))
+        table = (passing @ sums).toarray()
+        widths = numpy.array(self.slices.widths(), dtype=float)
+        if self.slices.first:
+            table[:, 1] += table[:, 0] * widths[0] / widths[1]
+            table = table[:, 1:]
+        deviation = deviations(counted, self.error)[:, None]
+        rates, _ = scipy.optimize.nnls(table / deviation, counted / deviation[:, 0])
+        rates = numpy.maximum(rates, 1e-3 * max(rates.max(), LEAST))
+        return numpy.concatenate(([rates[0] * widths[0] / widths[1]], rates)) if self.slices.first else rates
+
+
+def pooled_columns(passing: Any, rates: Any) -> Any:
+    """The matrix with the columns of each way as one, its slices by their rates."""
+    numpy, scipy = needed()
+    columns = numpy.arange(passing.shape[1])
+    sums = scipy.sparse.csr_matrix((rates[columns % len(rates)], (columns, columns // len(rates))))
+    return (passing @ sums).tocsr()
+
+
+def counted_of(counts: Sequence[Count]) -> Any:
+    """The vehicles of counts, as an array."""
+    numpy, _ = needed()
+    return numpy.array([count.vehicles for count in counts])
+
+
+def uncounted(passing: Any, counts: Sequence[Count]) -> list[Count]:
+    """The counts of vehicles that no way can fit, as none passes then; counts of 0 are none of them."""
+    numpy, _ = needed()
+    sums = numpy.asarray(passing.sum(axis=1)).ravel()
+    return [count for count, share in zip(counts, sums, strict=True) if share <= 0 and count.vehicles > 0]

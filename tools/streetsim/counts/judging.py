@@ -1,0 +1,186 @@
+"""How well what passed fits what was counted: GEH, totals, r and slope, by hour and by screen line."""
+from collections import defaultdict
+from collections.abc import Iterable, Iterator, Sequence
+from dataclasses import dataclass
+from statistics import pstdev
+
+from streetsim.counts.values import Count
+from streetsim.results.compare import correlation, geh
+
+GOOD = 5.0  # GEH below which a count fits
+SHARE = 0.85  # of the counts of an hour, that are to fit
+TOTAL = 0.05  # of the sum of an hour's counts, by which what passed may differ
+HOUR = 3600
+
+FIT = ("begin", "end", "from", "to", "class", "group", "counted", "passed", "geh")
+HOURS = (
+    *("begin", "end", "counts", "geh_below_5", "share_percent", "counted", "passed", "difference_percent", "criteria"),
+)
+GROUPS = ("begin", "end", "group", "counts", "counted", "passed", "difference_percent", "geh")
+
+
+@dataclass(frozen=True, slots=True)
+class Compared:
+    """Vehicles of one place in one period: counted, and those that passed in a run."""
+
+    begin: int
+    end: int
+    edges: tuple[str, ...]
+    kind: str
+    group: str
+    counted: float
+    passed: float
+
+    @property
+    def geh(self) -> float:
+        """Of hourly volumes."""
+        hours = (self.end - self.begin) / HOUR
+        return geh(self.counted / hours, self.passed / hours)
+
+    def row(self) -> tuple[object, ...]:
+        """Its row of fit.csv."""
+        source, *others = self.edges
+        ends = source, " ".join(others)
+        values = f"{self.counted:g}", f"{self.passed:g}", f"{self.geh:.2f}"
+        return (self.begin, self.end, *ends, self.kind, self.group, *values)
+
+
+@dataclass(frozen=True, slots=True)
+class Sums:
+    """Counts of one hour, or of a screen line in it."""
+
+    begin: int
+    end: int
+    group: str
+    counts: int
+    good: int  # counts whose GEH is below 5
+    counted: float
+    passed: float
+
+    @property
+    def share(self) -> float:
+        """Of its counts, those that fit, 0 to 1."""
+        return self.good / self.counts
+
+    @property
+    def difference(self) -> float:
+        """What passed beyond what was counted, as a share of this."""
+        return self.passed / self.counted - 1 if self.counted else float(self.passed > 0)
+
+    @property
+    def fits(self) -> bool:
+        """Whether enough counts fit, and the totals do."""
+        return self.share >= SHARE and abs(self.difference) <= TOTAL
+
+    def row(self) -> tuple[object, ...]:
+        """Its row of hours.csv."""
+        told = "passed" if self.fits else "not passed"
+        totals = f"{self.counted:g}", f"{self.passed:g}", f"{100 * self.difference:.1f}"
+        return (self.begin, self.end, self.counts, self.good, f"{100 * self.share:.1f}", *totals, told)
+
+    def group_row(self) -> tuple[object, ...]:
+        """Its row of groups.csv."""
+        hours = (self.end - self.begin) / HOUR
+        geh = f"{geh(self.counted / hours, self.passed / hours):.2f}"
+        totals = f"{self.counted:g}", f"{self.passed:g}", f"{100 * self.difference:.1f}"
+        return (self.begin, self.end, self.group, self.counts, *totals, geh)
+
+
+@dataclass(frozen=True, slots=True)
+class Judged:
+    """each: by count; hourly: by place and hour; hours; groups: by screen line and hour."""
+
+    each: list[Compared]
+    hourly: list[Compared]
+    hours: list[Sums]
+    groups: list[Sums]
+
+    @property
+    def fits(self) -> bool:
+        """Whether all hours fit."""
+        return all(one.fits for one in self.hours)
+
+    @property
+    def share(self) -> float:
+        """Of the counts of all hours, those that fit, 0 to 1."""
+        return sum(one.good for one in self.hours) / sum(one.counts for one in self.hours)
+
+    @property
+    def apart(self) -> float:
+        """By how much, as a share, the hour whose total is farthest off differs."""
+        return max(abs(one.difference) for one in self.hours)
+
+    def lines(self) -> Iterator[str]:
+        """The criteria, hour by hour, then screen lines, r and slope."""
+        for one in self.hours:
+            yield (
+                f"{one.begin:,} to {one.end:,} s: GEH below 5 for {100 * one.share:.1f} % of {one.counts:,} counts, "
+                f"{one.passed:,.0f} passed of {one.counted:,.0f} counted ({100 * one.difference:+.1f} %): "
+                f"{'fits' if one.fits else f'does not fit ({self.wanted(one)})'}"
+            )
+        for one in self.groups:
+            yield (
+                f"screen line {one.group}, {one.begin:,} to {one.end:,} s: {one.passed:,.0f} passed of "
+                f"{one.counted:,.0f} counted ({100 * one.difference:+.1f} %)"
+            )
+        if (line := line_through(self.each)) is not None:
+            yield f"all {len(self.each):,} counts: r = {line[0]:.3f}, slope {line[1]:.3f}"
+
+    @staticmethod
+    def wanted(one: Sums) -> str:
+        """What an hour that does not fit would need."""
+        parts = [] if one.share >= SHARE else [f"GEH below 5 for {100 * SHARE:.0f} %"]
+        parts += [] if abs(one.difference) <= TOTAL else [f"totals within {100 * TOTAL:.0f} %"]
+        return " and ".join(parts)
+
+
+def judged(counts: Sequence[Count], passed: Sequence[float]) -> Judged:
+    """How well what passed, by count, fits the counts."""
+    each = [
+        Compared(count.begin, count.end, count.edges, count.kind, count.group, count.vehicles, value)
+        for count, value in zip(counts, passed, strict=True)
+    ]
+    hourly = by_hour(each)
+    groups = [one for one in hourly if one.group]
+    return Judged(each, hourly, sums_of(hourly, False), sums_of(groups, True))
+
+
+def by_hour(each: Iterable[Compared]) -> list[Compared]:
+    """The counts of a place within an hour of the clock as one."""
+    found: defaultdict[tuple[object, ...], list[Compared]] = defaultdict(list)
+    for one in each:
+        found[one.begin // HOUR, one.edges, one.kind].append(one)
+    made = []
+    for some in found.values():
+        first = some[0]
+        begin, end = min(one.begin for one in some), max(one.end for one in some)
+        sums = sum(one.counted for one in some), sum(one.passed for one in some)
+        made.append(Compared(begin, end, first.edges, first.kind, first.group, *sums))
+    return sorted(made, key=lambda one: (one.begin, one.end, one.edges, one.kind))
+
+
+def sums_of(hourly: Iterable[Compared], grouped: bool) -> list[Sums]:
+    """By hour of the clock, and by screen line where they are grouped."""
+    found: defaultdict[tuple[int, str], list[Compared]] = defaultdict(list)
+    for one in hourly:
+        found[one.begin // HOUR, one.group if grouped else ""].append(one)
+    return [
+        Sums(
+            min(one.begin for one in some), max(one.end for one in some), group, len(some),
+            sum(one.geh < GOOD for one in some), sum(one.counted for one in some), sum(one.passed for one in some),
+        )
+        for (_, group), some in sorted(found.items())
+    ]  # fmt: skip
+
+
+def line_through(each: Sequence[Compared]) -> tuple[float, float] | None:
+    """Pearson's r of what passed with what was counted, and the slope of the line through them; none where they do not
+    vary."""
+    counted, passed = [one.counted for one in each], [one.passed for one in each]
+    r = correlation(counted, passed)
+    return None if r is None else (r, r * pstdev(passed) / pstdev(counted))
+
+
+def worst(fit: Judged, most: int = 5) -> list[Compared]:
+    """The counts of hours that fit worst, of those that do not, so many at most."""
+    return sorted((one for one in fit.hourly if one.geh >= GOOD), key=lambda one: -one.geh)[:most]

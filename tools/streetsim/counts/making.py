@@ -1,0 +1,152 @@
+"""A demand from its basis to its files: fitted, run as often as asked for, written, and told."""
+import sys
+from collections.abc import Callable, Mapping
+from dataclasses import asdict, dataclass
+from typing import Any
+
+from streetsim.base import limits
+from streetsim.base.files import whole_folder
+from streetsim.counts import correcting, demanding
+from streetsim.counts.correcting import Attempt
+from streetsim.counts.demanding import Asked, Basis, Fitted
+from streetsim.counts.fitting import uncounted
+from streetsim.counts.judging import Judged, judged
+from streetsim.counts.pictures import draw
+from streetsim.counts.writing import AT_WISH, NAME, write_demand, write_judged, write_setting
+from streetsim.model import trust
+from streetsim.routes.loading import write_loaded
+from streetsim.routes.watching import Ground
+from streetsim.sessions.prepared import digest_of
+from streetsim.ways.trips import Trip, Trips, write_routes
+
+SLICE = 300  # seconds over which the seconds of movements are means
+MOST_TOLD = 5
+
+
+@dataclass(frozen=True, slots=True)
+class Outputs:
+    """Where outputs go: the vehicles, the folder of tables, and the run with its map, where these are asked for."""
+
+    routes: str
+    folder: str
+    run: str | None
+    mapping: str | None
+
+
+@dataclass(frozen=True, slots=True)
+class Running:
+    """How a demand is run: by which program, at most how often, by how many rounds of giving way."""
+
+    program: str
+    runs: int
+    rounds: int
+
+
+@dataclass(frozen=True, slots=True)
+class Made:
+    """A demand: on paper, and the runs that were tried. judged: what is written of it; trips: its vehicles."""
+
+    basis: Basis
+    fitted: Fitted
+    tried: list[Attempt]
+    judged: Judged | None
+    trips: list[Trip]
+
+    @property
+    def best(self) -> Attempt | None:
+        """The run that fits best; none where nothing was run."""
+        return correcting.best_of(self.tried) if self.tried else None
+
+
+def tried(
+    basis: Basis, asked: Asked, wanted: Running, fitted: Fitted, ends: Callable[[], bool], told: demanding.Told
+) -> list[Attempt]:
+    """Runs until the demand fits, the runs are spent, or the user asks for an end (ends); each is told on standard
+    error."""
+    until = min(limits.CLOCK, basis.slices.bounds[-1] + correcting.AFTER)
+    program = wanted.program
+    ground = Ground(program, digest_of(program), basis.town.graph, SLICE, until, wanted.rounds)
+    found: list[Attempt] = []
+    for one in correcting.attempts(basis, asked, ground, wanted.runs, fitted, told):
+        print(one.line(), file=sys.stderr, flush=True)
+        found.append(one)
+        if ends():
+            break
+    return found
+
+
+def made_of(basis: Basis, asked: Asked, fitted: Fitted, tried: list[Attempt]) -> Made:
+    """The demand of the best run, or of the fit on paper where nothing was run."""
+    if tried:
+        best = correcting.best_of(tried)
+        return Made(basis, best.fitted, tried, best.judged, best.trips)
+    on_paper = judged(basis.counts, fitted.passed()) if basis.counts else None
+    return Made(basis, fitted, [], on_paper, demanding.vehicles_of(basis, asked, fitted))
+
+
+def tell_inputs(basis: Basis, fitted: Fitted) -> None:
+    """Tells, on standard error, what is noticed of the counts before anything runs."""
+    for one in basis.apart[:MOST_TOLD]:
+        print(f"warning: counts contradict each other: {one.told()}", file=sys.stderr)
+    if (more := len(basis.apart) - MOST_TOLD) > 0:
+        print(f"warning: {more:,} more contradictions: contradictions.csv", file=sys.stderr)
+    none = uncounted(fitted.passing, basis.counts)
+    for count in none[:MOST_TOLD]:
+        period = f"from {count.begin:,} to {count.end:,} s"
+        print(f"warning: no way passes {count.place()} {period}: {count.where}", file=sys.stderr)
+    if (more := len(none) - MOST_TOLD) > 0:
+        print(f"warning: no way passes {more:,} more counts", file=sys.stderr)
+    kept, all_ = basis.thinned
+    if kept < all_:
+        print(f"{kept:,} of {all_:,} pairs are drawn, for {len(basis.ways):,} ways (--most)", file=sys.stderr)
+
+
+def write(places: Outputs, made: Made, setting: Mapping[str, Any]) -> None:
+    """Writes all that was asked for; setting: what goes into setting.json."""
+    basis = made.basis
+    loaded = made.best.loaded if made.best else basis.town.loaded(made.trips)
+    write_routes(places.routes, Trips(list(made.trips), types_of(basis)), basis.town.graph)
+    if places.run and places.mapping:
+        write_loaded(loaded, places.run, places.mapping)
+    with whole_folder(places.folder, NAME, AT_WISH) as folder:
+        write_demand(folder, basis, made.fitted, made.tried)
+        if made.judged:
+            write_judged(folder, made.judged)
+            draw(folder, made.judged, loaded.mapping.links, "passed in the run" if made.tried else "fitted on paper")
+        write_setting(folder, setting)
+
+
+def types_of(basis: Basis) -> list[str]:
+    """The vehicle types of the classes that counts tell apart, as XML."""
+    return [f'<vType id="{kind}" vClass="{kind}"/>' for kind in basis.kinds if kind]
+
+
+def setting_of(asked: Asked, made: Made, runs: int) -> dict[str, Any]:
+    """What a demand was made of and came to, for setting.json; runs: that were allowed."""
+    return {
+        **asdict(asked),
+        "runs": runs,
+        "begin": made.basis.slices.bounds[0],
+        "vehicles": len(made.trips),
+        "not_trusted": correcting.doubts_of(made.best) if made.best else [],
+    }
+
+
+def tell(made: Made) -> int:
+    """Says what was made and how well it fits; gives the status, 1 where it does not fit."""
+    slices, ways = made.basis.slices, made.basis.ways
+    print(
+        f"{len(made.trips):,} vehicles from {slices.bounds[0]:,} to {slices.bounds[-1]:,} s on "
+        f"{len({trip.path for trip in made.trips}):,} of {len(ways):,} ways of {len(made.basis.pairs):,} pairs"
+    )
+    if not made.judged:
+        return 0
+    if not made.best:
+        print("on paper, by seconds without other traffic (--runs N judges in the simulation):")
+    print(*made.judged.lines(), sep="\n")
+    if made.best:
+        for line in correcting.left_over(made.basis, made.best):
+            print(line)
+        if doubts := correcting.doubts_of(made.best):
+            print(trust.verdict(doubts))
+    return 0 if made.judged.fits else 1

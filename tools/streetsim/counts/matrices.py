@@ -1,0 +1,170 @@
+"""Matrices between zones: CSV, SUMO's O and V formats, and its tazRelation files."""
+from collections.abc import Iterable, Iterator, Mapping
+from dataclasses import replace
+
+from streetsim.base.files import Fault, FilePath, open_text, reading
+from streetsim.counts.cells import begins_with, clock_of, name_of, period_of, rows_of, vehicles_of
+from streetsim.counts.reading import BY_TURN, clock_rounded, number_in
+from streetsim.counts.tags import tags
+from streetsim.counts.values import Cell, Zone
+
+COLUMNS = ("from", "to", "vehicles")
+MORE = ("begin", "end", "class")
+
+
+def read_matrices(paths: Iterable[FilePath], period: tuple[int, int] | None) -> list[Cell]:
+    """The cells of files; Fault where one has none. period: of cells without one, as where a table has no such
+    columns."""
+    found: list[Cell] = []
+    for path in paths:
+        if begins_with(path, "<"):
+            own = list(of_sumo(path))
+        elif begins_with(path, "$"):
+            own = list(of_format(path))
+        else:
+            own = list(of_table(path, period))
+        if not own:
+            raise Fault(f"{path}: no pair of zones is in it")
+        found += own
+    refuse_twice(found)
+    return found
+
+
+def refuse_twice(cells: Iterable[Cell]) -> None:
+    """Refuses two cells of one period, pair and class."""
+    seen: dict[tuple[int, int, str, str, str], Cell] = {}
+    for cell in cells:
+        key = cell.begin, cell.end, cell.source, cell.target, cell.kind
+        if key in seen:
+            raise Fault(f"{cell.where}: {cell.source} to {cell.target} a second time, as {seen[key].where}")
+        seen[key] = cell
+
+
+def of_table(path: FilePath, period: tuple[int, int] | None) -> Iterator[Cell]:
+    """The cells of a CSV table: from,to,vehicles, and maybe begin,end,class."""
+    for row in rows_of(path, COLUMNS, MORE):
+        if row.text("begin") or row.text("end"):
+            begin, end = period_of(row.get("begin", clock_of), row.get("end", clock_of), row.where)
+        elif period:
+            begin, end = period
+        else:
+            raise Fault(f"{path}: no columns begin and end, and no counts whose periods would be those of the matrix")
+        source, target = row.get("from", name_of), row.get("to", name_of)
+        yield Cell(begin, end, source, target, row.get("vehicles", vehicles_of), row.where, row.text("class"))
+
+
+def of_sumo(path: FilePath) -> Iterator[Cell]:
+    """The cells of a tazRelation file."""
+    begin = end = 0
+    for tag in tags(path, ("data", "meandata", "tazRelations")):
+        if tag.name == "interval":
+            begin, end = period_of(tag.get("begin", clock_rounded), tag.get("end", clock_rounded), tag.where)
+        elif tag.name == "tazRelation":
+            ends = tag.get("from", name_of), tag.get("to", name_of)
+            yield Cell(begin, end, *ends, number_in(tag, BY_TURN, None), tag.where)
+        else:
+            raise Fault(f"{tag.where}: <{tag.name}> is no <tazRelation> in an <interval>")
+
+
+class Words:
+    """The words of a matrix in O or V format, line by line; lines with * are comments."""
+
+    def __init__(self, path: FilePath, lines: Iterable[str]) -> None:
+        self.path, self.lines, self.line = path, enumerate(lines, 1), 0
+
+    @property
+    def where(self) -> str:
+        """The file and its line, as faults name it."""
+        return f"{self.path}: line {self.line}"
+
+    def following(self) -> list[str]:
+        """The words of the next line; none at the end."""
+        for self.line, text in self.lines:
+            if text.strip() and not text.lstrip().startswith("*"):
+                return text.split()
+        return []
+
+    def number(self, text: str) -> float:
+        """A word as a number of vehicles; Fault otherwise."""
+        try:
+            return vehicles_of(text)
+        except ValueError as fault:
+            raise Fault(f"{self.where}: {text!r} {fault}") from None
+
+    def one(self, what: str) -> str:
+        """The first word of the next line; Fault at the end, which names what was expected."""
+        words = self.following()
+        if not words:
+            raise Fault(f"{self.path}: ends before {what}")
+        return words[0]
+
+
+def of_format(path: FilePath) -> Iterator[Cell]:
+    """The cells of a file in SUMO's formats $OR (from, to, vehicles) and $VR (a matrix). An M in the first word: a line
+    with the vehicle type."""
+    with reading(path), open_text(path) as file:
+        words = Words(path, file.read().splitlines())
+    head = words.one("its first line")
+    kind = head[1:].split(";")[0].upper()
+    if kind[:1] not in ("O", "V"):
+        raise Fault(f"{words.where}: {head!r} is neither SUMO's O format ($OR) nor its V format ($VMR)")
+    if "M" in kind:
+        words.one("its vehicle type")
+    times = words.following()
+    if len(times) != 2:
+        raise Fault(f"{words.where}: expected from-time and to-time, as 7.00 8.00")
+    begin, end = period_of(hours_of(words, times[0]), hours_of(words, times[1]), words.where)
+    factor = words.number(words.one("its factor"))
+    for cell in pairs(words) if kind[0] == "O" else square(words):
+        yield replace(cell, begin=begin, end=end, vehicles=cell.vehicles * factor)
+
+
+def hours_of(words: Words, text: str) -> int:
+    """Seconds of a time HH.MM; Fault otherwise."""
+    hours, _, minutes = text.partition(".")
+    if not (hours.isdecimal() and minutes.isdecimal() and int(minutes) < 60):
+        raise Fault(f"{words.where}: {text!r} is no time as HH.MM")
+    return 3600 * int(hours) + 60 * int(minutes)
+
+
+def pairs(words: Words) -> Iterator[Cell]:
+    """Cells of the O format's lines, without period and factor."""
+    while row := words.following():
+        if len(row) != 3:
+            raise Fault(f"{words.where}: expected from, to and vehicles")
+        yield Cell(0, 0, row[0], row[1], words.number(row[2]), words.where)
+
+
+def square(words: Words) -> Iterator[Cell]:
+    """Cells of the V format's matrix, without period and factor."""
+    text = words.one("the number of its districts")
+    if not text.isdecimal() or not int(text):
+        raise Fault(f"{words.where}: {text!r} is no number of districts")
+    count = int(text)
+    names = several(words, count, "names of districts")
+    for source in names:
+        for target, value in zip(names, several(words, count, f"vehicles from {source}"), strict=True):
+            yield Cell(0, 0, source, target, words.number(value), words.where)
+
+
+def several(words: Words, count: int, what: str) -> list[str]:
+    """So many words, over lines; Fault where there are fewer or more."""
+    found: list[str] = []
+    while len(found) < count:
+        row = words.following()
+        if not row:
+            raise Fault(f"{words.path}: ends after {len(found)} of {count} {what}")
+        found += row
+    if len(found) > count:
+        raise Fault(f"{words.where}: {len(found)} {what}, and there are {count} districts")
+    return found
+
+
+def check_zones(cells: Iterable[Cell], zones: Mapping[str, Zone]) -> None:
+    """Refuses cells of zones that there are not, or where nobody may begin or end."""
+    for cell in cells:
+        for name, way, edges in ((cell.source, "begin", "sources"), (cell.target, "end", "sinks")):
+            if name not in zones:
+                raise Fault(f"{cell.where}: there is no zone {name!r}")
+            if cell.vehicles and not getattr(zones[name], edges):
+                raise Fault(f"{cell.where}: zone {name!r} has no edge on which trips {way}")

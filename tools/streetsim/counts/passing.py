@@ -1,0 +1,116 @@
+"""When vehicles of a way pass the places that were counted: the matrix of a fit."""
+from bisect import bisect_left
+from collections.abc import Iterable, Iterator, Sequence
+from dataclasses import dataclass
+from itertools import pairwise
+from math import ceil
+from typing import Any
+
+from streetsim.base.files import Fault
+from streetsim.counts.candidates import Way
+from streetsim.counts.science import needed
+from streetsim.counts.values import Count
+from streetsim.ways.costs import Costs, Table
+from streetsim.ways.graph import END, Graph
+from streetsim.ways.router import Path
+
+MOST_UNKNOWNS = 5_000_000
+MOST_SLICES = 500
+
+
+@dataclass(frozen=True, slots=True)
+class Slices:
+    """The periods in which vehicles depart, one after another. first: the first one whose vehicles are counted from its
+    begin on; those before it lead in."""
+
+    bounds: tuple[int, ...]
+    first: int
+
+    def __len__(self) -> int:
+        return len(self.bounds) - 1
+
+    def widths(self) -> list[int]:
+        """The seconds of each."""
+        return [end - begin for begin, end in pairwise(self.bounds)]
+
+
+def slices_of(bounds: Iterable[int], lead: float, begin: int) -> Slices:
+    """Slices between the begins and ends of counts, two bounds at least, and before them one in which those depart who
+    are on their way when counting begins: lead seconds, but not before the begin of all."""
+    found = sorted(set(bounds))
+    width = min(later - sooner for sooner, later in pairwise(found))
+    early = max(begin, found[0] - ceil(lead / width) * width)
+    if early < found[0]:
+        return Slices((early, *found), 1)
+    return Slices(tuple(found), 0)
+
+
+class Places:
+    """The places that were counted, as ways pass them."""
+
+    def __init__(self, counts: Sequence[Count], graph: Graph) -> None:
+        self.counts = counts
+        self.of: dict[Path, list[int]] = {}  # by edges: counts in order of their begin
+        for at, count in enumerate(counts):
+            self.of.setdefault(tuple(graph.number[name] for name in count.edges), []).append(at)
+        for some in self.of.values():
+            some.sort(key=lambda at: counts[at].begin)
+        self.sizes = sorted({len(edges) for edges in self.of})
+
+    def along(self, path: Path) -> Iterator[tuple[list[int], int]]:
+        """The counts of the places that a way passes, each with the place in the way of the edge at whose end it is
+        counted."""
+        for at in range(len(path)):
+            for size in self.sizes:
+                some = self.of.get(path[at : at + size])
+                if some is not None and at + size <= len(path):
+                    yield some, at + max(0, size - 2)
+
+    def when(self, some: Sequence[int], begin: float, end: float) -> Iterator[tuple[int, float]]:
+        """The counts, of those of a place, in whose period those pass who pass evenly from one clock to another, and
+        the share of these in each."""
+        counts = self.counts
+        at = bisect_left(some, begin, key=lambda one: counts[one].end)
+        while at < len(some) and counts[some[at]].begin < end:
+            count = counts[some[at]]
+            share = (min(end, count.end) - max(begin, count.begin)) / (end - begin)
+            if share > 0:
+                yield some[at], share
+            at += 1
+
+
+def clocks_of(graph: Graph, table: Table, path: Path, depart: float) -> list[float]:
+    """The clock at which the end of each edge of a way is passed, of one that departs at a clock."""
+    found, clock = [], depart
+    for way in pairwise((*path, END)):
+        clock += table.at(graph.movement_of[way], clock)
+        found.append(clock)
+    return found
+
+
+def passing_matrix(graph: Graph, ways: Sequence[Way], slices: Slices, places: Places, costs: Costs) -> Any:
+    """A row for each count and a column for each way and slice, ways first: the share of the vehicles that depart then
+    which pass there in its period. Fault where there are too many columns."""
+    if len(ways) * len(slices) > MOST_UNKNOWNS:
+        raise Fault(
+            f"{len(ways):,} ways times {len(slices):,} periods are more than {MOST_UNKNOWNS:,} unknowns: fewer --ways, "
+            "a smaller --most, or longer periods"
+        )
+    _, scipy = needed()
+    table, count = Table(costs), len(slices)
+    rows: list[int] = []
+    columns: list[int] = []
+    shares: list[float] = []
+    for at, way in enumerate(ways):
+        along = list(places.along(way.path))
+        if not along:
+            continue
+        clocks = [clocks_of(graph, table, way.path, bound) for bound in slices.bounds]
+        for slice_, (sooner, later) in enumerate(pairwise(clocks)):
+            for some, edge in along:
+                for row, share in places.when(some, sooner[edge], max(later[edge], sooner[edge] + 1)):
+                    rows.append(row)
+                    columns.append(at * count + slice_)
+                    shares.append(share)
+    shape = len(places.counts), len(ways) * count
+    return scipy.sparse.csr_matrix((shares, (rows, columns)), shape=shape)

@@ -1,0 +1,82 @@
+"""Pictures of a fit: what passed over what was counted, and a map of the differences."""
+from collections import defaultdict
+from collections.abc import Sequence
+from typing import Any
+
+from streetsim.pictures import drawing
+from streetsim.counts.judging import GOOD, HOUR, Compared, Judged
+from streetsim.model.mapping import MapLink
+from streetsim.routes.drawing import differences, draw_flows
+
+POINTS = 60  # of the curve of GEH
+LEAST = 50  # vehicles an hour, up to which colours of differences go at least
+GOOD_COLOUR, BAD_COLOUR = "#225588", "#c04000"
+
+
+def draw(folder: str, fit: Judged, links: Sequence[MapLink], what: str) -> None:
+    """Draws both into a folder; without matplotlib nothing, which is said. what: how vehicles passed."""
+    pyplot = drawing.drawing_if_there()
+    if pyplot is None:
+        return
+    drawing.save(scatter(pyplot, fit.hourly, what), f"{folder}/fit.png")
+    drawing.save(map_of(pyplot, fit.hourly, links, what), f"{folder}/differences.png")
+
+
+def scatter(pyplot: Any, hourly: Sequence[Compared], what: str) -> Any:
+    """The picture of all places and hours: a point for each, and where GEH is 5. what: how vehicles passed."""
+    figure, axes = pyplot.subplots(figsize=(5.6, 5.4))
+    scale = [HOUR / (one.end - one.begin) for one in hourly]
+    for good, colour, mark in ((True, GOOD_COLOUR, "o"), (False, BAD_COLOUR, "x")):
+        those = [
+            (one.counted * by, one.passed * by)
+            for one, by in zip(hourly, scale, strict=True) if (one.geh < GOOD) is good
+        ]  # fmt: skip
+        label = f"{len(those):,} with GEH {'below 5' if good else '5 and more'}"
+        axes.plot(*(zip(*those) if those else ([], [])), mark, color=colour, markersize=4, alpha=0.7, label=label)
+    most = 1.08 * max([1.0, *(max(one.counted, one.passed) * by for one, by in zip(hourly, scale, strict=True))])
+    axes.plot((0, most), (0, most), color="black", linewidth=0.8)
+    counted = [most * at / POINTS for at in range(POINTS + 1)]
+    for sign in (1, -1):
+        axes.plot(counted, [of_geh(value, sign) for value in counted], "--", color="#777777", linewidth=0.9)
+    axes.plot([], [], "--", color="#777777", linewidth=0.9, label="GEH = 5")
+    axes.set(xlim=(0, most), ylim=(0, most), aspect="equal")
+    axes.set(xlabel="counted (vehicles/h)", ylabel=f"{what} (vehicles/h)", title="Counts by place and hour")
+    axes.legend(frameon=False, fontsize=8, loc="upper left")
+    return figure
+
+
+def of_geh(counted: float, sign: int) -> float:
+    """The volume above (sign 1) or below (-1) a counted one whose GEH beside it is 5: of 2 (p - c)^2 = 25 (p + c)."""
+    square = GOOD**2
+    root = (square * square + 16 * square * counted) ** 0.5
+    return max(0.0, counted + (square + sign * root) / 4)
+
+
+def map_of(pyplot: Any, hourly: Sequence[Compared], links: Sequence[MapLink], what: str) -> Any:
+    """The map of edges by how many more or fewer passed than were counted, an hour: of the edge, else of its turns."""
+    whole: defaultdict[str, float] = defaultdict(float)
+    turns: defaultdict[str, float] = defaultdict(float)
+    hours = len({one.begin // HOUR for one in hourly})
+    for one in hourly:
+        into = whole if len(one.edges) == 1 else turns
+        into[one.edges[0]] += (one.passed - one.counted) * HOUR / (one.end - one.begin) / hours
+    values = [round(whole.get(link.edge, turns.get(link.edge, 0.0))) for link in links]
+    spans = [max(place) - min(place) for place in zip(*(point[:2] for link in links for point in link.shape))]
+    wide = spans[0] > 2 * spans[1]
+    figure, axes = pyplot.subplots(figsize=(9, 3.6) if wide else (8, 6.5), layout="constrained")
+    most = max(LEAST, *(abs(value) for value in values))
+    lines = draw_flows(axes, links, values, differences(most), f"{what} less counted")
+    counted = [link for link in links if link.edge in whole or link.edge in turns]
+    middles = [link.shape[len(link.shape) // 2] if len(link.shape) > 2 else halfway(link) for link in counted]
+    if middles:
+        axes.plot(*zip(*middles), ".", color="black", markersize=3)
+        axes.set_xlabel("x (m); dots: edges that are counted, or from which turns are")
+    label, beside = "vehicles/h fewer (broken lines) or more than counted", {"location": "bottom"} if wide else {}
+    figure.colorbar(lines, ax=axes, label=label, shrink=0.8, **beside)
+    return figure
+
+
+def halfway(link: MapLink) -> tuple[float, float]:
+    """The middle of a link's last piece."""
+    (x, y), *_, (next_x, next_y) = link.shape
+    return (x + next_x) / 2, (y + next_y) / 2

@@ -1,0 +1,68 @@
+"""Flows without an end, and turn ratios by which they go on, as SUMO's jtrrouter takes them."""
+import random
+from collections.abc import Iterable
+
+from streetsim.base.files import Fault, FilePath, elements, told
+from streetsim.counts.cells import name_of, period_of, vehicles_of
+from streetsim.counts.reading import clock_rounded
+from streetsim.counts.tags import Tag, tags
+from streetsim.counts.values import Inflow, Ratio
+from streetsim.sumo.flows import departs
+
+FLOWS = ("routes", "additional", "add", "flows")
+TURNS = ("turns", "edgeRelations", "turn-defs", "data")
+
+
+def read_inflows(paths: Iterable[FilePath], seed: int) -> list[Inflow]:
+    """Flows with `from` alone; one with a `to` or a route is a Fault, as is a file without a flow. seed: of departures
+    by chance."""
+    found: list[Inflow] = []
+    draws = random.Random(f"inflows {seed}")
+    for path in paths:
+        before = len(found)
+        for element in elements(path, FLOWS):
+            if element.tag in ("vType", "vTypeDistribution"):
+                continue
+            if element.tag != "flow" or not element.get("from"):
+                raise Fault(f"{told(path, element)}: expected a <flow> with from, which turn ratios lead on")
+            if element.get("to") or element.find("route") is not None:
+                raise Fault(f"{told(path, element)}: it has an end: give it to --candidates or streetsim-route --trips")
+            times = departs(path, element, draws)
+            begin, end = int(float(element.get("begin", "0"))), int(max(times, default=0)) + 1
+            name, edge = element.get("id", ""), element.get("from", "")
+            found.append(Inflow(name, edge, begin, end, len(times), told(path, element)))
+        if len(found) == before:
+            raise Fault(f"{path}: no flow is in it")
+    return found
+
+
+def read_ratios(paths: Iterable[FilePath]) -> tuple[list[Ratio], set[str]]:
+    """Turn ratios, and the names of the edges that are told to be sinks; Fault where a file has no ratio."""
+    found: list[Ratio] = []
+    sinks: set[str] = set()
+    for path in paths:
+        before = len(found)
+        begin = end = 0
+        source = ""
+        for tag in tags(path, TURNS):
+            if tag.name == "interval":
+                begin, end = period_of(tag.get("begin", clock_rounded), tag.get("end", clock_rounded), tag.where)
+            elif tag.name == "fromEdge":
+                source = tag.get("id", name_of)
+            elif tag.name == "toEdge":
+                found.append(Ratio(begin, end, source, tag.get("id", name_of), weight_of(tag), tag.where))
+            elif tag.name == "edgeRelation":
+                ends = tag.get("from", name_of), tag.get("to", name_of)
+                found.append(Ratio(begin, end, *ends, weight_of(tag), tag.where))
+            elif tag.name == "sink":
+                sinks.update(tag.get("edges", name_of).split())
+            else:
+                raise Fault(f"{tag.where}: <{tag.name}> is no turn ratio: <edgeRelation>, or <toEdge> in a <fromEdge>")
+        if len(found) == before:
+            raise Fault(f"{path}: no turn ratio is in it")
+    return found, sinks
+
+
+def weight_of(tag: Tag) -> float:
+    """The weight of a turn: its probability, else its count."""
+    return tag.get("probability" if "probability" in tag.attributes else "count", vehicles_of)

@@ -1,0 +1,43 @@
+"""Whole vehicles whose sums are those of the fit."""
+from typing import Any
+
+from streetsim.counts.fitting import deviations
+from streetsim.counts.science import needed
+
+SWAPS = 20_000  # of a vehicle of one way and slice for one of another, at most
+LEAST_GAIN = 1e-9
+
+
+def rounded(vehicles: Any, passing: Any, seed: int, error: float) -> Any:
+    """Each number rounded up or down, so that the sum of any that follow each other is within one of what it was, and
+    then so that the numbers that pass the counted places are near those of the fit. error: of a count, as a share."""
+    numpy, _ = needed()
+    start = numpy.random.default_rng(seed).random()
+    whole = numpy.diff(numpy.floor(numpy.concatenate(([0.0], numpy.cumsum(vehicles))) + start))
+    low = numpy.floor(vehicles)
+    whole = numpy.clip(whole, low, low + 1)
+    return improved(whole, vehicles, passing, error) if passing.shape[0] else whole.astype(int)
+
+
+def improved(whole: Any, vehicles: Any, passing: Any, error: float) -> Any:
+    """Swaps one that was rounded up with one that was rounded down, as long as what passes the places comes nearer."""
+    numpy, scipy = needed()
+    wanted = passing @ vehicles
+    scaled = (scipy.sparse.diags(1 / deviations(wanted, error)) @ passing).tocsc()
+    across, squares = scaled.T.tocsr(), numpy.asarray(scaled.multiply(scaled).sum(axis=0)).ravel()
+    low = numpy.floor(vehicles)
+    open_ = vehicles > low
+    apart = scaled @ (whole - vehicles)
+    for _ in range(SWAPS):
+        slope = across @ apart
+        more = numpy.where(open_ & (whole == low), slope + 0.5 * squares, numpy.inf)
+        less = numpy.where(open_ & (whole > low), -slope + 0.5 * squares, numpy.inf)
+        up, down = int(more.argmin()), int(less.argmin())
+        both = scaled[:, up] - scaled[:, down]
+        there = numpy.isfinite(more[up] + less[down])
+        if not there or float((both.T @ apart)[0] + 0.5 * both.multiply(both).sum()) >= -LEAST_GAIN:
+            break
+        whole[up] += 1
+        whole[down] -= 1
+        apart = apart + both.toarray().ravel()
+    return whole.astype(int)

@@ -1,0 +1,90 @@
+"""A demand in the simulation: when its vehicles passed the places that were counted, and what their ways took."""
+from collections.abc import Sequence
+from dataclasses import dataclass
+from functools import partial
+from itertools import pairwise
+
+from streetsim.base.client import Client, NoReply, ProgramEnded, Refused, Starved
+from streetsim.base.files import Fault
+from streetsim.base.serving import serving
+from streetsim.counts.passing import Places
+from streetsim.model.runs import with_load
+from streetsim.routes.loading import Loaded
+from streetsim.routes.passes import Passes
+from streetsim.routes.watching import Ground, Watcher, arrival_of
+from streetsim.run.record import Settings
+from streetsim.run.rounds import gaps_of, with_lines
+from streetsim.ways.costs import Costs, Observed, nothing_observed
+from streetsim.ways.graph import Graph
+from streetsim.ways.router import Path
+
+
+@dataclass(frozen=True, slots=True)
+class Ran:
+    """left: for each vehicle when it left each edge of its way, as far as it came; ends: when each arrived, none where
+    it did not; waiting: the most vehicles that waited to enter at once, and when."""
+
+    left: list[list[float]]
+    ends: list[int | None]
+    observed: Observed
+    rescues: int
+    waiting: tuple[int, int]
+
+
+def ran(ground: Ground, loaded: Loaded, expected: Costs, seed: int) -> Ran:
+    """One run of a demand, by rounds of giving way as streetsim-run makes them; Fault where the program refuses it.
+    expected: seconds of movements, by which what is lost between two looks at a vehicle is dealt out."""
+    run, mapping = with_load(loaded.run, seed=seed), loaded.mapping
+    if ground.rounds and mapping.yields:
+        serve = partial(serving, ground.program, run.path)
+        lines, _ = gaps_of(run, mapping, Settings(ground.until), ground.rounds, serve, lambda *_: None)
+        run = with_lines(run, lines)
+    try:
+        with Client(ground.program) as sim:
+            watcher = Watcher(sim, run, mapping, ground.until, False)
+            records = watcher.record()
+    except (Refused, Starved, NoReply, ProgramEnded) as fault:
+        raise Fault(f"a run with seed {seed}: {fault}") from None
+    passes = Passes(ground.graph, mapping, expected, run.load.command["dawdle"] / 1000, watcher.every)
+    observed = nothing_observed(len(ground.graph.movements), ground.slices)
+    left, ends = [], []
+    for line, sights, last in zip(run.enters, watcher.seen, records.ends, strict=True):
+        plan, end = line.command["plan"], arrival_of(last)
+        clocks = passes.clocks(plan, line.command["depart"], sights, end)
+        there = float(ground.until if end is None else end)
+        for place, (since, until) in enumerate(pairwise([*clocks, there] if clocks else [])):
+            observed.add(passes.movement(plan, place), int(since // ground.width), until - since)
+        left.append([*clocks[1:], *([float(end)] if end is not None else [])])
+        ends.append(end)
+    worst = max(records.censuses, key=lambda census: census.waiting, default=None)
+    waiting = (worst.waiting, worst.clock) if worst else (0, 0)
+    return Ran(left, ends, observed, records.rescues.total(), waiting)
+
+
+def passed(places: Places, paths: Sequence[Path], kinds: Sequence[str], left: Sequence[Sequence[float]]) -> list[int]:
+    """How many vehicles passed in each count's period. paths, kinds, left: the way, class and clocks of each
+    vehicle."""
+    found = [0] * len(places.counts)
+    for path, kind, clocks in zip(paths, kinds, left, strict=True):
+        for some, edge in places.along(path):
+            if edge < len(clocks):
+                for at in at_clock(places, some, clocks[edge]):
+                    if places.counts[at].kind in ("", kind):
+                        found[at] += 1
+    return found
+
+
+def at_clock(places: Places, some: Sequence[int], clock: float) -> list[int]:
+    """Those counts of a place in whose period a clock is; who passes at its end is of it."""
+    return [at for at in some if places.counts[at].begin < clock <= places.counts[at].end]
+
+
+def delays(graph: Graph, observed: Observed, free: Sequence[float]) -> list[float]:
+    """For each movement the greatest mean seconds of a slice beyond the free ones; 0 where nobody was seen."""
+    found = []
+    for movement in range(len(graph.movements)):
+        base = movement * observed.slices
+        places = (at for at in range(base, base + observed.slices) if observed.counts[at])
+        means = [observed.seconds[at] / observed.counts[at] for at in places]
+        found.append(max(means, default=free[movement]) - free[movement])
+    return found

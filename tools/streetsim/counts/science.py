@@ -1,0 +1,21 @@
+"""Debian's python3-scipy, which the fit stands on and which may be missing."""
+import os
+from typing import Any
+
+from streetsim.base.files import Fault
+
+THREADS = ("OPENBLAS_NUM_THREADS", "OMP_NUM_THREADS", "MKL_NUM_THREADS")
+
+
+def needed() -> Any:
+    """NumPy and SciPy; a Fault that says what to install where they are missing. They take one thread: by several, sums
+    hang on chance."""
+    for name in THREADS:
+        os.environ.setdefault(name, "1")
+    try:
+        import numpy
+        import scipy.optimize
+        import scipy.sparse.csgraph
+    except ImportError:
+        raise Fault("the fit needs Debian's python3-scipy: apt install python3-scipy") from None
+    return numpy, scipy

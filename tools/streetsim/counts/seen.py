@@ -1,0 +1,259 @@
+"""What passed the places that were counted, in a folder that streetsim-run wrote: by its tables, else by its polls."""
+import csv
+import os
+from collections import defaultdict, deque
+from collections.abc import Iterable, Iterator, Mapping, Sequence
+from dataclasses import dataclass
+from itertools import pairwise
+
+from streetsim.base.files import Fault, open_text, reading
+from streetsim.counts.checking import check_periods
+from streetsim.counts.values import Count
+from streetsim.model.folder import Folder
+from streetsim.model.mapping import Map
+from streetsim.model.runs import read_run
+
+MOST_APART = 60  # seconds between two polls, so that it is known by which ways vehicles went between them
+MOST_LINKS = 8  # between two looks at a vehicle
+
+Key = tuple[str, ...]
+Sums = Mapping[Key, Sequence[tuple[int, int, float]]]  # by edges: begin, end and vehicles of rows, by their begin
+
+
+def passed_in(folder: Folder, counts: Sequence[Count]) -> list[float]:
+    """The vehicles that passed in each count's period; Fault where the folder cannot tell."""
+    check_places(folder, counts)
+    rows = {**edge_rows(folder), **movement_rows(folder)}
+    found = [within(rows.get(count.edges, ()), count) if not count.kind else None for count in counts]
+    missing = [count for count, value in zip(counts, found, strict=True) if value is None]
+    more = iter(Traces(folder, missing, driven_in(folder)).passed() if missing else ())
+    return [next(more) if value is None else value for value in found]
+
+
+def check_places(folder: Folder, counts: Sequence[Count]) -> None:
+    """Refuses counts of places that the run's map does not have, and of periods that it did not reach."""
+    links = folder.mapping.links
+    ways = {(links[turn.link].edge, links[turn.next].edge) for turn in folder.mapping.turns}
+    last = max((float(row["end"]) for row in folder.edges()), default=0.0)
+    for count in counts:
+        for edge in count.edges:
+            if edge not in folder.mapping.links_of:
+                raise Fault(f"{count.where}: the run's map has no edge {edge!r}")
+        for way in pairwise(count.edges):
+            if way not in ways:
+                raise Fault(f"{count.where}: no turn leads from edge {way[0]!r} to edge {way[1]!r} in the run")
+        if count.begin >= last:
+            raise Fault(f"{count.where}: counted from {count.begin:,} s on, and {folder.path} ends at {last:,.0f} s")
+    check_periods(counts)
+
+
+def edge_rows(folder: Folder) -> dict[Key, list[tuple[int, int, float]]]:
+    """The vehicles that left each edge, in periods of the table of edges."""
+    found: defaultdict[Key, list[tuple[int, int, float]]] = defaultdict(list)
+    for row in folder.edges():
+        found[(row["edge"],)].append((int(row["begin"]), int(row["end"]), float(row["left"])))
+    return found
+
+
+def movement_rows(folder: Folder) -> dict[Key, list[tuple[int, int, float]]]:
+    """The vehicles of each movement, (edge, next edge), in intervals of the junction tables, where the run has them."""
+    path = f"{folder.path}/movements.csv"
+    found: defaultdict[Key, list[tuple[int, int, float]]] = defaultdict(list)
+    if not os.path.exists(path):
+        return found
+    with reading(path), open_text(path) as file:
+        for row in csv.DictReader(file):
+            key = row["approach"], row["to"]
+            found[key].append((int(row["begin"]), int(row["end"]), float(row["vehicles"])))
+    return found
+
+
+def within(rows: Sequence[tuple[int, int, float]], count: Count) -> float | None:
+    """The vehicles of rows that make up a count's period; none where they do not."""
+    inside = [row for row in rows if count.begin <= row[0] and row[1] <= count.end]
+    whole = sum(end - begin for begin, end, _ in inside) == count.end - count.begin
+    return sum(vehicles for *_, vehicles in inside) if whole else None
+
+
+@dataclass(frozen=True, slots=True)
+class Driven:
+    """A vehicle of the run file: its links, when it wished to depart, and when it arrived, if not by a rescue."""
+
+    plan: Sequence[int]
+    depart: float
+    arrival: float | None
+
+
+@dataclass(frozen=True, slots=True)
+class Last:
+    """Where a vehicle was last seen; place: in its plan, where this is known."""
+
+    clock: float
+    link: int
+    place: int = 0
+
+
+class Traces:
+    """Vehicles from poll to poll. Between two polls one has gone on in its plan, where the run file is there, else the
+    way with the fewest links; and passed the ends of links one after another."""
+
+    def __init__(self, folder: Folder, counts: Sequence[Count], driven: Sequence[Driven]) -> None:
+        self.folder, self.counts, self.mapping, self.driven = folder, counts, folder.mapping, driven
+        if not 0 < folder.every <= MOST_APART:
+            raise Fault(
+                f"{counts[0].where}: {folder.path} has neither this place and period in its tables nor polls each "
+                f"{MOST_APART} s: run it with --junctions {counts[0].end - counts[0].begin}, or --every 10"
+            )
+        self.of: defaultdict[Key, list[int]] = defaultdict(list)
+        for at, count in enumerate(counts):
+            self.of[count.edges].append(at)
+        self.next = turns_of(self.mapping)
+        self.known: dict[tuple[int, int], list[int]] = {}
+        self.kinds = kinds_of(self.mapping)
+        self.most = max(len(count.edges) for count in counts)
+        self.trails: dict[int, list[str]] = {}  # the last edges of each vehicle
+        self.sums = [0.0] * len(counts)
+
+    def passed(self) -> list[float]:
+        """The vehicles that passed in each count's period, by all polls; to be asked once."""
+        last: dict[int, Last] = {}
+        unseen = set(range(len(self.driven)))
+        for poll in self.folder.polls():
+            seen = dict(places_in(poll["lanes"]))
+            for car in [car for car in last if car not in seen]:
+                self.end(car, last.pop(car), poll["clock"])
+            for car, link in seen.items():
+                last[car] = self.go_on(car, last.get(car), poll["clock"], link)
+            unseen.difference_update(seen)
+        for car, before in last.items():
+            self.end(car, before, before.clock)
+        for car in sorted(unseen):
+            if (arrival := self.driven[car].arrival) is not None:
+                self.end(car, self.begin(car), arrival)
+        return self.sums
+
+    def begin(self, car: int) -> Last:
+        """Notes a vehicle of the run file at its departure."""
+        one = self.driven[car]
+        self.trails[car] = [self.mapping.links[one.plan[0]].edge]
+        return Last(one.depart, one.plan[0])
+
+    def go_on(self, car: int, before: Last | None, clock: float, link: int) -> Last:
+        """Notes a vehicle that is seen on a link, and passed some links since it was seen before (none: for the first
+        time), or departed."""
+        if car < len(self.driven):
+            plan, before = self.driven[car].plan, before or self.begin(car)
+            if link in plan[before.place :]:
+                place = plan.index(link, before.place)
+                self.along(car, plan[before.place : place + 1], before.clock, clock)
+                return Last(clock, link, place)
+        if before is None:
+            self.trails[car] = [self.mapping.links[link].edge]
+        else:
+            self.along(car, self.between(before.link, link), before.clock, clock)
+        return Last(clock, link)
+
+    def along(self, car: int, way: Sequence[int], since: float, until: float) -> None:
+        """Adds what a vehicle passes that goes along some links from one clock to another."""
+        trail = self.trails[car]
+        for place, link in enumerate(way[1:], 1):
+            clock = since + (until - since) * place / len(way)
+            self.add(car, (trail[-1],), clock)
+            trail.append(self.mapping.links[link].edge)
+            del trail[: -max(2, self.most)]
+            for size in range(2, len(trail) + 1):
+                self.add(car, tuple(trail[-size:]), clock)
+
+    def end(self, car: int, before: Last, clock: float) -> None:
+        """Notes a vehicle that is gone by a clock: it has arrived on the edge where it was seen, or further on in its
+        plan."""
+        arrival = self.driven[car].arrival if car < len(self.driven) else (before.clock + clock) / 2
+        if arrival is not None:
+            if car < len(self.driven):
+                self.along(car, self.driven[car].plan[before.place :], before.clock, arrival)
+            self.add(car, (self.trails[car][-1],), arrival)
+        del self.trails[car]
+
+    def add(self, car: int, key: Key, clock: float) -> None:
+        """Counts a vehicle where it passes a place, by its edges, at a clock."""
+        for at in self.of.get(key, ()):
+            count = self.counts[at]
+            if count.begin < clock <= count.end and count.kind in ("", self.kinds.get(car, "")):
+                self.sums[at] += 1
+
+    def between(self, first: int, last: int) -> list[int]:
+        """The links from one to another, by fewest; these two alone where there is no way of a few."""
+        if first == last:
+            return [first]
+        key = first, last
+        if key not in self.known:
+            self.known[key] = fewest(self.next, first, last) or [first, last]
+        return self.known[key]
+
+
+def driven_in(folder: Folder) -> list[Driven]:
+    """The vehicles of the run file, where it lies beside the folder or here and has as many; none elsewhere."""
+    name, trips = str(folder.made.get("run", "")), folder.trips()
+    beside = os.path.join(os.path.dirname(os.path.abspath(folder.path)), name)
+    path = next((path for path in (beside, name) if name and os.path.isfile(path)), None)
+    if path is None:
+        return []
+    run = read_run(path)
+    if len(run.enters) != len(trips) or run.load.command.get("links") != links_of(folder.mapping):
+        return []
+    return [
+        Driven(line.command["plan"], float(row["depart"]), arrival_of(row))
+        for line, row in zip(run.enters, trips, strict=True)
+    ]
+
+
+def arrival_of(row: Mapping[str, str]) -> float | None:
+    """The clock at which a row of trips.csv arrived; none where it did not, or was rescued."""
+    return float(row["arrival"]) if row["arrival"] and row["rescues"] == "0" else None
+
+
+def links_of(mapping: Map) -> list[list[int]]:
+    """The links as a load has them."""
+    return [
+        [at, link.begin, link.end, len(link.lanes), link.cells, link.limit] for at, link in enumerate(mapping.links)
+    ]
+
+
+def turns_of(mapping: Map) -> dict[int, list[int]]:
+    """The links to which each link has turns."""
+    found: defaultdict[int, list[int]] = defaultdict(list)
+    for turn in mapping.turns:
+        if turn.next not in found[turn.link]:
+            found[turn.link].append(turn.next)
+    return found
+
+
+def fewest(following: Mapping[int, Sequence[int]], first: int, last: int) -> list[int]:
+    """The way with the fewest links; empty where there is none of a few. following: the links after each."""
+    ways: deque[list[int]] = deque([[first]])
+    seen = {first}
+    while ways:
+        way = ways.popleft()
+        for link in following.get(way[-1], ()):
+            if link == last:
+                return [*way, link]
+            if link not in seen and len(way) < MOST_LINKS:
+                seen.add(link)
+                ways.append([*way, link])
+    return []
+
+
+def places_in(lanes: Iterable[Sequence[object]]) -> Iterator[tuple[int, int]]:
+    """Each vehicle and its link, of the lanes of a poll, those in buffers too."""
+    for link, _, cells, buffer, *_ in lanes:
+        for entry in cells:  # type: ignore[attr-defined]
+            yield entry[0], link  # type: ignore[misc]
+        for car in buffer:  # type: ignore[attr-defined]
+            yield car, link  # type: ignore[misc]
+
+
+def kinds_of(mapping: Map) -> dict[int, str]:
+    """The vehicle class of each vehicle that the map names, by number; empty where it tells none."""
+    types = mapping.kinds.get("types", [])
+    classes = [row[1] if len(row) > 1 else "" for row in types]
+    return {car: classes[at] if at < len(classes) else "" for car, at in enumerate(mapping.kinds.get("type", []))}

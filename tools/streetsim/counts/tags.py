@@ -1,0 +1,66 @@
+"""XML files tag by tag, with the line of each, so that a fault can name it."""
+from collections.abc import Callable, Collection, Iterator, Mapping
+from dataclasses import dataclass
+from typing import TypeVar
+from xml.parsers import expat
+
+from streetsim.base.files import Fault, FilePath, open_bytes, reading
+
+Value = TypeVar("Value")
+CHUNK = 1 << 16  # bytes that are read at once
+
+
+@dataclass(frozen=True, slots=True)
+class Tag:
+    """The begin of an element. inside: the names of those around it, from the root."""
+
+    path: FilePath
+    line: int
+    name: str
+    attributes: Mapping[str, str]
+    inside: tuple[str, ...]
+
+    @property
+    def where(self) -> str:
+        """The file and its line, as faults name it."""
+        return f"{self.path}: line {self.line}"
+
+    def get(self, name: str, convert: Callable[[str], Value]) -> Value:
+        """An attribute, converted; Fault where it is absent or where `convert` raises ValueError, whose words it
+        tells."""
+        text = self.attributes.get(name)
+        if text is None:
+            raise Fault(f"{self.where}: <{self.name}> has no attribute {name!r}")
+        try:
+            return convert(text)
+        except ValueError as fault:
+            raise Fault(f"{self.where}: {name}={text!r} {fault}") from None
+
+
+def tags(path: FilePath, roots: Collection[str]) -> Iterator[Tag]:
+    """The elements of a file in order, as they begin; the root, which is not among them, must have one of the given
+    names: Fault otherwise."""
+    found: list[Tag] = []
+    inside: list[str] = []
+    parser = expat.ParserCreate()
+
+    def begin(name: str, attributes: dict[str, str]) -> None:
+        if not inside and name not in roots:
+            raise Fault(f"{path}: the root is <{name}>, expected <{'> or <'.join(roots)}>")
+        if inside:
+            found.append(Tag(path, parser.CurrentLineNumber, name, attributes, tuple(inside)))
+        inside.append(name)
+
+    parser.StartElementHandler = begin
+    parser.EndElementHandler = lambda _name: inside.pop()
+    with reading(path), open_bytes(path) as file:
+        last = False
+        while not last:
+            chunk = file.read(CHUNK)
+            last = not chunk
+            try:
+                parser.Parse(chunk, last)
+            except expat.ExpatError as fault:
+                raise Fault(f"{path}: not XML: {fault}") from None
+            yield from found
+            found.clear()

@@ -1,0 +1,72 @@
+"""What a planner has: counts, zones, matrices, inflows and turn ratios, each with the line that tells it."""
+from collections.abc import Mapping
+from dataclasses import dataclass
+
+
+@dataclass(frozen=True, slots=True)
+class Count:
+    """Vehicles that were counted in a period: of an edge those that left it at its end or arrived on it, of two edges
+    or more those that went from the first over all others to the last."""
+
+    begin: int  # seconds
+    end: int
+    edges: tuple[str, ...]
+    vehicles: float
+    where: str  # the file and its line
+    kind: str = ""  # the vehicle class; empty: all vehicles
+    group: str = ""  # a screen line
+
+    @property
+    def hours(self) -> float:
+        return (self.end - self.begin) / 3600
+
+    def place(self) -> str:
+        """Its edges, as the user is told."""
+        return " ".join(self.edges)
+
+
+@dataclass(frozen=True, slots=True)
+class Zone:
+    """Edges on which trips of a zone begin, and those on which they end, each with its weight."""
+
+    name: str
+    sources: Mapping[str, float]
+    sinks: Mapping[str, float]
+    where: str
+
+
+@dataclass(frozen=True, slots=True)
+class Cell:
+    """Vehicles that want to go from one zone to another, and depart in a period."""
+
+    begin: int
+    end: int
+    source: str
+    target: str
+    vehicles: float
+    where: str
+    kind: str = ""  # the vehicle class; empty: a car
+
+
+@dataclass(frozen=True, slots=True)
+class Inflow:
+    """Vehicles that depart on an edge, and turn by ratios from there on."""
+
+    name: str
+    edge: str
+    begin: int
+    end: int
+    vehicles: float
+    where: str
+
+
+@dataclass(frozen=True, slots=True)
+class Ratio:
+    """The weight with which vehicles go on from an edge to another one, in a period."""
+
+    begin: int
+    end: int
+    source: str
+    target: str
+    weight: float
+    where: str

@@ -1,0 +1,73 @@
+"""Ways that turn ratios give, as SUMO's jtrrouter draws them: vehicle by vehicle, turn by turn, until a sink."""
+import random
+from bisect import bisect_right
+from collections import defaultdict
+from collections.abc import Iterator, Sequence
+from itertools import accumulate
+
+from streetsim.base import limits
+from streetsim.base.files import Fault
+from streetsim.counts.checking import check_edges
+from streetsim.counts.values import Inflow, Ratio
+from streetsim.sumo.net import SumoNet
+from streetsim.ways.graph import Graph
+from streetsim.ways.router import Path
+
+Turning = tuple[list[int], list[float]]  # next edges, and their weights added up
+
+
+class Turns:
+    """By edge and time the next edges with their weights."""
+
+    def __init__(self, ratios: Sequence[Ratio], sinks: set[str], net: SumoNet, graph: Graph) -> None:
+        """sinks: names of edges; Fault where the network lacks an edge or a connection that is named."""
+        found: defaultdict[tuple[int, int, int], dict[int, float]] = defaultdict(dict)
+        for one in ratios:
+            check_edges([one.source, one.target], one.where, net)
+            source, target = graph.number[one.source], graph.number[one.target]
+            if (source, target) not in graph.movement_of:
+                raise Fault(f"{one.where}: no connection leads from edge {one.source!r} to edge {one.target!r}")
+            found[source, one.begin, one.end][target] = one.weight
+        check_edges(sinks, "<sink>", net)
+        self.graph, self.sinks = graph, {graph.number[name] for name in sinks}
+        self.of: defaultdict[int, list[tuple[int, int, Turning]]] = defaultdict(list)
+        for (source, begin, end), weights in sorted(found.items()):
+            turning = list(weights), list(accumulate(weights.values()))
+            self.of[source].append((begin, end, turning))
+
+    def after(self, edge: int, clock: float, draws: random.Random) -> int | None:
+        """The edge on which one goes on; none at a sink, or where nothing leads on. Fault where several do and no ratio
+        holds."""
+        if edge in self.sinks:
+            return None
+        given = next((turning for begin, end, turning in self.of[edge] if begin <= clock < end), None)
+        if given is not None:
+            following, sums = given
+            return following[bisect_right(sums, draws.random() * sums[-1])] if sums[-1] else None
+        ways = [target for target, movement in self.graph.out[edge] if not self.graph.turns_back[movement]]
+        if len(ways) > 1:
+            raise Fault(
+                f"edge {self.graph.edges[edge]!r} leads to {len(ways)} others, and no turn ratio holds there at "
+                f"{clock:,.0f} s: give one, or name it as <sink edges=..>"
+            )
+        return ways[0] if ways else None
+
+
+def walked(
+    inflows: Sequence[Inflow], turns: Turns, seconds: Sequence[float], net: SumoNet, seed: int
+) -> Iterator[tuple[float, Path]]:
+    """The vehicles of flows, each with its departure and its way; Fault where a way has no end. seconds: of movements,
+    by which it is known which ratio holds."""
+    graph, draws = turns.graph, random.Random(f"ratios {seed}")
+    for flow in inflows:
+        check_edges([flow.edge], flow.where, net)
+        width = (flow.end - flow.begin) / max(1.0, flow.vehicles)
+        for at in range(int(flow.vehicles)):
+            depart = flow.begin + width * at
+            path, clock = [graph.number[flow.edge]], depart
+            while (following := turns.after(path[-1], clock, draws)) is not None:
+                clock += seconds[graph.movement_of[path[-1], following]]
+                path.append(following)
+                if len(path) > limits.PLAN:
+                    raise Fault(f"{flow.where}: after {limits.PLAN:,} turns by the ratios no sink is reached")
+            yield depart, tuple(path)

@@ -1,0 +1,86 @@
+"""The files of a fitted demand and of a comparison with counts."""
+import json
+from collections import Counter
+from collections.abc import Iterator, Mapping, Sequence
+from itertools import pairwise
+from typing import Any
+from xml.sax.saxutils import quoteattr
+
+from streetsim.base.files import whole_file
+from streetsim.counts.candidates import Way
+from streetsim.counts.checking import Contradiction
+from streetsim.counts.correcting import Attempt
+from streetsim.counts.demanding import Basis, Fitted
+from streetsim.counts.judging import FIT, GROUPS, HOURS, Judged
+from streetsim.model.tables import write_table
+from streetsim.ways.graph import Graph
+
+NAME = "setting.json"
+PAIRS = ("begin", "end", "from", "to", "class", "vehicles")
+RUNS = ("run", "vehicles", "arrived", "rescues", "geh_below_5_percent", "total_difference_percent", "criteria")
+APART = ("place", "begin", "end", "what", "first", "second", "where")
+LAST = "hours.csv"  # of the tables of a comparison
+# What a comparison has only where counts have groups or matplotlib is installed; and a demand where there are counts,
+# where these contradict each other, and where runs were asked for.
+JUDGED_AT_WISH = ("groups.csv", "fit.png", "differences.png")
+AT_WISH = (*JUDGED_AT_WISH, "fit.csv", LAST, "contradictions.csv", "runs.csv")
+
+
+def write_judged(folder: str, fit: Judged) -> None:
+    """The tables of a comparison with counts."""
+    write_table(f"{folder}/fit.csv", FIT, (one.row() for one in fit.each))
+    write_table(f"{folder}/{LAST}", HOURS, (one.row() for one in fit.hours))
+    if fit.groups:
+        write_table(f"{folder}/groups.csv", GROUPS, (one.group_row() for one in fit.groups))
+
+
+def write_demand(folder: str, basis: Basis, fitted: Fitted, tried: Sequence[Attempt]) -> None:
+    """The tables of a demand, and its candidates."""
+    write_table(f"{folder}/pairs.csv", PAIRS, pair_rows(basis, fitted))
+    write_candidates(f"{folder}/candidates.rou.xml", basis.ways, basis.town.graph)
+    if basis.apart:
+        write_table(f"{folder}/contradictions.csv", APART, apart_rows(basis.apart))
+    if tried:
+        write_table(f"{folder}/runs.csv", RUNS, run_rows(tried))
+
+
+def pair_rows(basis: Basis, fitted: Fitted) -> Iterator[tuple[object, ...]]:
+    """The vehicles of each pair, class and slice, where there are any: a matrix that --matrix takes."""
+    found: Counter[tuple[int, int, int]] = Counter()
+    count, size = len(basis.slices), len(basis.ways) * len(basis.slices)
+    for at in fitted.whole.nonzero()[0].tolist():
+        found[at // size, at % count, basis.ways[at // count % len(basis.ways)].pair] += int(fitted.whole[at])
+    bounds = list(pairwise(basis.slices.bounds))
+    for (kind, slice_, pair), vehicles in sorted(found.items()):
+        ends = basis.pairs[pair].source, basis.pairs[pair].target
+        yield (*bounds[slice_], *ends, basis.kinds[kind], vehicles)
+
+
+def write_candidates(path: str, ways: Sequence[Way], graph: Graph) -> None:
+    """The candidates as routes, as SUMO's routeSampler takes them."""
+    with whole_file(path) as file:
+        file.write("<routes>\n")
+        for at, way in enumerate(ways):
+            file.write(f'    <route id="{at}" edges={quoteattr(" ".join(graph.names(way.path)))}/>\n')
+        file.write("</routes>\n")
+
+
+def apart_rows(found: Sequence[Contradiction]) -> Iterator[tuple[object, ...]]:
+    """The rows of contradictions.csv."""
+    for one in found:
+        values = f"{one.first:g}", f"{one.second:g}"
+        yield one.place, one.begin, one.end, one.there.replace("{} ", ""), *values, one.where
+
+
+def run_rows(tried: Sequence[Attempt]) -> Iterator[tuple[object, ...]]:
+    """The rows of runs.csv."""
+    for one in tried:
+        told = "passed" if one.judged.fits else "not passed"
+        shares = f"{100 * one.judged.share:.1f}", f"{100 * one.judged.apart:.1f}"
+        yield (one.number, len(one.trips), one.arrived, one.ran.rescues, *shares, told)
+
+
+def write_setting(folder: str, setting: Mapping[str, Any]) -> None:
+    with whole_file(f"{folder}/{NAME}") as file:
+        json.dump(setting, file, indent=1)
+        file.write("\n")

@@ -1,0 +1,59 @@
+"""Zones as lists of edges: CSV, and SUMO's TAZ."""
+from collections.abc import Iterable, Iterator
+
+from streetsim.base.files import Fault, FilePath
+from streetsim.counts.cells import begins_with, name_of, rows_of, vehicles_of
+from streetsim.counts.tags import Tag, tags
+from streetsim.counts.values import Zone
+
+ROOTS = ("additional", "add", "tazs", "taz")
+
+
+def read_zones(paths: Iterable[FilePath]) -> dict[str, Zone]:
+    """The zones of files, by name; Fault where a file has none, or two have one name."""
+    found: dict[str, Zone] = {}
+    for path in paths:
+        own = list(of_sumo(path) if begins_with(path, "<") else of_table(path))
+        if not own:
+            raise Fault(f"{path}: no zone is in it")
+        for zone in own:
+            if zone.name in found:
+                raise Fault(f"{zone.where}: a second zone {zone.name!r}")
+            found[zone.name] = zone
+    return found
+
+
+def of_table(path: FilePath) -> Iterator[Zone]:
+    """The zones of a CSV table, zone,edges: the edges of a zone with spaces between; trips begin and end on each
+    alike."""
+    for row in rows_of(path, ("zone", "edges")):
+        weights = dict.fromkeys(row.get("edges", name_of).split(), 1.0)
+        yield Zone(row.get("zone", name_of), weights, weights, row.where)
+
+
+def of_sumo(path: FilePath) -> Iterator[Zone]:
+    """The zones of a file of SUMO's TAZ."""
+    zone: Tag | None = None
+    sources: dict[str, float] = {}
+    sinks: dict[str, float] = {}
+    for tag in tags(path, ROOTS):
+        if tag.name == "taz":
+            if zone is not None:
+                yield made(zone, sources, sinks)
+            zone, sources, sinks = tag, {}, {}
+        elif tag.name in ("tazSource", "tazSink"):
+            weights = sources if tag.name == "tazSource" else sinks
+            weights[tag.get("id", name_of)] = tag.get("weight", vehicles_of)
+        elif tag.name not in ("tazs", "param"):
+            raise Fault(f"{tag.where}: <{tag.name}> is no zone: <taz> with <tazSource> and <tazSink>, or edges")
+    if zone is not None:
+        yield made(zone, sources, sinks)
+
+
+def made(tag: Tag, sources: dict[str, float], sinks: dict[str, float]) -> Zone:
+    """The zone of a <taz>: its own edges where it has no sources, or no sinks; Fault where it has neither."""
+    edges = dict.fromkeys(tag.attributes.get("edges", "").split(), 1.0)
+    zone = Zone(tag.get("id", name_of), sources or edges, sinks or edges, tag.where)
+    if not zone.sources and not zone.sinks:
+        raise Fault(f"{tag.where}: zone {zone.name!r} has no edges")
+    return zone

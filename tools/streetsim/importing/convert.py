@@ -1,0 +1,72 @@
+"""Files of SUMO to a run and its map."""
+import json
+from collections.abc import Sequence
+
+from streetsim.base.files import whole_file
+from streetsim.base.report import Report
+from streetsim.importing.vehicles import vehicles_with_ways
+from streetsim.model.mapping import Map
+from streetsim.model.sources import Sources
+from streetsim.sumo.additional import read_additional
+from streetsim.sumo.configuration import tell_options
+from streetsim.sumo.converting import Made, converted, run_and_map
+from streetsim.sumo.demand import Demand, Unrouted
+from streetsim.sumo.net import read_net
+from streetsim.sumo.network import Options
+from streetsim.sumo.types import Types
+
+
+def read_and_converted(sources: Sources, options: Options, report: Report, told: dict[str, str]) -> Made:
+    """What `convert` makes of the sources, of which those of a configuration may have trips among their routes. `told`:
+    its options, none where there is none."""
+    tell_options(told, report)
+    try:
+        return convert(sources.net, sources.additional, sources.routes, options, report, sources.trips)
+    except Unrouted:
+        if not told or sources.trips:
+            raise
+    report.clear()
+    tell_options(told, report)
+    report.warn(
+        "trips have the ways that are shortest by free speed, signals and volumes, as by --trips (better ways: "
+        "streetsim-route)"
+    )
+    sources.routes, sources.trips = [], sources.routes
+    return convert(sources.net, sources.additional, [], options, report, sources.trips)
+
+
+def write_run(output: str, map_output: str, made: Made, report: Report, sources: Sources | None = None) -> Map:
+    """Writes what `converted` made: the run and its map, which keeps the sources. Gives the map."""
+    lines, mapping = run_and_map(made, report)
+    mapping.sources = sources.written(map_output, lines) if sources else {}
+    with whole_file(output) as run, whole_file(map_output) as mapped:
+        run.writelines(line + "\n" for line in lines)
+        json.dump(mapping.written(), mapped, separators=(",", ":"))
+    return mapping
+
+
+def convert(
+    net_path: str,
+    additional: Sequence[str],
+    routes: Sequence[str],
+    options: Options,
+    report: Report,
+    trips: Sequence[str] = (),
+) -> Made:
+    """The network, its lights, the commands of the run and the names of its vehicles."""
+    net = read_net(net_path, options.classes, report)
+    types = Types(options.seed, report)
+    demand = None if trips else Demand(net, types, options.seed, report)
+    for path in additional:
+        read_additional(path, net, types, report, demand)
+    if trips:
+        vehicles = vehicles_with_ways(net, types, [*routes, *trips], options, report)
+    else:
+        assert demand is not None
+        for path in routes:
+            demand.read(path)
+        vehicles = demand.finish(options.end)
+    made = converted(net, types, vehicles, options, report)
+    if not made[-1] and (routes or trips):
+        report.warn("no vehicle drives")
+    return made

@@ -1,0 +1,47 @@
+"""Ways for the trips of an import, without a simulation."""
+from collections.abc import Iterable, Sequence
+from dataclasses import replace
+
+from streetsim.base.report import Report
+from streetsim.sumo.demand import Vehicle
+from streetsim.sumo.net import SumoNet
+from streetsim.sumo.network import Options
+from streetsim.sumo.types import Types
+from streetsim.ways.costs import Costs
+from streetsim.ways.empty import times_without_routes
+from streetsim.ways.graph import graph_of_net
+from streetsim.ways.router import Found, Router, Wish, in_order
+from streetsim.ways.start import first_ways
+from streetsim.ways.trips import read_trips
+
+NO_WAY = "no way from where the trip begins to where it ends"
+
+
+def vehicles_with_ways(
+    net: SumoNet, types: Types, paths: Iterable[str], options: Options, report: Report
+) -> list[Vehicle]:
+    """The vehicles of files of trips, flows and routes, by departure. Those without a route have the way that is
+    shortest with free speed, the waits at signals and the delays that the volumes so far would make; who has none
+    is counted in the report.
+
+    Lanes that are joint for works change nothing of it, so that a run and one with works differ by the works alone.
+    """
+    graph = graph_of_net(net)
+    trips = read_trips(paths, net, graph, types, options, report).all
+    lost: set[str] = set()
+    if any(not trip.path for trip in trips):
+        free, capacity = times_without_routes(net, graph, replace(options, joint=()))
+
+        def search(wishes: Sequence[Wish], costs: Costs) -> list[Found]:
+            router = Router(graph, costs)
+            return [router.found(wish) for wish in in_order(wishes)]
+
+        lost = {trip.name for trip in first_ways(graph, trips, free, capacity, options.seed, search)}
+    if lost:
+        report.skipped[NO_WAY] += len(lost)
+    names = graph.names
+    return [
+        Vehicle(trip.name, trip.depart, names(trip.path), trip.type, trip.route)
+        for trip in trips
+        if trip.name not in lost
+    ]

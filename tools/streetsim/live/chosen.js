@@ -1,0 +1,91 @@
+// What is chosen on the map, and its panel: a light's plan, a vehicle, or a stretch of lanes.
+
+const STOP_LINE = 12, CAR = 6, LANE = 14; // pixels within which each is found
+const CHOSEN_METRES = 18; // to both sides of the place that was clicked
+
+let chosen = null, followed = null, editor = null;
+
+// What is at a place: a stop line with a light, a vehicle, or a stretch of a lane.
+function nearest([x, y], view) {
+  const { scene, world } = view, inView = scene.links.filter(link => scene.isInView(link));
+  const lights = inView.filter(link => session.plans.has(link.end)).map(link => [link, ...scene.place(link, (link.lanes - 1) / 2, 1)]);
+  const light = lights.map(([link, px, py]) => [Math.hypot(px - x, py - y), link]).sort((a, b) => a[0] - b[0])[0];
+  if (light && light[0] < STOP_LINE / scene.scale) return { node: light[1].end };
+  let best = CAR / scene.scale + 1, found = null;
+  for (const [car, [link, lane, rear, front]] of world.cars) { const [px, py] = scene.place(link, lane, (rear + front + 1) / 2 / link.cells), away = Math.hypot(px - x, py - y); if (away < best) [best, found] = [away, { car }]; }
+  return found ?? stretchAt([x, y], scene);
+}
+
+// The lane that is nearest to a place, and how far along: {link, lane, metres}.
+function laneAt([x, y], scene) {
+  let best = LANE / scene.scale, found = null;
+  for (const link of scene.links.filter(link => scene.isInView(link))) for (let lane = 0; lane < link.lanes; lane++) for (let cell = 0; cell < link.cells; cell++) {
+    const [px, py] = scene.place(link, lane, (cell + .5) / link.cells), away = Math.hypot(px - x, py - y);
+    if (away < best) [best, found] = [away, { link, lane, metres: (cell + .5) * link.metres / link.cells }];
+  }
+  return found;
+}
+
+function stretchAt(point, scene) {
+  const found = laneAt(point, scene);
+  return found && stretchOf(found, Math.max(0, found.metres - CHOSEN_METRES), Math.min(found.link.metres, found.metres + CHOSEN_METRES));
+}
+
+function choose(what) {
+  chosen = what; followed = null; editor = null;
+  if (!what) { at("title").textContent = "Choose a stop line, a street or a vehicle"; at("chosen").replaceChildren(); draw(1); return; }
+  if (what.node !== undefined) chooseLight(what.node); else if (what.car !== undefined) guarded(() => chooseCar(what.car)); else chooseStretch(what);
+  draw(1);
+}
+
+function say(text, isFault = false) { at("chosen").append(element("div", { className: isFault ? "fault" : "said" }, text)); }
+
+// Makes a change, tells the reply below what is chosen, and has the traffic as it was run beside.
+async function change(text, commands, told) {
+  const reply = await session.change(text, commands), refused = refusalOf(reply);
+  say(refused || (typeof told === "function" ? told(reply) : told), Boolean(refused));
+  showLog(session);
+  if (!refused) { await worlds.follow(); await lookAgain(); }
+  return !refused;
+}
+
+function chooseLight(node) {
+  const own = session.data, { light, name } = junctions.get(node), movements = movementsAt(node, own.turns, links, light?.name);
+  const known = [...own.signals, ...own.timed.map(([, line]) => JSON.parse(line))].filter(command => command.cmd === "signal" && command.node === node);
+  worlds.watched = node;
+  at("title").textContent = `Light at ${name}`;
+  editor = new PlanEditor({
+    made: () => new Bars(session.plans.get(node), movements, known), light, clock: () => session.clock, wide: at("chosen").clientWidth || 300,
+    set: command => setPlan(name, command), save: (lightName, text) => saveAs(`${lightName}.add.xml`, text, "application/xml"),
+  });
+  at("chosen").replaceChildren(editor.element, element("div", { id: "planTold", role: "status" }));
+}
+
+// A plan that is set again in the same second takes the place of the one before: dragging makes one change.
+async function setPlan(name, command) {
+  const last = session.changes.at(-1), again = last?.made === session.clock && last.commands[0]?.command.cmd === "signal" && last.commands[0].command.node === command.node;
+  const reply = await session.change(`plan of ${name}`, [{ clock: session.clock, command }]), refused = refusalOf(reply);
+  if (!refused && again) session.changes.splice(session.changes.indexOf(last), 1);
+  at("planTold").textContent = refused || `set: a cycle of ${reply.cycle} s`; at("planTold").className = refused ? "fault" : "said";
+  showLog(session);
+  if (!refused) { await worlds.follow(); draw(1); showTables(); }
+}
+
+async function chooseCar(car) {
+  const reply = await session.ask({ cmd: "vehicle", car });
+  at("title").textContent = `Vehicle ${session.data.cars[car] ?? car}`;
+  const where = reply.link === undefined ? "" : ` on ${laneText(links.get(reply.link), reply.lane ?? 0)}`, way = (reply.plan ?? []).map(link => streetName(links.get(link)));
+  const streets = way.filter((name, i) => name !== way[i - 1]).join(", ");
+  at("chosen").replaceChildren(
+    element("div", {}, `${reply.state}${where}${reply.speed === undefined ? "" : `, ${reply.speed * KMH} km/h`}`), element("div", {}, streets ? `its way: ${streets}` : ""),
+    button("Follow it", async () => { followed = car; }), button("Take it out", () => change(`vehicle ${session.data.cars[car] ?? car} taken out`, [{ clock: session.clock, command: { cmd: "takeout", car } }], "taken out")));
+}
+
+function chooseStretch(what) {
+  at("title").textContent = `${streetName(what.link)}, towards ${junctions.get(what.link.end).name}`;
+  const put = (lane, cell, period) => {
+    const command = { cmd: "meter", link: what.link.number, lane, cell, period };
+    return change(`detector: ${laneText(what.link, lane)}, ${metresAt(what.link, cell)} m`, [{ clock: session.clock, command }], "the detector is placed");
+  };
+  at("chosen").replaceChildren(...stretchPanel(what, { session, tell: change, redraw: () => draw(1), put }));
+}

@@ -1,0 +1,58 @@
+// The movements at a light: from a street to the next one, which way they turn, and who crosses whom.
+
+const ARROWS = { left: "↰", straight: "↑", right: "↱", back: "↶" };
+const STRAIGHT = 40, BACK = 160; // degrees
+const PATH_POINTS = 12;
+
+const direction = ([ax, ay], [bx, by]) => Math.atan2(by - ay, bx - ax);
+
+const WINDS = ["W", "SW", "S", "SE", "E", "NE", "N", "NW"];
+// Where one comes from who drives along a link's end.
+const windOf = link => WINDS[round(Math.round(direction(...link.points.slice(-2)) / (Math.PI / 4)), WINDS.length)];
+
+// Which way one turns from a link into the next.
+function turnKind(link, next) {
+  const into = direction(...link.points.slice(-2)), out = direction(next.points[0], next.points[1]);
+  const degrees = Math.atan2(Math.sin(out - into), Math.cos(out - into)) * 180 / Math.PI;
+  if (Math.abs(degrees) < STRAIGHT) return "straight";
+  if (Math.abs(degrees) > BACK) return "back";
+  return degrees > 0 ? "left" : "right";
+}
+
+// The points of a way across a junction, from the end of a lane to the begin of the next.
+function pathAcross(link, lane, next, nextLane) {
+  const [ax, ay, adx, ady] = placeOnLane(link, lane, 1), [bx, by, bdx, bdy] = placeOnLane(next, nextLane, 0), reach = Math.hypot(bx - ax, by - ay) / 3;
+  const corners = [[ax, ay], [ax + adx * reach, ay + ady * reach], [bx - bdx * reach, by - bdy * reach], [bx, by]];
+  return Array.from({ length: PATH_POINTS + 1 }, (_, i) => bezier(corners, i / PATH_POINTS));
+}
+
+function bezier([a, b, c, d], share) {
+  const left = 1 - share, weights = [left ** 3, 3 * left ** 2 * share, 3 * left * share ** 2, share ** 3];
+  return [0, 1].map(axis => weights[0] * a[axis] + weights[1] * b[axis] + weights[2] * c[axis] + weights[3] * d[axis]);
+}
+
+const side = ([ax, ay], [bx, by], [x, y]) => Math.sign((bx - ax) * (y - ay) - (by - ay) * (x - ax));
+const segmentsCross = (a, b, c, d) => side(a, b, c) * side(a, b, d) < 0 && side(c, d, a) * side(c, d, b) < 0;
+const pathsCross = (one, other) => one.slice(1).some((end, i) => other.slice(1).some((far, j) => segmentsCross(one[i], end, other[j], far)));
+
+// The turns at a node as movements, {street, next, kind, turns}: those from an edge to the next one are one. A turn has its place in a
+// light's state where the light controls it.
+function movementsAt(node, turns, links, signal) {
+  const found = new Map();
+  for (const [link, lane, next, nextLane, light, index] of turns) {
+    const [from, to] = [links.get(link), links.get(next)];
+    if (from.end !== node) continue;
+    const key = `${from.name} ${to.name}`, own = found.get(key) ?? { street: from, next: to, kind: turnKind(from, to), turns: [] };
+    found.set(key, own);
+    own.turns.push({ key: [link, lane, next], index: light === signal ? index : null, path: pathAcross(from, lane, to, nextLane), into: `${next} ${nextLane}` });
+  }
+  return [...found.values()].sort((one, other) => one.street.name.localeCompare(other.street.name) || order(one.kind) - order(other.kind));
+}
+
+const order = kind => Object.keys(ARROWS).indexOf(kind);
+
+// Whether two movements cannot both go: they come from two streets and cross or end on one lane.
+function areCrossing(one, other) {
+  if (one.street.name === other.street.name) return false;
+  return one.turns.some(turn => other.turns.some(against => turn.into === against.into || pathsCross(turn.path, against.path)));
+}

@@ -1,0 +1,41 @@
+"""The programs of a page: for this machine, and for browsers."""
+import os
+from pathlib import Path
+
+from streetsim.base.files import Fault
+
+VARIABLE = "STREETSIM_PAGE"
+BUILT = Path("crates/street_page/out")  # where `./build --page` of the repository puts the page's programs
+NATIVE, MODULE = "street_page", "street_page.wasm"
+
+
+def beside(name: str) -> Path:
+    """A file that ./build --page makes, of the repository that these tools lie in."""
+    return Path(__file__).resolve().parents[3] / BUILT / name
+
+
+def program_of(given: str | None) -> str:
+    """The path of the page's program, the one given or the one named or built; Fault where it cannot be run. It counts
+    no calls, as streetsim itself does."""
+    named = given or os.environ.get(VARIABLE) or str(beside(NATIVE))
+    if not os.access(named, os.X_OK):
+        raise Fault(
+            f"{named}: no program that can be run: give --program, set {VARIABLE}, or run ./build "
+            "--page in streetsim's repository"
+        )
+    return str(Path(named).resolve())
+
+
+def module_of(given: str | None) -> bytes:
+    """The engine for browsers, the file given or the one built; Fault where it is not there."""
+    path = Path(given) if given else beside(MODULE)
+    try:
+        return path.read_bytes()
+    except OSError as fault:
+        raise Fault(f"{path}: {fault.strerror}: ./build --page in streetsim's repository makes it") from None
+
+
+def is_built(given: str | None, as_module: bool) -> bool:
+    """Whether the program of a page is the one that ./build --page made, which is proved."""
+    path = Path(given or (not as_module and os.environ.get(VARIABLE)) or beside(MODULE if as_module else NATIVE))
+    return path.resolve() == beside(MODULE if as_module else NATIVE).resolve()

@@ -1,0 +1,124 @@
+// A map of one traffic: streets, junctions, vehicles, stop lines, what is closed and what is chosen.
+
+const MARKS = 2.2, DIRECTIONS = 1; // pixels a metre from which on lane marks and directions are drawn
+const LEAST_NAME = 60; // pixels of a street that bears its name
+
+class View {
+  constructor(canvas, world, of) {
+    this.canvas = canvas; this.scene = new Scene(canvas, of); this.world = world; this.kept = null;
+  }
+
+  isInView(link) { return this.scene.isInView(link); }
+
+  resize(wide, high) { this.scene.resize(wide, high); this.kept = null; }
+
+  // Looks where another view looks.
+  lookAs({ scene }) { Object.assign(this.scene, { x: scene.x, y: scene.y, scale: scene.scale, moved: true }); }
+
+  draw(part, isPlaying) {
+    const { scene } = this, shown = scene.links.filter(link => scene.isInView(link)), lanes = shown.reduce((sum, link) => sum + link.lanes, 0), far = lanes > MOST_LOOKS;
+    scene.colours = colours();
+    scene.clear();
+    this.drawStreets(shown, far, isPlaying);
+    if (!far) {
+      this.drawClosed(shown);
+      scene.drawCars([...this.world.cars.keys()].filter(car => scene.isInView(this.world.cars.get(car)[0])).map(car => this.world.between(car, part)));
+      this.drawStopLines(shown);
+    }
+    this.drawDetectors();
+    scene.drawScale();
+    return far;
+  }
+
+  // The streets, from a kept picture while nothing but vehicles moves; in a far view they are coloured anew once in a round.
+  drawStreets(shown, far, isPlaying) {
+    const { scene } = this, { x, y, scale, pen, canvas: { width, height } } = scene, key = [x, y, scale, width, height, theme, far ? Math.floor(this.world.session.clock / ROUND) : "near"].join();
+    if (!isPlaying || this.kept?.key !== key) {
+      this.kept = { key, canvas: this.kept?.canvas ?? element("canvas") };
+      Object.assign(this.kept.canvas, { width, height });
+      scene.pen = this.kept.canvas.getContext("2d");
+      this.drawGround(shown, far);
+      scene.pen = pen;
+    }
+    pen.drawImage(this.kept.canvas, 0, 0);
+  }
+
+  drawGround(shown, far) {
+    const { scene } = this, own = colours();
+    if (!far) this.drawAreas();
+    for (const link of shown) scene.drawLink(link, far ? scaled(own.density, Math.min(1, this.world.density(link) / .5)) : own.street);
+    if (far) this.drawClosed(shown);
+    if (scene.scale > MARKS) for (const link of shown) this.drawMarks(link);
+    if (scene.scale > DIRECTIONS) for (const link of shown) this.drawDirection(link);
+    this.drawNames(shown);
+  }
+
+  drawAreas() {
+    const { pen } = this.scene;
+    pen.fillStyle = colours().junction;
+    for (const { area } of junctions.values()) {
+      if (area.length < 3) continue;
+      pen.beginPath();
+      for (const [x, y] of area) pen.lineTo(...this.scene.screen(x, y));
+      pen.fill();
+    }
+  }
+
+  drawMarks(link) {
+    const { scene } = this, { pen } = scene;
+    pen.setLineDash([3 * scene.scale, 3 * scene.scale]);
+    for (let lane = 1; lane < link.lanes; lane++) {
+      const shares = link.points.length === 2 ? [0, 1] : Array.from({ length: 13 }, (_, i) => i / 12);
+      scene.line(shares.map(share => scene.place(link, lane - .5, share)), colours().mark, Math.max(1, .15 * scene.scale));
+    }
+    pen.setLineDash([]);
+  }
+
+  drawDirection(link) {
+    if (link.total * this.scene.scale < 40) return;
+    const { scene } = this, [x, y, dx, dy] = scene.place(link, (link.lanes - 1) / 2, .35), size = 1.2;
+    scene.line([[x - dx * size + dy * size, y - dy * size - dx * size], [x + dx * size, y + dy * size], [x - dx * size - dy * size, y - dy * size + dx * size]], colours().mark, Math.max(1, .3 * scene.scale));
+  }
+
+  // Each name once: on the longest link that bears it.
+  drawNames(shown) {
+    const { scene } = this, { pen } = scene, longest = new Map();
+    for (const link of shown) if (link.street && !(longest.get(link.street)?.total >= link.total)) longest.set(link.street, link);
+    pen.font = "12px sans-serif"; pen.textAlign = "center";
+    for (const [name, link] of longest) {
+      const wide = pen.measureText(name).width;
+      if (link.total * scene.scale < Math.max(LEAST_NAME, wide + 16)) continue;
+      const [x, y, dx, dy] = scene.place(link, -1.6, .5), [left, top] = scene.screen(x, y), turned = Math.atan2(-dy, dx);
+      pen.save(); pen.translate(left, top); pen.rotate(Math.abs(turned) > Math.PI / 2 ? turned + Math.PI : turned);
+      pen.strokeStyle = colours().ground; pen.lineWidth = 3; pen.fillStyle = colours().name;
+      pen.strokeText(name, 0, 4); pen.fillText(name, 0, 4); pen.restore();
+    }
+    pen.textAlign = "start";
+  }
+
+  drawClosed(shown) {
+    for (const link of shown) for (const lane of this.world.lanesOf(link)) for (const [first, last] of lane.state?.closed ?? []) this.scene.drawCells(link, lane.lane, first, last, colours().closed);
+  }
+
+  // A red stop line is whole, and a green one has gaps.
+  drawStopLines(shown) {
+    const { scene } = this;
+    for (const link of shown) {
+      const now = this.world.greensAt(link.end);
+      if (!now) continue;
+      const isGreen = now.greens.some(([from]) => from === link.number);
+      scene.pen.setLineDash(isGreen ? [Math.max(2, scene.scale), Math.max(2, scene.scale)] : []);
+      scene.drawStopLine(link, isGreen);
+    }
+    scene.pen.setLineDash([]);
+  }
+
+  drawDetectors() {
+    for (const { link, lane, cell } of this.world.session.detectors) { const on = links.get(link); if (this.isInView(on)) this.scene.drawCells(on, lane, cell, cell, colours().detector, 3); }
+  }
+
+  // A stretch of some lanes, in metres.
+  drawStretch({ link, lanes, begin, end }) {
+    for (const lane of lanes) this.scene.line([this.scene.place(link, lane, begin / link.metres), this.scene.place(link, lane, Math.min(1, end / link.metres))], colours().chosen, 3);
+  }
+}

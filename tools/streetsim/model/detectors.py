@@ -1,0 +1,78 @@
+"""SUMO's detectors of additional files: induction loops (e1) and lane areas (e2)."""
+from collections.abc import Callable, Sequence
+from dataclasses import dataclass, field
+
+from streetsim.base import limits
+
+Cells = Sequence[Sequence[int]]  # as those of a lane's reply
+E1, E2 = "e1", "e2"
+
+
+@dataclass(slots=True, frozen=True)
+class Detector:
+    """A detector of an additional file, placed on the cells of a run."""
+
+    name: str
+    kind: str  # e1 or e2
+    link: int
+    lane: int
+    first: int  # cell
+    last: int  # the same as first for an e1
+    period: int  # seconds of a row
+    cell_metres: float = limits.CELL_METRES
+
+
+@dataclass(slots=True)
+class Area:
+    """What samples saw in the cells of an e2 in one of its periods."""
+
+    samples: int = 0
+    vehicles: int = 0  # sum over samples
+    most: int = 0  # in one sample
+    speeds: int = 0  # of vehicles, sum over samples, cells a step
+    covered: float = 0.0  # metres, without gaps
+    jams: int = 0  # vehicles, sum over samples of the longest
+    longest: int = 0  # jam of one sample, vehicles
+
+
+@dataclass(slots=True)
+class Areas:
+    """The areas of a run; each sample of a lane is one of its areas."""
+
+    detectors: list[Detector]
+    start: int
+    seen: dict[tuple[str, int], Area] = field(default_factory=dict)  # by name and begin
+
+    def sample(self, clock: int, cells_of: Callable[[tuple[int, int]], Cells]) -> None:
+        """Notes a sample; cells_of gives the cells of the reply of a (link, lane)."""
+        for one in self.detectors:
+            begin = self.start + (clock - 1 - self.start) // one.period * one.period
+            area = self.seen.setdefault((one.name, begin), Area())
+            inside = [entry for entry in cells_of((one.link, one.lane)) if one.first <= entry[1] <= one.last]
+            jam = longest_jam(inside)
+            area.samples, area.vehicles, area.jams = area.samples + 1, area.vehicles + len(inside), area.jams + jam
+            area.most, area.longest = max(area.most, len(inside)), max(area.longest, jam)
+            area.speeds += sum(entry[2] for entry in inside)
+            area.covered += sum(metres_in(entry, one.first, one.cell_metres) for entry in inside)
+
+
+def size_of(entry: Sequence[int]) -> int:
+    """The cells that a vehicle takes, of its entry in a lane's reply: [car, cell, speed], with the size where above
+    1."""
+    return entry[3] if len(entry) > 3 else 1
+
+
+def metres_in(entry: Sequence[int], first: int, cell_metres: float = limits.CELL_METRES) -> float:
+    """The metres of a vehicle, without its gap, that lie in the cells from `first` on; of its entry in a lane's
+    reply."""
+    return min(size_of(entry) * limits.CELL_METRES - limits.GAP_METRES, (entry[1] - first + 1) * cell_metres)
+
+
+def longest_jam(cells: Cells) -> int:
+    """The most vehicles that stand one behind the other without a gap; cells of a lane's reply, from the greatest."""
+    longest = here = 0
+    rear = None
+    for entry in cells:
+        here = 0 if entry[2] else here + 1 if rear == entry[1] + 1 and here else 1
+        rear, longest = entry[1] - size_of(entry) + 1, max(longest, here)
+    return longest

@@ -1,0 +1,83 @@
+"""A folder that streetsim-run wrote, read back."""
+import json
+import os
+import re
+from collections.abc import Iterable, Iterator
+from dataclasses import dataclass, field
+
+from streetsim.base.files import Fault, Json, open_text, read_json, reading
+from streetsim.model import tables
+from streetsim.model.mapping import Map, map_from
+from streetsim.model.runs import Sent
+
+NAME = "setting.json"
+Frame = Json  # what stood on lanes at a clock: {"clock", "lanes"}, as `polls` says
+
+
+@dataclass(slots=True)
+class Folder:
+    """What a run left in its folder; tables are read anew each time, as texts by column."""
+
+    path: str
+    mapping: Map
+    signals: list[Sent]
+    dawdle: int  # of 1,000
+    every: int  # seconds between polls; 0: none
+    period: int  # seconds of a count
+    # Of what the folder was made: run, seed, start, until, rescue, program.
+    made: Json = field(default_factory=dict)
+    doubts: list[str] = field(default_factory=list)  # why the run is not to be trusted
+
+    def trips(self) -> list[dict[str, str]]:
+        return tables.read_table(f"{self.path}/trips.csv", tables.TRIPS)
+
+    def counts(self) -> list[dict[str, str]]:
+        return tables.read_table(f"{self.path}/counts.csv", tables.COUNTS)
+
+    def edges(self) -> list[dict[str, str]]:
+        return tables.read_table(f"{self.path}/edges.csv", tables.EDGES)
+
+    def queues(self) -> list[dict[str, str]]:
+        return tables.read_table(f"{self.path}/queues.csv", tables.QUEUES)
+
+    def works(self) -> list[dict[str, str]]:
+        """The rows of works.csv; Fault where the run had no works."""
+        if not os.path.exists(f"{self.path}/{tables.WORKS_FILE}"):
+            raise Fault(f"{self.path}: no works in this run (streetsim-run --close)")
+        return tables.read_table(f"{self.path}/{tables.WORKS_FILE}", tables.WORKS)
+
+    def phases(self) -> list[dict[str, str]]:
+        if not os.path.exists(f"{self.path}/{tables.PHASES_FILE}"):
+            raise Fault(f"{self.path}: detectors drive no light in this run")
+        return tables.read_table(f"{self.path}/{tables.PHASES_FILE}", tables.PHASES)
+
+    def polls(self) -> Iterator[Frame]:
+        """What stood on the lanes at each poll: {"clock", "lanes": [link, lane, [[car, cell, speed], ..], [cars in the
+        buffer], closed stretches]}; the size of a car stands after its speed where it is above 1."""
+        path = f"{self.path}/lanes.jsonl.gz"
+        with reading(path), open_text(path) as file:
+            yield from map(json.loads, file)
+
+    def links_along(self, edges: Iterable[str]) -> list[list[int]]:
+        """The links of each edge of a path; Fault where the map has no such edge."""
+        for edge in edges:
+            if edge not in self.mapping.links_of:
+                raise Fault(f"{self.path}: the map has no edge {edge!r}")
+        return [self.mapping.links_of[edge] for edge in edges]
+
+
+def seeds_in(path: str) -> list[int]:
+    """The seeds, rising, of which a folder has runs in folders of their own; empty where there are none."""
+    names = os.listdir(path) if os.path.isdir(path) else []
+    seeds = [int(name[5:]) for name in names if re.fullmatch(r"seed-\d+", name)]
+    return sorted(seed for seed in seeds if os.path.exists(f"{path}/seed-{seed}/{NAME}"))
+
+
+def read_folder(path: str) -> Folder:
+    """The folder of one run; Fault where it is none, or holds the runs of several seeds."""
+    if not os.path.exists(f"{path}/{NAME}") and (seeds := seeds_in(path)):
+        raise Fault(f"{path}: the runs of {len(seeds)} seeds: name one of them, {path}/seed-{seeds[0]}")
+    value = read_json(f"{path}/{NAME}", ("map", "signals", "dawdle", "every", "period"))
+    signals, dawdle, every, period = (value[key] for key in ("signals", "dawdle", "every", "period"))
+    more = value.get("made", {}), value.get("not_trusted", [])
+    return Folder(path, map_from(path, value["map"]), signals, dawdle, every, period, *more)

@@ -1,0 +1,74 @@
+"""How long a plan takes where nobody is in the way."""
+from __future__ import annotations
+
+from array import array
+from collections.abc import Sequence
+from functools import lru_cache
+
+from streetsim.model.mapping import Map
+
+FAR = 1_000  # cells, after which a vehicle alone has its mean speed
+
+
+class FreeFlow:
+    """Seconds of plans: cells at the free speed, and the residence at each node crossed. It leaves out the part of a
+    second that is lost at a link's end, and how a vehicle gains speed: what routes and searches reckon with."""
+
+    def __init__(self, mapping: Map, dawdle: float) -> None:
+        """dawdle: the chance to go on by a cell less, 0 to 1."""
+        self.driving = [link.cells / max(0.001, link.limit - dawdle) for link in mapping.links]
+        self.crossing = [mapping.nodes[link.end][3] for link in mapping.links]
+
+    def __call__(self, plan: Sequence[int]) -> float:
+        """Seconds of a plan from the begin of its first link to the end of its last."""
+        driving, crossing = self.driving, self.crossing
+        return sum(driving[link] for link in plan) + sum(crossing[link] for link in plan[:-1])
+
+
+class Alone:
+    """Mean seconds of vehicles alone on their way, all lights green: what delays and losses are counted from."""
+
+    def __init__(self, mapping: Map, dawdle: float) -> None:
+        """dawdle: the chance to go on by a cell less, 0 to 1."""
+        self.mapping, self.slower = mapping, min(dawdle, 0.999)
+
+    def on_link(self, link: int, before: int | None) -> float:
+        """Seconds in the cells of a link, of one that comes from the link before at its limit, or departs there."""
+        links = self.mapping.links
+        speed = 0 if before is None else links[before].limit
+        return seconds_alone(links[link].cells, links[link].limit, self.slower, speed)
+
+    def across(self, link: int) -> float:
+        """Seconds in the junction behind a link."""
+        return self.mapping.nodes[self.mapping.links[link].end][3]
+
+    def approach(self, plan: Sequence[int], at: int) -> float:
+        """Seconds on a link of a plan and in the junction behind it."""
+        return self.on_link(plan[at], plan[at - 1] if at else None) + self.across(plan[at])
+
+    def trip(self, plan: Sequence[int]) -> float:
+        """Seconds from the wished departure to arrival; the first of them a vehicle stands."""
+        return 1 + sum(self.approach(plan, at) for at in range(len(plan))) - self.across(plan[-1])
+
+
+def seconds_alone(cells: int, limit: int, slower: float, speed: int) -> float:
+    """The mean steps of a vehicle that begins with a speed until it has left so many cells behind; limit, speed: cells
+    a step; slower: the chance to go on by a cell less."""
+    found = steps_by_cells(limit, slower)[min(speed, limit)]
+    return found[min(cells, FAR)] + max(0, cells - FAR) / (limit - slower)
+
+
+@lru_cache(maxsize=1_000)
+def steps_by_cells(limit: int, slower: float) -> list[array[float]]:
+    """By speed and by cells: the mean steps of a vehicle that gains a cell a step in each, up to the limit, and goes on
+    by one less with a chance of `slower`."""
+    found = [array("d", [0.0]) for _ in range(limit + 1)]
+    for cells in range(1, FAR + 1):
+        for speed, steps in enumerate(found):
+            fast = min(limit, speed + 1)
+            if fast == 1:  # who goes on by one less stands, and tries again
+                steps.append(1 / (1 - slower) + found[1][cells - 1])
+            else:
+                behind, less = (found[gone][max(0, cells - gone)] for gone in (fast, fast - 1))
+                steps.append(1 + (1 - slower) * behind + slower * less)
+    return found

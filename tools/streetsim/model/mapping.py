@@ -1,0 +1,141 @@
+"""The map file: which SUMO names the numbers of a run stand for."""
+from collections.abc import Sequence
+from dataclasses import asdict, dataclass, field
+
+from streetsim.base import limits
+from streetsim.base.files import Fault, FilePath, Json, read_json
+from streetsim.model.detectors import Detector
+from streetsim.model.waiting import Waiting, waiting_of
+
+Place = tuple[int, int]  # a link and a lane of it
+Shape = Sequence[Sequence[float]]  # of (x, y)
+KEYS = ("nodes", "links", "turns", "signals", "cars", "options", "warnings")
+
+
+@dataclass(slots=True, frozen=True)
+class MapLink:
+    """A link of a run: one lane of an edge, or lanes of it side by side."""
+
+    edge: str
+    lanes: Sequence[int]  # SUMO's lane indexes
+    begin: int  # nodes
+    end: int
+    cells: int
+    limit: int  # cells a step
+    metres: float
+    shape: Shape
+
+    @property
+    def cell_metres(self) -> float:
+        """Metres of a cell: as many as a vehicle takes, but where an edge has other cells for its speed."""
+        usual = limits.cells_of(self.metres)
+        return limits.CELL_METRES if self.cells == usual else self.metres / self.cells
+
+    def cells_between(self, begin: float, end: float) -> tuple[int, int]:
+        """The first and the last cell from one place of the lane to another, in metres from its begin."""
+        size = self.metres / self.cells
+        first = min(self.cells - 1, max(0, int(begin / size)))
+        return first, min(self.cells - 1, max(first, round(end / size) - 1))
+
+    def closed_between(self, begin: float, end: float) -> tuple[int, int]:
+        """The cells that works close from one place to another, in metres. Where there is a lane beside, the first
+        cells stay open as far as the works allow: turns lead to this lane, and who comes by one leaves it there."""
+        first, last = self.cells_between(begin, end)
+        return (max(first, min(limits.SIZE, last)), last) if len(self.lanes) > 1 else (first, last)
+
+
+@dataclass(slots=True, frozen=True)
+class MapTurn:
+    """From a lane of a link to a lane of the next, by numbers of the run; light: SUMO's name, none where there is
+    none."""
+
+    link: int
+    lane: int
+    next: int
+    next_lane: int
+    light: str | None
+    index: int  # in the light's state
+    added: bool  # not SUMO's
+    speed: float = 13.9  # metres a second, inside the junction if that is known
+    limit: int = 2  # of its link, cells a step
+
+
+@dataclass(slots=True)
+class Map:
+    """The names behind the numbers of a run: each list by those numbers."""
+
+    nodes: list[tuple[str, float, float, int]]  # junction, x, y, residence
+    links: list[MapLink]
+    turns: list[MapTurn]
+    signals: list[tuple[str, int]]  # light, node
+    cars: list[str]  # SUMO's vehicle names, by number
+    options: Json
+    warnings: list[str]  # as the import said them
+    detectors: list[Detector] = field(default_factory=list)  # of additional files
+    told: list[list[str]] = field(default_factory=list)  # the same as a table, base.report.Report.rows
+    yields: list[Waiting] = field(default_factory=list)  # who gives way without a light
+    links_of: dict[str, list[int]] = field(default_factory=dict)  # edge: links
+    sources: Json = field(default_factory=dict)  # the files of the import, as model.sources keeps them
+    kinds: Json = field(default_factory=dict)  # of the vehicles, as sumo.demand.kinds_of
+    location: Json = field(default_factory=dict)  # where the network lies: offset, projection
+    actuated: list[str] = field(default_factory=list)  # lights that SUMO times by detectors
+    rings: list[str] = field(default_factory=list)  # edges of roundabouts
+    programs: list[Json] = field(default_factory=list)  # of actuated lights, as sumo.programs.kept_programs
+
+    def __post_init__(self) -> None:
+        for number, link in enumerate(self.links):
+            self.links_of.setdefault(link.edge, []).append(number)
+
+    def lane_name(self, link: int, lane: int) -> str:
+        """SUMO's name of a lane: edge_index."""
+        return f"{self.links[link].edge}_{self.links[link].lanes[lane]}"
+
+    def place_of(self, name: str) -> Place | None:
+        """The (link, lane) of a lane that goes by SUMO's name, edge_index; none where there is none."""
+        return next((place for place in self.lanes() if self.lane_name(*place) == name), None)
+
+    def lanes(self) -> list[Place]:
+        """All (link, lane)."""
+        return [(number, lane) for number, link in enumerate(self.links) for lane in range(len(link.lanes))]
+
+    def written(self) -> Json:
+        """The file's content, which `map_from` reads."""
+        return {
+            "nodes": self.nodes,
+            "links": [list(asdict(link).values()) for link in self.links],
+            "turns": [list(asdict(turn).values()) for turn in self.turns],
+            "signals": self.signals,
+            "cars": self.cars,
+            "options": self.options,
+            "warnings": self.warnings,
+            "told": self.told,
+            "yields": [one.written() for one in self.yields],
+            "detectors": [list(asdict(detector).values()) for detector in self.detectors],
+            "sources": self.sources,
+            "vehicles": self.kinds,
+            "location": self.location,
+            "actuated": self.actuated,
+            **({"rings": self.rings} if self.rings else {}),
+            **({"programs": self.programs} if self.programs else {}),
+        }
+
+
+def read_map(path: FilePath) -> Map:
+    """The map of a file; Fault where it is none that streetsim-import wrote."""
+    return map_from(path, read_json(path, KEYS))
+
+
+def map_from(path: FilePath, value: Json) -> Map:
+    """The map of a file's content; path: for the Fault where it is none."""
+    try:
+        detectors = [Detector(*detector) for detector in value.get("detectors", ())]
+        links, turns = [MapLink(*link) for link in value["links"]], [MapTurn(*turn) for turn in value["turns"]]
+        more: Json = {"detectors": detectors, "yields": waiting_of(value.get("yields", ()))}
+        more |= {"sources": value.get("sources", {}), "kinds": value.get("vehicles", {})}
+        more["told"] = value.get("told", [])
+        more |= {"location": value.get("location", {}), "actuated": value.get("actuated", [])}
+        more |= {"rings": value.get("rings", []), "programs": value.get("programs", [])}
+        more |= {key: value[key] for key in KEYS if key not in ("links", "turns")}
+        return Map(links=links, turns=turns, **more)
+    except (KeyError, TypeError, ValueError) as fault:
+        raise Fault(f"{path}: not a map that streetsim-import wrote: {fault}") from None

@@ -1,0 +1,128 @@
+"""Run files: lines of commands, in order. A line may say with "at" at which clock it is sent (streetsim ignores that
+field)."""
+import json
+from collections.abc import Iterable, Iterator, Sequence
+from dataclasses import dataclass, field, replace
+from itertools import accumulate
+from typing import Any
+
+from streetsim.base.files import Fault, FilePath, open_text, reading
+from streetsim.model.mapping import Map, read_map
+from streetsim.model.sources import sum_of_lines
+
+Command = dict[str, Any]
+Sent = tuple[int, Command]  # the clock at which a command is sent
+
+
+@dataclass(slots=True)
+class Line:
+    """A line of a run, as text and as command."""
+
+    number: int  # in the file, from 1; 0 or less: of no file, but made by the tools
+    text: str
+    command: Command
+
+
+@dataclass(slots=True)
+class Run:
+    path: FilePath
+    load: Line
+    first: list[Line] = field(default_factory=list)  # sent after the load, before the first step
+    timed: list[tuple[int, Line]] = field(default_factory=list)  # by clock
+    enters: list[Line] = field(default_factory=list)  # vehicles, by the order of lines
+    needed: list[int] = field(default_factory=list)  # for each enter, the least depart of it and those after it
+
+    def start(self) -> int:
+        """The clock of its load."""
+        return self.load.command.get("start", 0)
+
+    def signals(self) -> list[Sent]:
+        """The clock of each signal line, and its command."""
+        lines = [*((self.start(), line) for line in self.first), *self.timed]
+        return [(clock, line.command) for clock, line in lines if line.command["cmd"] == "signal"]
+
+
+def read_run(path: FilePath) -> Run:
+    """The run of a file; Fault where its first line is no load, or any is no command of a run."""
+    with reading(path), open_text(path) as file:
+        return run_of_texts(path, file)
+
+
+def read_with_map(run_path: FilePath, map_path: FilePath) -> tuple[Run, Map]:
+    """A run and the map of its names; the map of another one is refused."""
+    run, mapping = read_run(run_path), read_map(map_path)
+    links = [
+        [at, link.begin, link.end, len(link.lanes), link.cells, link.limit] for at, link in enumerate(mapping.links)
+    ]
+    if run.load.command.get("links") != links:
+        raise Fault(f"{map_path}: not the map of {run_path}, whose links are other ones")
+    if len(mapping.cars) > len(run.enters):
+        raise Fault(
+            f"{map_path}: not the map of {run_path}, which has {len(run.enters):,} vehicles and not "
+            f"{len(mapping.cars):,}"
+        )
+    known = mapping.kinds.get("ends")
+    if known is not None and known != sum_of_lines(ends_of(run, mapping)):
+        raise Fault(f"{map_path}: not the map of {run_path}, whose vehicles begin or end on other edges")
+    return run, mapping
+
+
+def ends_of(run: Run, mapping: Map) -> Iterator[str]:
+    """The edges on which those begin and end whom the map names; lanes, ways and departures may be changed by hand."""
+    edges = {number: link.edge for number, link in enumerate(mapping.links)}
+    for line in run.enters[: len(mapping.cars)]:
+        plan = line.command["plan"]
+        yield f"{edges.get(plan[0], '')} {edges.get(plan[-1], '')}"
+
+
+def run_of_texts(path: FilePath, texts: Iterable[str]) -> Run:
+    """The run of lines as texts, blank ones left out; Fault where the first is no load, or one is no command."""
+    lines = [line_of(path, number, text) for number, text in enumerate(texts, 1) if text.strip()]
+    if not lines or lines[0].command["cmd"] != "load":
+        raise Fault(f"{path}: the first line must be a load")
+    return run_of(path, lines)
+
+
+def run_of(path: FilePath, lines: Sequence[Line]) -> Run:
+    """The run of some lines, of which the first is the load; others may stand in any order."""
+    run = Run(path, lines[0])
+    for line in lines[1:]:
+        if line.command["cmd"] == "enter":
+            run.enters.append(line)
+        elif "at" in line.command:
+            run.timed.append((line.command["at"], line))
+        else:
+            run.first.append(line)
+    run.timed.sort(key=lambda pair: pair[0])
+    departs: list[int] = [line.command["depart"] for line in reversed(run.enters)]
+    least: Iterator[int] = accumulate(departs, min)
+    run.needed = list(least)[::-1]
+    return run
+
+
+def with_load(run: Run, **values: Any) -> Run:
+    """The run with other values of its load."""
+    command = {**run.load.command, **values}
+    return replace(run, load=replace(run.load, command=command, text=json.dumps(command, separators=(",", ":"))))
+
+
+def line_of(path: FilePath, number: int, text: str) -> Line:
+    """The line of a text; Fault where it is no command, or one that streetsim-run sends itself."""
+    try:
+        command = json.loads(text)
+        if (
+            command["cmd"] == "enter"
+            and not (isinstance(command["depart"], int) and command["plan"])
+            or not isinstance(command.get("at", 0), int)
+        ):
+            raise ValueError('an enter needs a depart and a plan, and "at" is a clock')
+        if command["cmd"] in ("advance", "takeout", "meter", "read"):
+            raise ValueError(f"{command['cmd']} is sent by streetsim-run itself")
+    except (ValueError, KeyError, TypeError, AttributeError) as fault:
+        raise Fault(f"{path}: line {number} is no command of a run: {fault}") from None
+    return Line(number, text.strip(), command)
+
+
+def seeded(run: Run, seed: int) -> Run:
+    """The run with another seed."""
+    return with_load(run, seed=seed)

@@ -1,0 +1,75 @@
+"""The files of an import, which its map names, so that a run can be imported anew with other options."""
+import functools
+import hashlib
+import os
+from collections.abc import Iterable
+from dataclasses import dataclass, field
+from functools import partial
+
+from streetsim.base.files import Fault, FilePath, open_text, reading
+
+
+@dataclass(slots=True)
+class Sources:
+    """The paths of the files of an import."""
+
+    net: str
+    additional: list = field(default_factory=list)
+    routes: list = field(default_factory=list)
+    trips: list = field(default_factory=list)
+
+    def paths(self) -> list[str]:
+        """All of them, in the order of their sums."""
+        return [self.net, *self.additional, *self.routes, *self.trips]
+
+    def written(self, map_path: str, lines: Iterable[str]) -> dict:
+        """What a map keeps of them: paths beside the map, sums of their bytes, and the sum of the run's lines."""
+        beside = partial(os.path.relpath, start=os.path.dirname(os.path.realpath(map_path)))
+        return {
+            "net": beside(self.net),
+            "additional": list(map(beside, self.additional)),
+            "routes": list(map(beside, self.routes)),
+            "trips": list(map(beside, self.trips)),
+            "sums": list(map(sum_of, self.paths())),
+            "run": sum_of_lines(lines),
+        }
+
+
+def sources_of(kept: dict, map_path: FilePath, run_path: FilePath) -> Sources:
+    """The sources that a map names. Fault where they, or the run, are not what was imported."""
+    if not kept:
+        raise Fault(f"{map_path}: does not name the files that it was imported from")
+    beside = partial(os.path.join, os.path.dirname(os.path.realpath(map_path)))
+    lists = (list(map(beside, kept.get(name, ()))) for name in ("additional", "routes", "trips"))
+    sources = Sources(beside(kept["net"]), *lists)
+    for path, known in zip(sources.paths(), kept["sums"], strict=True):
+        if sum_of(path) != known:
+            raise Fault(f"{path}: has changed since it was imported")
+    with reading(run_path), open_text(run_path) as file:
+        if sum_of_lines(line.rstrip("\n") for line in file) != kept["run"]:
+            raise Fault(f"{run_path}: has changed since it was imported")
+    return sources
+
+
+def sum_of(path: str) -> str:
+    """The SHA-256 of a file's bytes; Fault where it cannot be read."""
+    with reading(path), open(path, "rb") as file:
+        return hashlib.file_digest(file, "sha256").hexdigest()
+
+
+def sum_of_lines(lines: Iterable[str]) -> str:
+    """The SHA-256 of lines, each with its end."""
+    found = hashlib.sha256()
+    for line in lines:
+        found.update(line.encode() + b"\n")
+    return found.hexdigest()
+
+
+@functools.cache
+def digest_of(path: str) -> str | None:
+    """The SHA-256 of a file's bytes, asked for once in a process; none where it cannot be read."""
+    try:
+        with open(path, "rb") as file:
+            return hashlib.file_digest(file, "sha256").hexdigest()
+    except OSError:
+        return None

@@ -1,0 +1,203 @@
+"""Whether a run is to be trusted: what speaks against it, in words for its last line and its setting.
+
+The marks are chosen, not measured: above them a run is of another town than the one that was asked for.
+"""
+import json
+from bisect import bisect_right
+from collections import Counter
+from collections.abc import Iterable, Iterator, Mapping, Sequence
+from dataclasses import dataclass
+from itertools import compress, pairwise
+from statistics import fmean
+
+from streetsim.base import limits
+from streetsim.base.files import whole_file
+from streetsim.model.folder import NAME
+from streetsim.model.freeflow import FreeFlow
+from streetsim.model.mapping import Map
+from streetsim.model.runs import Run
+
+MOST_RESCUES = 0.01  # of the vehicles; one alone is none too many
+MOST_LATE = 0.1  # of those that would have arrived, were nobody in their way
+MOST_WAITING = 0.05  # of the vehicles that wait to enter, at the worst minute
+STILL = 600  # seconds without an arrival
+OTHER_LENGTH = 0.1  # of the metres that are driven
+MOST_ACTUATED = 0.1  # of the vehicles, that pass lights which SUMO times by detectors
+NAMED = 3  # edges, or lights
+
+
+@dataclass(slots=True)
+class Trips:
+    """A run's trips at its last clock. Seconds are from the wished departure."""
+
+    clock: int
+    vehicles: int  # in the run file
+    durations: list[int]  # of those that arrived
+    to_date: list[int]  # of those that wished to depart and have not arrived
+    due: int  # those that would have arrived, were nobody in their way
+    late: int  # those of them that have not
+    long_due: int  # those that would have arrived for STILL seconds and have not
+    last: int  # arrival, or the start
+
+    def gone(self) -> int | None:
+        """When all who wished to depart had arrived; none where some have not."""
+        return None if self.to_date else self.last
+
+    def told(self) -> str:
+        """Their means, and over whom."""
+        if not self.durations:
+            mean = "no trip"
+        elif self.to_date:
+            mean = f"mean trip {fmean(self.durations):.1f} s of these"
+        else:
+            mean = f"mean trip {fmean(self.durations):.1f} s"
+        under_way = f", {fmean(self.to_date):.1f} s to date of {len(self.to_date):,} under way" if self.to_date else ""
+        return f"{self.vehicles:,} vehicles, {len(self.durations):,} arrived, {mean}{under_way}"
+
+
+def trips_at(clock: int, start: int, rows: Sequence[tuple]) -> Trips:
+    """The trips at a clock, of rows of trips.csv: (id, depart, arrival or "", duration, free flow, ..); start: of the
+    run."""
+    arrived = [row[2] != "" for row in rows]
+    open_ = [row for row, there in zip(rows, arrived, strict=True) if not there and row[1] < clock]
+    ends = [row[1] + float(row[4]) for row in open_]
+    late = sum(end <= clock for end in ends)
+    return Trips(
+        clock=clock,
+        vehicles=len(rows),
+        durations=[row[3] for row in compress(rows, arrived)],
+        to_date=[clock - row[1] for row in open_],
+        due=late + sum(arrived),
+        late=late,
+        long_due=sum(end + STILL <= clock for end in ends),
+        last=max((row[2] for row in compress(rows, arrived)), default=start),
+    )
+
+
+def free_arrivals(run: Run, mapping: Map) -> list[float]:
+    """The clocks, rising, at which the vehicles of a run would arrive, were nobody in their way."""
+    free_flow = FreeFlow(mapping, run.load.command["dawdle"] / 1000)
+    return sorted(line.command["depart"] + free_flow(line.command["plan"]) for line in run.enters)
+
+
+def due_at(clock: int, run: Run, mapping: Map) -> int:
+    """How many vehicles of a run would have arrived at a clock, were nobody in their way."""
+    return bisect_right(free_arrivals(run, mapping), clock)
+
+
+def of_missing(arrived: Mapping[str, float], due: float) -> list[str]:
+    """What speaks against means of several runs, by how many arrived: {what was run: vehicles}, of `due` that had the
+    time to. Who has not arrived counts until the end in such means."""
+    late = {name: due - count for name, count in arrived.items() if due - count > MOST_LATE * due}
+    told = "vehicles that had the time to arrive have not"
+    return [f"{name} {missing:,.0f} of {due:,.0f} {told}".strip() for name, missing in late.items()]
+
+
+def doubts(
+    trips: Trips, rescues: int, censuses: Sequence, run: Run, mapping: Map, listed: Sequence[str]
+) -> list[str]:
+    """What speaks against a run, each in some words; nothing where it is to be trusted. rescues: of all vehicles;
+    censuses: of each minute; listed: lights that SUMO times by detectors and that go by their list."""
+    found = [*of_rescues(trips, rescues), *of_arrivals(trips), *of_entries(trips, censuses)]
+    found += of_works(works_in(run, mapping), [(trips.clock, trips.gone())])
+    return [*found, *of_lengths(trips.clock, run, mapping), *of_actuated(trips.clock, run, mapping, listed)]
+
+
+def of_rescues(trips: Trips, rescues: int) -> Iterator[str]:
+    """Where more than a hundredth of the vehicles was rescued."""
+    if rescues > max(1, MOST_RESCUES * trips.vehicles):
+        yield f"{rescues:,} rescues of {trips.vehicles:,} vehicles"
+
+
+def of_arrivals(trips: Trips) -> Iterator[str]:
+    """Where the network is locked, or many that had the time to arrive have not."""
+    if trips.long_due and trips.clock - trips.last >= STILL:
+        yield (
+            f"the network is locked: nobody has arrived for {trips.clock - trips.last:,} s, "
+            f"and {trips.long_due:,} should have"
+        )
+    elif trips.late > MOST_LATE * trips.due:
+        yield f"{trips.late:,} of {trips.due:,} vehicles that had the time to arrive have not"
+
+
+def of_entries(trips: Trips, censuses: Sequence) -> Iterator[str]:
+    """Where many vehicles wait to enter at the worst census."""
+    worst = max(censuses, key=lambda census: census.waiting, default=None)
+    if worst is not None and worst.waiting > MOST_WAITING * trips.vehicles:
+        yield f"{worst.waiting:,} vehicles waited to enter at {worst.clock:,} s, and are in no queue or count"
+
+
+def of_waiting(waiting: Mapping[str, Sequence[tuple[int, int]]], vehicles: int) -> Iterator[str]:
+    """What speaks against means of several runs, by how many waited to enter at the worst minute of each: {what was
+    run: (vehicles, clock) of each}."""
+    for name, runs in waiting.items():
+        count, clock = (fmean(column) for column in zip(*runs, strict=True))
+        if count > MOST_WAITING * vehicles:
+            told = f"vehicles waited to enter at some {clock:,.0f} s, and are in no queue or count"
+            yield f"{name} {count:,.0f} of {vehicles:,} {told}".strip()
+
+
+def works_in(run: Run, mapping: Map) -> Iterator[tuple[str, int]]:
+    """The lanes of the works that a run was asked for, by SUMO's names, and the clock at which each begins."""
+    for clock, line in run.timed:
+        if line.number == 0 and line.command["cmd"] == "close":
+            yield mapping.lane_name(line.command["link"], line.command["lane"]), clock
+
+
+def of_works(works: Iterable[tuple[str, int]], runs: Sequence[tuple[int, int | None]]) -> Iterator[str]:
+    """Where works, each a lane and its first second, met nobody: they had not begun when runs without a last second
+    ended, or all had arrived. runs: of each the last clock, and when all had arrived, or none."""
+    for lane, first in works:
+        begin = f"works on {lane} begin at {first:,} s, and"
+        if early := sum(end <= first for end, _ in runs):
+            ended = "the run" if len(runs) == 1 else f"{early:,} of {len(runs):,} runs"
+            yield f"{begin} {ended} had ended by then"
+        if empty := sum(gone is not None and gone <= first < end for end, gone in runs):
+            where = "" if len(runs) == 1 else f" in {empty:,} of {len(runs):,} runs"
+            yield f"{begin} met nobody{where}, as all vehicles had arrived by then"
+
+
+def plans_before(clock: int, run: Run) -> list[list[int]]:
+    """The plans of the vehicles that wish to depart before a clock."""
+    return [line.command["plan"] for line in run.enters if line.command["depart"] < clock]
+
+
+def of_actuated(clock: int, run: Run, mapping: Map, lights: Sequence[str]) -> Iterator[str]:
+    """Where many vehicles pass some lights, which SUMO times by detectors: here they show the seconds that their
+    program lists."""
+    ways = {(turn.link, turn.next): turn.light for turn in mapping.turns if turn.light and turn.light in lights}
+    plans = plans_before(clock, run) if ways else []
+    passed = [{ways[pair] for pair in pairwise(plan) if pair in ways} for plan in plans]
+    if (count := sum(map(bool, passed))) > MOST_ACTUATED * len(plans):
+        most = [light for light, _ in Counter(light for met in passed for light in sorted(met)).most_common(NAMED)]
+        yield (
+            f"{count:,} of {len(plans):,} vehicles pass lights that are actuated in SUMO and show their listed seconds "
+            f"here: most of all {', '.join(most)}"
+        )
+
+
+def of_lengths(clock: int, run: Run, mapping: Map) -> Iterator[str]:
+    """Where the routes are of another length than in SUMO, as edges are whole cells."""
+    here = [link.cells * link.cell_metres for link in mapping.links]
+    there = [link.metres for link in mapping.links]
+    plans = plans_before(clock, run)
+    metres = [sum(sum(map(lengths.__getitem__, plan)) for plan in plans) for lengths in (here, there)]
+    if abs(metres[0] - metres[1]) > OTHER_LENGTH * metres[1]:
+        used = {link for plan in plans for link in plan if here[link] != there[link]}
+        order = sorted(used, key=lambda link: (-abs(here[link] - there[link]), link))
+        edges = ", ".join(dict.fromkeys(mapping.links[link].edge for link in order[:NAMED]))
+        share = 100 * (metres[0] / metres[1] - 1)
+        how = f"{abs(share):.0f} % {'longer' if share > 0 else 'shorter'} here than in SUMO"
+        yield f"routes are {how}, as edges are whole cells: most of all {edges}"
+
+
+def write_doubts(folder: str, found: Sequence[str]) -> None:
+    """Writes to a folder why a study or a search is not to be trusted, under the name that the setting of a run has for
+    it."""
+    with whole_file(f"{folder}/{NAME}") as file:
+        json.dump({"not_trusted": list(found)}, file, separators=(",", ":"))
+
+
+def verdict(found: Sequence[str]) -> str:
+    """The line that says that a run is not to be trusted."""
+    return f"not to be trusted: {'; '.join(found)}"

@@ -1,0 +1,204 @@
+"""A run into a folder: its tables, its setting, SUMO's output files and the tables of junctions."""
+import json
+import os
+from collections.abc import Iterable, Iterator, Sequence
+from contextlib import AbstractContextManager
+from dataclasses import asdict, dataclass, replace
+from functools import partial
+from statistics import fmean
+
+from streetsim.actuated.lights import LISTED
+from streetsim.base import limits
+from streetsim.base.client import Client
+from streetsim.base.files import whole_file
+from streetsim.base.jobs import side_by_side
+from streetsim.base.report import COLUMNS
+from streetsim.base.serving import serving
+from streetsim.junctions.reporting import write_junctions
+from streetsim.model import tables, trust
+from streetsim.model.folder import NAME
+from streetsim.model.mapping import Map, Place
+from streetsim.model.runs import Line, Run
+from streetsim.model.sources import digest_of
+from streetsim.model.tables import Entry, write_table
+from streetsim.outputs.writing import Outputs
+from streetsim.run import rows
+from streetsim.run.budget import INTERVALS, Budget
+from streetsim.run.record import Recorder, Repeater
+from streetsim.run.records import Recorded, Records, Tell
+from streetsim.run.rounds import Yielding, giving_way, with_lines
+from streetsim.run.settings import Settings
+from streetsim.run.watching import watch
+from streetsim.works import figures
+from streetsim.works.crowding import beyond_joint
+from streetsim.works.watched import doubts_of
+
+
+def first_poll(every: int | None, start: int) -> int:
+    """The clock at which lanes are first polled that are polled each so many seconds; the start where none are."""
+    return (start // every + 1) * every if every else start
+
+
+@dataclass(frozen=True, slots=True)
+class Making:
+    """How a run is made, and what is written of it beside its tables."""
+
+    program: str
+    rounds: int  # by which vehicles give way without a light
+    workers: int = 1  # of the program
+    jobs: int = 1  # further runs side by side
+    kinds: Sequence[str] = ()  # of SUMO's output files
+    # Seconds of the rows of the junction tables; 0: the period of the counts; none: no such tables.
+    junctions: int | None = None
+
+    def serving(self, run: Run) -> AbstractContextManager[Client]:
+        """The program, started for a run; what it refuses is a Fault."""
+        return serving(self.program, run.path, self.workers)
+
+
+@dataclass(frozen=True, slots=True)
+class Figures:
+    """What a run gave, in short."""
+
+    vehicles: int
+    arrived: int
+    mean_trip_s: float | None
+    rescues: int
+    yielding: Yielding
+    notes: list[str]  # what the tables do not have
+    told: str  # in the line of its end
+    doubts: list[str]  # why it is not to be trusted
+
+
+def one_run(making: Making, run: Run, mapping: Map, settings: Settings, folder: str, tell: Tell) -> Figures:
+    """One run into a folder that is there; gives its figures. `tell` gets the clock and the last census."""
+    given, start = run, partial(making.serving, run)
+    run, yielding = giving_way(run, mapping, settings, making.rounds, start, tell)
+    with whole_file(f"{folder}/lanes.jsonl.gz") as lanes_file, start() as sim:
+        recorder = Recorder(sim, run, mapping, settings, lanes_file, tell)
+        records = recorder.record()
+    repeated = replace(run, timed=records.sent)
+    made = Recorded(
+        repeated, mapping, replace(recorder.settings, lights=LISTED), records, start, folder, making.jobs
+    )
+    count_further(made)
+    trips = list(rows.trips(records, run, mapping))
+    if making.kinds:
+        write_sumo_outputs(made, making.kinds, trips)
+    told = [*settings.lights.notes(), *notes(made)]
+    beyond: list[str] = []
+    if making.junctions is not None:
+        more, beyond = write_junctions(made, making.junctions or settings.period)
+        told += more
+    write_tables(made, trips)
+    driven, rescues = trust.trips_at(records.clock, run.start(), trips), records.rescues.total()
+    doubts = [*trust.doubts(driven, rescues, records.censuses, run, mapping, settings.lights.going_by(mapping))]
+    doubts += beyond
+    doubts += doubts_of(records.works, mapping)
+    doubts += beyond_joint(run, mapping, [one.closure for one in records.works])
+    given = with_lines(given, list(lit_lines(records.sent, mapping)))
+    write_setting(made, given, yielding, doubts, digest_of(making.program))
+    return Figures(
+        vehicles=driven.vehicles,
+        arrived=len(driven.durations),
+        mean_trip_s=fmean(driven.durations) if driven.durations else None,
+        rescues=rescues,
+        yielding=yielding,
+        notes=told,
+        told=", ".join(filter(None, (driven.told(), f"{rescues:,} rescues", yielding.told(), records.ended))),
+        doubts=doubts,
+    )
+
+
+def lit_lines(sent: Iterable[tuple[int, Line]], mapping: Map) -> Iterator[tuple[int, Line]]:
+    """Of the lines that a run sent of its own those of its lights, (clock, line)."""
+    lit = {node for _, node in mapping.signals}
+    own = ((clock, line) for clock, line in sent if line.number < 0 and line.command["cmd"] == "signal")
+    return ((clock, line) for clock, line in own if line.command["node"] in lit)
+
+
+def write_tables(made: Recorded, trips: Sequence[Entry]) -> None:
+    """The tables that each run has."""
+    folder, records, mapping = made.folder, made.records, made.mapping
+    write_table(f"{folder}/counts.csv", tables.COUNTS, rows.counts(records, mapping))
+    write_table(f"{folder}/trips.csv", tables.TRIPS, trips)
+    write_table(f"{folder}/edges.csv", tables.EDGES, rows.edges(records, mapping))
+    write_table(f"{folder}/detectors.csv", tables.LOOPS, rows.loop_rows(records, mapping.detectors))
+    areas = rows.area_rows(records, mapping.detectors, made.settings.until)
+    write_table(f"{folder}/areas.csv", tables.AREAS, areas)
+    write_table(f"{folder}/queues.csv", tables.QUEUES, rows.queues(records, mapping))
+    write_table(f"{folder}/summary.csv", tables.SUMMARY, rows.summary(records))
+    write_table(f"{folder}/warnings.csv", COLUMNS, mapping.told)
+    if records.phases:
+        write_table(f"{folder}/{tables.PHASES_FILE}", tables.PHASES, records.phases)
+    if records.works:
+        of_works = figures.rows(records.works, mapping, made.run.start(), made.settings.period)
+        write_table(f"{folder}/{tables.WORKS_FILE}", tables.WORKS, of_works)
+
+
+def write_sumo_outputs(made: Recorded, kinds: Iterable[str], trips: Iterable[Entry]) -> None:
+    """Writes SUMO's output files of some kinds, of looks at all lanes in every second; trips: rows of trips.csv."""
+    os.mkdir(f"{made.folder}/sumo")
+    paths = {kind: f"{made.folder}/sumo/{kind}.xml" for kind in kinds}
+    start, dawdle = made.run.start(), made.run.load.command["dawdle"] / 1000
+    frames = watch(made, range(start + 1, made.settings.until + 1), made.mapping.lanes())
+    rescued = [clock for clock, *_ in made.records.rescued]
+    with Outputs(paths, made.mapping, dawdle, made.settings.period, start, rescued) as outputs:
+        outputs.write([dict(zip(tables.TRIPS, trip, strict=True)) for trip in trips], frames)
+
+
+def count_further(made: Recorded) -> None:
+    """Counts the lanes that the run has no detectors for, by runs that repeat it; adds to its records."""
+    first, settings = made.records, made.settings
+
+    def repeat(lanes: Sequence[Place], _tell: object) -> Records:
+        with made.serving() as sim:
+            repeater = Repeater(sim, made.run, made.mapping, settings)
+            budget, most = Budget(made.run, settings, lanes, (), ()), settings.calls or sim.calls
+            return repeater.record(first, budget.repeated(lanes, len(first.rescued), most), lambda clock: None)
+
+    for records in side_by_side(repeat, first.asking.further, made.jobs):
+        first.counts.update(records.counts)
+        first.edgedata.add(records.edgedata)
+        first.uncounted -= len(records.counts)
+
+
+def notes(made: Recorded) -> Iterator[str]:
+    """What the tables do not have, a text each."""
+    records, every = made.records, made.records.asking.every
+    if records.uncounted:
+        yield (
+            f"counts: {records.uncounted:,} lanes have no detector, a run takes {limits.METERS:,}; those on most plans "
+            "have one (--counted all counts all)"
+        )
+    if made.settings.every is None and every != INTERVALS[0]:
+        often = f"every {every:,} s" if every else "never"
+        yield f"lanes are polled {often}, as the program takes no more calls"
+    if (first := first_poll(every, made.run.start())) > records.clock:
+        yield f"lanes were never polled: the run ended at {records.clock:,} s, and the first poll is at {first:,} s"
+    if records.unpolled:
+        yield f"{records.unpolled:,} polls of the lanes were left out, as rescues took the calls"
+    if records.unsent:
+        yield f"{records.unsent:,} lines were not sent, as their clock is after --until"
+
+
+def write_setting(
+    made: Recorded, given: Run, yielding: Yielding, doubts: Sequence[str], program_sum: str | None
+) -> None:
+    """Writes what a run was made of. given: the run without the signals by which its vehicles give way; doubts: why it
+    is not to be trusted, none where there is no reason; program_sum: the SHA-256 of the program."""
+    command, settings = given.load.command, made.settings
+    of = {"run": os.path.basename(given.path), "seed": command.get("seed", 0), "start": given.start()}
+    of.update(until=settings.until, rescue=settings.rescue, vehicles=len(given.enters), program=program_sum)
+    content = {
+        "map": made.mapping.written(),
+        "signals": given.signals(),
+        "dawdle": command["dawdle"],
+        "every": made.records.asking.every,
+        "period": settings.period,
+        "yielding": asdict(yielding),
+        "not_trusted": doubts,
+        "made": of,
+    }
+    with whole_file(f"{made.folder}/{NAME}") as file:
+        json.dump(content, file, separators=(",", ":"))

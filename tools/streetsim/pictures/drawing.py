@@ -1,0 +1,64 @@
+"""How a picture begins, and how it is saved: matplotlib, where it is installed."""
+import io
+import os
+import sys
+from typing import Any
+
+from streetsim.base.files import Fault, whole_path
+
+# What has no hints: the module pyplot, a picture, its axes, lines on them.
+Pyplot = Any
+Figure = Any
+Axes = Any
+Lines = Any
+DPI, COLOURS = 95, 64
+DATES = {"svg": {"Date": None}, "pdf": {"CreationDate": None}}  # without: equal runs give equal bytes
+
+
+def drawing_if_there() -> Pyplot:
+    """matplotlib's pyplot; none where it is not installed, which is said."""
+    try:
+        return drawing()
+    except Fault as fault:
+        print(f"no picture: {fault}", file=sys.stderr)
+        return None
+
+
+def drawing() -> Pyplot:
+    """matplotlib's pyplot, without a display; Fault where it is not installed."""
+    try:
+        import matplotlib
+    except ImportError:
+        raise Fault("pictures need matplotlib (Debian: apt install python3-matplotlib)") from None
+    matplotlib.use("Agg")
+    from matplotlib import pyplot
+
+    pyplot.rcParams.update(
+        {
+            "font.size": 9, "svg.hashsalt": "streetsim", "axes.grid": True, "grid.color": "#dddddd",
+            "axes.axisbelow": True,
+        }
+    )
+    return pyplot
+
+
+def ending_of(path: str) -> str:
+    """The format of a picture, which its name tells; Fault where it is none of png, svg and pdf."""
+    ending = os.path.splitext(path)[1].lower().removeprefix(".")
+    if ending not in ("png", *DATES):
+        raise Fault(f"{path}: a picture's name ends with .png, .svg or .pdf")
+    return ending
+
+
+def save(figure: Figure, path: str) -> None:
+    """Writes a picture in the format of its name; a PNG of few colours, which keeps it small."""
+    ending = ending_of(path)
+    with whole_path(path) as half:
+        if ending != "png":
+            figure.savefig(half, format=ending, bbox_inches="tight", facecolor="white", metadata=DATES[ending])
+            return
+        from PIL import Image
+
+        raw = io.BytesIO()
+        figure.savefig(raw, dpi=DPI, bbox_inches="tight", facecolor="white")
+        Image.open(raw).convert("RGB").quantize(COLOURS).save(half, format="PNG", optimize=True)

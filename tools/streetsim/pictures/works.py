@@ -1,0 +1,50 @@
+"""The picture of queues before road works, over time and place."""
+from typing import Any
+
+from streetsim.model.folder import Folder
+from streetsim.pictures.drawing import Figure, Pyplot
+from streetsim.results.works import Place, places_of
+
+MOST = 6  # places in one picture
+BIN = 22.5  # metres
+
+
+def draw_works(pyplot: Pyplot, folder: Folder) -> Figure:
+    """A panel for each place: who stands how far before the works, and how far the queue reaches."""
+    places = places_of(folder)[:MOST]
+    figure, panels = pyplot.subplots(len(places), figsize=(10, 1 + 2.6 * len(places)), squeeze=False)
+    for place, (axes,) in zip(places, panels, strict=True):
+        image = draw_place(axes, folder, place)
+    axes.set_xlabel("time (min)")
+    figure.subplots_adjust(hspace=0.4)
+    figure.colorbar(image, ax=panels.ravel().tolist(), label=f"vehicles that stand in {BIN:g} m")
+    return figure
+
+
+def draw_place(axes: Any, folder: Folder, place: Place) -> Any:
+    """Draws one place of works; gives the image, for a bar of colours."""
+    every, room = folder.every, place.room
+    columns, rows = max(1, (place.end - place.begin) // every), int(room // BIN) + 1
+    grid = [[0] * columns for _ in range(rows)]
+    for clock, metres in place.standing:
+        column, row = (clock - place.begin - 1) // every, int(metres // BIN)
+        if 0 <= column < columns and row < rows:
+            grid[row][column] += 1
+    extent = (place.begin / 60, (place.begin + columns * every) / 60, 0, rows * BIN)
+    image = axes.imshow(grid, origin="lower", aspect="auto", cmap="YlOrRd", interpolation="nearest", extent=extent)
+    times = sorted(range(place.begin + every, place.end + 1, every))
+    lengths = [place.lengths.get(time, 0.0) for time in times]
+    axes.step([time / 60 for time in times], lengths, where="pre", color="black", linewidth=0.8, label="queue")
+    for piece in place.way[:-1]:
+        if piece.far < room:
+            axes.axhline(piece.far, color="#225588", linewidth=0.8, linestyle="--")
+            name = folder.mapping.links[piece.link].edge
+            text = f" begin of {name}"
+            axes.annotate(text, (place.begin / 60, piece.far), fontsize=8, va="bottom", backgroundcolor="#ffffffcc")
+    begin, end = place.metres
+    passed = f"{place.vehicles:,} vehicles passed"
+    hourly = f", {float(place.capacity):,.0f} an hour in the worst quarter hour with a queue" if place.capacity else ""
+    axes.set_title(f"Works on {place.edge}_{place.lane}, {begin:.0f} to {end:.0f} m: {passed}{hourly}", fontsize=9)
+    axes.set(ylabel="metres before them", ylim=(0, room))
+    axes.grid(False)
+    return image

@@ -1,0 +1,136 @@
+"""How close a run is to SUMO's own outputs of the same demand: trips, counts, time on edges."""
+from bisect import bisect_right
+from collections.abc import Iterable, Iterator, Mapping, Sequence
+from statistics import fmean
+
+from streetsim.base.files import attribute, elements, seconds
+from streetsim.base.report import some
+from streetsim.model.folder import Folder
+
+Trip = tuple[float, float]  # wished departure and arrival
+EdgeKey = tuple[float, float, str]  # begin and end of a period, and an edge
+
+
+def read_tripinfo(path: str) -> dict[str, Trip]:
+    """SUMO's trips by vehicle, as (wished departure, arrival); those that arrived."""
+    trips = {}
+    for element in elements(path, ["tripinfos"]):
+        if element.tag == "tripinfo" and (arrival := attribute(path, element, "arrival", seconds)) >= 0:
+            delay = attribute(path, element, "departDelay", seconds) if element.get("departDelay") else 0.0
+            trips[attribute(path, element, "id")] = (attribute(path, element, "depart", seconds) - delay, arrival)
+    return trips
+
+
+def read_edges(path: str) -> dict[EdgeKey, tuple[int, float]]:
+    """SUMO's edges, {(begin, end, edge): (vehicles, seconds)}: those that left the edge or arrived on it,
+    and the seconds that all vehicles were on it."""
+    edges = {}
+    for interval in elements(path, ["meandata"]):
+        period = attribute(path, interval, "begin", seconds), attribute(path, interval, "end", seconds)
+        for edge in interval.iter("edge"):
+            vehicles = int(edge.get("left", 0)) + int(edge.get("arrived", 0))
+            edges[*period, attribute(path, edge, "id")] = vehicles, float(edge.get("sampledSeconds", 0))
+    return edges
+
+
+def read_edgedata(path: str) -> dict[EdgeKey, int]:
+    """SUMO's edges, {(begin, end, edge): vehicles}: those that left the edge or arrived on it."""
+    return {key: vehicles for key, (vehicles, _) in read_edges(path).items()}
+
+
+def trips_of(folder: Folder) -> dict[str, Trip]:
+    """The run's trips by vehicle, as SUMO's: (wished departure, arrival), of those that arrived."""
+    return {row["id"]: (float(row["depart"]), float(row["arrival"])) for row in folder.trips() if row["arrival"]}
+
+
+def edges_of(folder: Folder) -> dict[EdgeKey, tuple[int, float | None]]:
+    """The run's edges, as SUMO's: those of which all lanes have counts, in whole periods;
+    no seconds where there are none."""
+    edges = {}
+    for row in folder.edges():
+        if int(row["end"]) - int(row["begin"]) == folder.period:
+            metres = folder.mapping.links[folder.mapping.links_of[row["edge"]][0]].metres
+            there = float(row["density_per_km"]) * metres / 1000 * folder.period if row["density_per_km"] else None
+            edges[float(row["begin"]), float(row["end"]), row["edge"]] = int(row["left"]), there
+    return edges
+
+
+def counts_of(folder: Folder) -> dict[EdgeKey, int]:
+    """The run's edges, {(begin, end, edge): vehicles that left}, as SUMO's."""
+    return {key: vehicles for key, (vehicles, _) in edges_of(folder).items()}
+
+
+def geh(here: float, there: float) -> float:
+    """The GEH of two hourly volumes: below 5 is the usual mark of a good fit."""
+    return (2 * (here - there) ** 2 / (here + there)) ** 0.5 if here + there else 0.0
+
+
+def correlation(first: Sequence[float], second: Sequence[float]) -> float | None:
+    """Pearson's r of two rows of equal length; none where one of them does not vary."""
+    means = fmean(first), fmean(second)
+    spread = [sum((value - mean) ** 2 for value in values) for values, mean in zip((first, second), means, strict=True)]
+    if not all(spread):
+        return None
+    return (
+        sum((one - means[0]) * (other - means[1]) for one, other in zip(first, second, strict=True))
+        / (spread[0] * spread[1]) ** 0.5
+    )
+
+
+def greatest_gap(here: Iterable[float], there: Iterable[float], vehicles: int) -> float:
+    """The greatest gap of two arrival curves, given as arrival times, as a share of so many vehicles."""
+    here, there = sorted(here), sorted(there)
+    return max(
+        (abs(bisect_right(here, time) - bisect_right(there, time)) for time in {*here, *there}), default=0
+    ) / max(1, vehicles)
+
+
+def compare_trips(here: Mapping[str, Trip], there: Mapping[str, Trip], names: Sequence[str]) -> Iterator[str]:
+    """Lines on the trips of both; names: the vehicles of the run. Others, which the import skipped, are left out."""
+    known, vehicles = set(names), len(names)
+    skipped = [name for name in there if name not in known]
+    there = {name: trip for name, trip in there.items() if name in known}
+    if skipped:
+        yield f"left out: {len(skipped):,} vehicles of SUMO that the run does not have ({some(skipped, 3)})"
+    both = sorted(here.keys() & there.keys())
+    yield f"arrived: {len(here):,} here, {len(there):,} in SUMO, {len(both):,} in both"
+    if both:
+        durations = [[trips[name][1] - trips[name][0] for name in both] for trips in (here, there)]
+        means = [fmean(values) for values in durations]
+        more = (means[0] / means[1] - 1) * 100
+        yield f"mean trip of these: {means[0]:.1f} s here, {means[1]:.1f} s in SUMO ({more:+.1f} %)"
+        r = correlation(*durations)
+        yield "trip by trip: " + (f"r = {r:.2f}" if r is not None else "no r, as one side does not vary")
+        gap = greatest_gap(
+            [arrival for _, arrival in here.values()], [arrival for _, arrival in there.values()], vehicles
+        )
+        yield f"arrival curves: greatest gap {gap * 100:.1f} % of {vehicles:,} vehicles"
+
+
+def compare_edges(
+    here: Mapping[EdgeKey, tuple[int, float | None]],
+    there: Mapping[EdgeKey, tuple[int, float]],
+    period: int,
+    network: int,
+) -> Iterator[str]:
+    """Lines on the edges and periods that both have; an edge that SUMO does not list in a period had nobody.
+    network: how many edges the run's network has."""
+    periods = {key[:2] for key in here} & {key[:2] for key in there}
+    edges = {key[2] for key in there} & {key[2] for key in here}
+    if not periods or not edges:
+        yield f"counts: no period of {period} s and edge in common"
+        return
+    keys = [key for key in here if key[:2] in periods and key[2] in edges]
+    pairs = [(here[key][0], there.get(key, (0, 0))[0]) for key in keys]
+    hourly = 3600 / period
+    good = sum(geh(one * hourly, other * hourly) < 5 for one, other in pairs)
+    r = correlation(*zip(*pairs, strict=True))
+    yield f"edges: {len(edges):,} of {network:,} judged, in {len(periods):,} periods of {period} s"
+    yield f"counts: GEH below 5 for {good / len(pairs) * 100:.1f} % of {len(pairs):,} counts of {period} s" + (
+        f", r = {r:.3f}" if r is not None else ""
+    )
+    times = [(here[key][1], there.get(key, (0, 0))[1]) for key in keys if here[key][1] is not None]
+    if times:
+        hours = [sum(values) / 3600 for values in zip(*times, strict=True)]
+        more = f" ({(hours[0] / hours[1] - 1) * 100:+.1f} %)" if hours[1] else ""
+        yield f"time on these edges: {hours[0]:,.1f} vehicle hours here, {hours[1]:,.1f} in SUMO{more}"

@@ -1,0 +1,241 @@
+"""The numbers behind the pictures, from what streetsim-run wrote; nothing here draws."""
+from bisect import bisect_right
+from collections import Counter, defaultdict
+from collections.abc import Iterable, Iterator, Sequence
+from math import floor, inf, log10
+
+from streetsim.base import limits
+from streetsim.base.files import Fault
+from streetsim.model import tables
+from streetsim.model.folder import Folder
+from streetsim.model.runs import Command
+
+Spot = tuple[float, float]  # second and metres
+Piece = tuple[Spot, Spot, int, float]  # begin and end, speed in cells a step, metres of the vehicle's cells
+
+
+def stretches(folder: Folder, edges: Iterable[str]) -> tuple[dict[int, tuple[float, float, int]], float]:
+    """Where the links of a path lie, as {link: (metres from the path's begin, metres, cells)}, and its length."""
+    placed: dict[int, tuple[float, float, int]] = {}
+    begin = 0.0
+    for links in folder.links_along(edges):
+        placed.update(
+            {link: (begin, folder.mapping.links[link].metres, folder.mapping.links[link].cells) for link in links}
+        )
+        begin += folder.mapping.links[links[0]].metres
+    return placed, begin
+
+
+def trajectories(folder: Folder, edges: Iterable[str], first: int, last: int) -> list[Piece]:
+    """Pieces of the vehicles' ways along a path between polls from a first to a last second."""
+    placed, _ = stretches(folder, edges)
+    pieces: list[Piece] = []
+    before: dict[int, tuple[int, float, int, float]] = {}
+    for poll in folder.polls():
+        clock, now = poll["clock"], {}
+        if not first <= clock <= last:
+            continue
+        for link, _lane, cells, _buffer, _closed in poll["lanes"]:
+            if link in placed:
+                begin, metres, count = placed[link]
+                for car, cell, speed, *size in cells:
+                    long = (size[0] if size else 1) * metres / count
+                    now[car] = clock, begin + (cell + 1) * metres / count, speed, long
+        for car, (_, place, speed, long) in now.items():
+            if car in before and before[car][1] <= place:
+                pieces.append(((before[car][0], before[car][1]), (clock, place), speed, long))
+        before = now
+    return pieces
+
+
+def bands(pieces: Iterable[Piece]) -> Iterator[tuple[Spot, Spot, Spot, Spot]]:
+    """The areas that vehicles longer than a cell cover over time, from their fronts to their rears, as corners."""
+    for (second, place), (later, other), _, long in pieces:
+        if long > 1.5 * limits.CELL_METRES:
+            yield (second, place), (later, other), (later, other - long), (second, place - long)
+
+
+def reds(folder: Folder, edges: Iterable[str], first: int, last: int) -> list[tuple[float, int, int]]:
+    """When the signals along a path are red for going on along it, from a first to a last second: (metres from the
+    path's begin, begin, end)."""
+    placed, _ = stretches(folder, edges)
+    links = folder.links_along(edges)
+    found = []
+    for here, following in zip(links, links[1:]):
+        place = placed[here[0]][0] + placed[here[0]][1]
+        plans = [
+            (clock, command)
+            for clock, command in folder.signals
+            if command["node"] == folder.mapping.links[here[0]].end
+        ]
+        begin = None
+        for second in range(first, last + 1):
+            sent = [command for clock, command in plans if clock <= second]
+            red = bool(sent) and second < last and not shows_green(sent[-1], second, here, following)
+            if red and begin is None:
+                begin = second
+            if not red and begin is not None:
+                found.append((place, begin, second))
+                begin = None
+    return found
+
+
+def shows_green(command: Command, second: int, links: Sequence[int], following: Sequence[int]) -> bool:
+    """Whether a signal command shows green in a second from any of some links to any of others."""
+    place = (second + command["offset"]) % sum(duration for duration, _ in command["phases"])
+    for duration, greens in command["phases"]:
+        if place < duration:
+            return any(link in links and target in following for link, _, target in greens)
+        place -= duration
+    return False
+
+
+def way_back(folder: Folder, edges: Sequence[str]) -> list[str]:
+    """The edges of a path's other direction: between the same junctions; Fault where there is none."""
+    mapping = folder.mapping
+    found: dict[tuple[int, int], str] = {}
+    for edge, links in mapping.links_of.items():
+        found.setdefault((mapping.links[links[0]].begin, mapping.links[links[0]].end), edge)
+    back = []
+    for (link, *_), edge in reversed(list(zip(folder.links_along(edges), edges, strict=True))):
+        ends = mapping.links[link].end, mapping.links[link].begin
+        if ends not in found:
+            raise Fault(f"--both: no edge leads back along {edge!r}")
+        back.append(found[ends])
+    return back
+
+
+def junctions_along(folder: Folder, edges: Sequence[str]) -> list[tuple[float, str]]:
+    """(metres from the path's begin, name) of the junctions within a path."""
+    placed, _ = stretches(folder, edges)
+    firsts = [links[0] for links in folder.links_along(edges)]
+    ends = [(sum(placed[link][:2]), folder.mapping.nodes[folder.mapping.links[link].end][0]) for link in firsts]
+    return ends[:-1] or ends
+
+
+def green_band(folder: Folder, edges: Sequence[str], first: int) -> tuple[int, int] | None:
+    """How many seconds of a cycle one after the other let a vehicle that starts at the first signal pass all others too
+    at its free speed, and the cycle; none where there is no signal or no common cycle."""
+    lines = stop_lines(folder, edges)
+    plans = {node: command for clock, command in folder.signals if clock <= first for node in [command["node"]]}
+    stops = [(after, plans[node], here, following) for after, node, here, following in lines if node in plans]
+    cycles = {sum(duration for duration, _ in command["phases"]) for _, command, *_ in stops}
+    if len(cycles) != 1:
+        return None
+    cycle, start = cycles.pop(), stops[0][0]
+    is_free = [
+        all(
+            shows_green(command, second + round(after - start), here, following)
+            for after, command, here, following in stops
+        )
+        for second in range(cycle)
+    ]
+    longest = run = 0
+    for free in is_free * 2:
+        run = run + 1 if free else 0
+        longest = max(longest, run)
+    return min(longest, cycle), cycle
+
+
+def stop_lines(folder: Folder, edges: Sequence[str]) -> list[tuple[float, int, list[int], list[int]]]:
+    """(free seconds from the path's begin, node, links, next links) of each stop line within a path."""
+    links, after, found = folder.links_along(edges), 0.0, []
+    for here, following in zip(links, links[1:]):
+        link = folder.mapping.links[here[0]]
+        after += link.cells / max(0.001, link.limit - folder.dawdle / 1000)
+        found.append((after, link.end, here, following))
+        after += folder.mapping.nodes[link.end][3]
+    return found
+
+
+def densities(folder: Folder) -> list[float]:
+    """Vehicles a kilometre and lane of each link, by its number, the mean over all polls; Fault without polls."""
+    standing: Counter[int] = Counter()
+    polls = 0
+    for poll in folder.polls():
+        polls += 1
+        for link, _lane, cells, _buffer, _closed in poll["lanes"]:
+            standing[link] += len(cells)
+    if not polls:
+        raise Fault(f"{folder.path}: nothing was polled")
+    return [
+        standing[number] / polls / len(link.lanes) / (link.cells * link.cell_metres / 1000)
+        for number, link in enumerate(folder.mapping.links)
+    ]
+
+
+def longest_queues(folder: Folder, most: int) -> tuple[list[tuple[str, dict[int, float]]], int]:
+    """The lanes with the longest queues at stop lines, the longest first: (edge_lane, {time: metres}), so many at most;
+    and how many lanes with queues there are."""
+    by_lane: defaultdict[str, dict[int, float]] = defaultdict(dict)
+    for row in (row for row in folder.queues() if row["before"] == tables.STOP_LINE):
+        by_lane[f"{row['edge']}_{row['lane']}"][int(row["time"])] = float(row["metres"])
+    ranked = sorted(by_lane.items(), key=lambda item: (-max(item[1].values()), item[0]))
+    return ranked[:most], len(ranked)
+
+
+def flows(folder: Folder, edges: Sequence[str]) -> list[tuple[float, float]]:
+    """(vehicles a kilometre, vehicles an hour) of each count of a whole period with traffic; edges: all where it is
+    empty."""
+    return [
+        (float(row["occupancy_percent"]) / 100 / limits.CELL_METRES * 1000, float(row["vehicles_per_hour"]))
+        for row in folder.counts()
+        if (not edges or row["edge"] in edges)
+        and int(row["vehicles"])
+        and int(row["end"]) - int(row["begin"]) == folder.period
+    ]
+
+
+def middle_flows(folder: Folder, edges: Sequence[str]) -> list[tuple[float, float]]:
+    """(vehicles a kilometre, vehicles an hour) of the middle third of each lane with traffic there, of each
+    whole period: means over its polls of the vehicles there and of their speeds, added up, over its length
+    (Edie's definitions)."""
+    links = folder.mapping.links
+    polls: Counter[int] = Counter()
+    seen: defaultdict[tuple[int, int, int], list[int]] = defaultdict(lambda: [0, 0])
+    wanted = {place for place, link in enumerate(links) if not edges or link.edge in edges}
+    start = folder.made.get("start", 0)
+    for poll in folder.polls():
+        period = (poll["clock"] - 1 - start) // folder.period
+        polls[period] += 1
+        for link, lane, cells, *_ in poll["lanes"]:
+            first, last = middle(links[link].cells)
+            there = [entry[2] for entry in cells if first <= entry[1] < last] if link in wanted else []
+            if there:
+                sums = seen[period, link, lane]
+                sums[0] += len(there)
+                sums[1] += sum(there)
+    if not polls:
+        raise Fault(f"{folder.path}: nothing was polled")
+    whole, found = (folder.made.get("until", poll["clock"]) - start) // folder.period, []
+    for (period, link, _), (vehicles, speeds) in sorted(seen.items()):
+        if period < whole:
+            first, last = middle(links[link].cells)
+            looks = polls[period] * (last - first)
+            found.append((vehicles / looks / limits.CELL_METRES * 1000, speeds / looks * 3600))
+    return found
+
+
+def middle(cells: int) -> tuple[int, int]:
+    """The first cell of a link's middle third, and the one behind its last."""
+    first = cells // 3
+    return first, max(first + 1, cells - first)
+
+
+def arrival_curves(folder: Folder) -> tuple[list[int], list[int]]:
+    """Sorted times of wished departures up to the run's end, and of arrivals."""
+    trips, end = folder.trips(), folder.made.get("until", inf)
+    departs = sorted(depart for row in trips if (depart := int(row["depart"])) <= end)
+    return departs, sorted(int(row["arrival"]) for row in trips if row["arrival"])
+
+
+def difference(first: Sequence[float], second: Sequence[float]) -> tuple[list[float], list[int]]:
+    """The times at which one of two curves of sorted times rises, and how far the first is then above the second."""
+    times = sorted({*first, *second})
+    return times, [bisect_right(first, time) - bisect_right(second, time) for time in times]
+
+
+def round_length(metres: float) -> float:
+    """The greatest 1, 2 or 5 times a power of ten that is at most so long, for a scale; metres: above 0."""
+    power = 10 ** floor(log10(metres))
+    return next(times * power for times in (5, 2, 1) if times * power <= metres)

@@ -1,0 +1,80 @@
+"""What is known of each edge in an interval: means over the seeds of a run."""
+from collections import defaultdict
+from collections.abc import Iterable, Sequence
+from dataclasses import dataclass
+
+from streetsim.results.reading import Row, Runs
+
+
+@dataclass(slots=True)
+class Traffic:
+    """What passed an edge in an interval."""
+
+    flow: float  # vehicles an hour that left it
+    density: float | None  # vehicles a kilometre, over all lanes
+    speed: float | None  # km/h
+
+
+@dataclass(slots=True)
+class Values:
+    """Of an edge; row is none where it is no approach, or the run had no --junctions."""
+
+    traffic: Traffic | None
+    row: Row | None
+
+
+def intervals_of(runs: Runs) -> list[tuple[int, int]]:
+    """The (begin, end) of the junction tables, else of the counts, in seconds, rising."""
+    return runs.intervals() or sorted({(int(row["begin"]), int(row["end"])) for row in runs.first.edges()})
+
+
+def traffic_of(rows: Iterable[dict], begin: int, end: int) -> dict[str, Traffic]:
+    """The traffic of each edge in an interval, of rows of edges.csv; a period counts with its seconds in the
+    interval."""
+    found = defaultdict(list)
+    for row in rows:
+        first, last = int(row["begin"]), int(row["end"])
+        seconds = min(end, last) - max(begin, first)
+        if seconds > 0:
+            found[row["edge"]].append((row, seconds, seconds / (last - first)))
+    return {edge: traffic(those) for edge, those in found.items()}
+
+
+def traffic(parts: Sequence[tuple[dict, float, float]]) -> Traffic:
+    """The traffic of an edge in an interval, of (row of edges.csv, its seconds there, these as a share of its period);
+    one row at least."""
+    left = sum(int(row["left"]) * share for row, _, share in parts)
+    seconds = sum(those for _, those, _ in parts)
+    seen = [
+        (float(row["density_per_km"]), row["mean_speed_kmh"], those) for row, those, _ in parts if row["density_per_km"]
+    ]
+    density = sum(value * those for value, _, those in seen) / sum(those for *_, those in seen) if seen else None
+    moved = [(value * those, float(speed)) for value, speed, those in seen if speed]
+    weight = sum(those for those, _ in moved)
+    speed = sum(those * value for those, value in moved) / weight if weight else None
+    return Traffic(left * 3600 / seconds, density, speed)
+
+
+def mean_of(several: list[Traffic]) -> Traffic:
+    """The mean traffic of an edge over seeds; speeds by the vehicles that were seen."""
+    dense = [one.density for one in several if one.density is not None]
+    moved = [(one.density, one.speed) for one in several if one.density and one.speed is not None]
+    weight = sum(density for density, _ in moved)
+    return Traffic(
+        sum(one.flow for one in several) / len(several),
+        sum(dense) / len(dense) if dense else None,
+        sum(density * speed for density, speed in moved) / weight if weight else None,
+    )
+
+
+def values_of(runs: Runs, begin: int, end: int) -> dict[str, Values]:
+    """What is known of each edge of the map in an interval, as means over the seeds."""
+    seen = defaultdict(list)
+    for folder in runs.folders.values():
+        for edge, one in traffic_of(folder.edges(), begin, end).items():
+            seen[edge].append(one)
+    rows = {key[1]: row for key, row in runs.rows.get(("approaches", begin, end), {}).items()}
+    return {
+        edge: Values(mean_of(seen[edge]) if edge in seen else None, rows.get(edge))
+        for edge in runs.first.mapping.links_of
+    }

@@ -1,0 +1,106 @@
+"""What stood before the works of a run, over time and place, by its polls."""
+from collections import Counter
+from collections.abc import Sequence
+from dataclasses import dataclass
+
+from streetsim.base.files import Fault
+from streetsim.model import tables
+from streetsim.model.folder import Folder
+
+ROOM = 60.0  # metres shown beyond the longest queue
+LEAST = 150.0
+
+
+@dataclass(slots=True, frozen=True)
+class Stretch:
+    """A link on the way to works: metres from the works to its end and to its begin."""
+
+    link: int
+    near: float
+    far: float
+
+
+@dataclass(slots=True)
+class Place:
+    """Works at one place. lengths: of the queue, by clock; standing: (clock, metres before the works) of who stands."""
+
+    edge: str
+    lane: str
+    metres: tuple[float, float]  # from where to where it is closed
+    begin: int
+    end: int
+    vehicles: int  # that passed
+    capacity: str  # an hour of the worst quarter; empty where there is none
+    way: list[Stretch]
+    lengths: dict[int, float]
+    standing: list[tuple[int, float]]
+
+    @property
+    def room(self) -> float:
+        """The metres before the works that are shown."""
+        return min(self.way[-1].far, max(LEAST, ROOM + max(self.lengths.values(), default=0.0)))
+
+
+def places_of(folder: Folder) -> list[Place]:
+    """The works of a run, in the order of its table; Fault where it had none, or ended before them."""
+    seen = Counter(link for poll in folder.polls() for link, _, cells, *_ in poll["lanes"] for _ in cells)
+    grouped: dict[tuple[str, ...], list[dict[str, str]]] = {}
+    for row in folder.works():
+        grouped.setdefault((row["edge"], row["lane"], row["from_m"], row["to_m"]), []).append(row)
+    if not grouped:
+        raise Fault(f"{folder.path}: the run ended before its works")
+    found = [place_of(folder, rows, seen) for rows in grouped.values()]
+    note_polls(folder, found)
+    return found
+
+
+def place_of(folder: Folder, rows: Sequence[dict[str, str]], seen: Counter[int]) -> Place:
+    """The works of one place, of its rows of works.csv; who stands there is noted later. seen: vehicles in polls, by
+    link."""
+    edge, lane = rows[0]["edge"], rows[0]["lane"]
+    begin, end = float(rows[0]["from_m"]), float(rows[0]["to_m"])
+    lengths = {
+        int(row["time"]): float(row["metres"])
+        for row in folder.queues()
+        if row["before"] == tables.BEFORE_WORKS and (row["edge"], row["lane"]) == (edge, lane)
+    }
+    capacity = min((row["capacity_per_hour"] for row in rows if row["capacity_per_hour"]), key=float, default="")
+    way = way_to(folder, link_of(folder, edge, int(lane)), begin, seen)
+    vehicles = sum(int(row["vehicles"]) for row in rows)
+    times = int(rows[0]["begin"]), int(rows[-1]["end"])
+    return Place(edge, lane, (begin, end), *times, vehicles, capacity, way, lengths, [])
+
+
+def link_of(folder: Folder, edge: str, lane: int) -> int:
+    """The link that has a lane of an edge, by SUMO's index."""
+    links = folder.mapping.links
+    return next(link for link in folder.mapping.links_of[edge] if lane in links[link].lanes)
+
+
+def way_to(folder: Folder, link: int, begin: float, seen: Counter[int]) -> list[Stretch]:
+    """The way to works that begin so many metres from a link's begin, from them on upstream: each link and of those
+    before it the one on which most were seen."""
+    links, way = folder.mapping.links, [Stretch(link, begin - folder.mapping.links[link].metres, begin)]
+    known = {link}
+    while True:
+        feeders = {turn.link for turn in folder.mapping.turns if turn.next == way[-1].link} - known
+        if not feeders:
+            return way
+        best = max(sorted(feeders), key=lambda one: seen[one])
+        known.add(best)
+        way.append(Stretch(best, way[-1].far, way[-1].far + links[best].metres))
+
+
+def note_polls(folder: Folder, places: Sequence[Place]) -> None:
+    """Notes who stands before each place, on all lanes of the way to it."""
+    links = folder.mapping.links
+    for poll in folder.polls():
+        clock = poll["clock"]
+        by_link: dict[int, list[int]] = {}
+        for link, _, cells, *_ in poll["lanes"]:
+            by_link.setdefault(link, []).extend(cell for _, cell, speed, *_ in cells if not speed)
+        for place in (one for one in places if one.begin <= clock <= one.end):
+            for piece in place.way:
+                size = links[piece.link].metres / links[piece.link].cells
+                away = (piece.far - (cell + 1) * size for cell in by_link.get(piece.link, ()))
+                place.standing += [(clock, metres) for metres in away if 0 <= metres]

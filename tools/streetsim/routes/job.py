@@ -1,0 +1,154 @@
+"""A search of routes from its words to its files."""
+import json
+import os
+import sys
+from collections.abc import Sequence
+from dataclasses import asdict, dataclass
+from statistics import fmean
+
+from streetsim.base.files import whole_file, whole_folder
+from streetsim.base.progress import Stopping
+from streetsim.model.tables import write_table
+from streetsim.routes.diverting import SHARES, Diverted, closing_of, diverted, placed, share_rows, within_gap
+from streetsim.routes.drawing import draw
+from streetsim.routes.loading import Town, write_loaded
+from streetsim.routes.results import FLOWS, NAME, figures, flow_rows, write_results
+from streetsim.routes.search import Asked, Iteration, Search, is_still
+from streetsim.routes.team import Team
+from streetsim.routes.watching import Ground
+from streetsim.ways.trips import Trips, write_routes
+
+AFTER = 7200  # seconds that a run may last after the last departure
+# What a folder has only for works, for one share alone, or where matplotlib is installed.
+AT_WISH = (
+    *("before.rou.xml", "knowing.csv", "flows.csv", "flows.png", "gap.png"),
+    *("iterations.csv", "check.csv", "movements.csv", "trips.csv"),
+)
+
+
+@dataclass(frozen=True, slots=True)
+class Closed:
+    """Road works as they are asked for, and who knows of them."""
+
+    close: Sequence[str]
+    sign: Sequence[str]  # edges at which those turn off who do not know of them
+    knowing: Sequence[float]  # shares of drivers who do
+    before: str | None  # a file of ways without the works
+
+
+@dataclass(frozen=True, slots=True)
+class Target:
+    """Where what was found goes."""
+
+    routes: str
+    run: str | None
+    map: str | None
+    folder: str
+
+
+@dataclass(frozen=True, slots=True)
+class Job:
+    """What a command is about, read and checked."""
+
+    town: Town
+    trips: Trips
+    ground: Ground
+    asked: Asked
+    check: range
+    works: Closed
+    target: Target
+    words: dict[str, object]  # of the command, as its setting keeps them
+
+
+def found_routes(job: Job, workers: Team, stopping: Stopping) -> list[Diverted]:
+    """What was found, judged by the check seeds: without works, and with them for each share of drivers who know of
+    them."""
+    works, count = job.works, len(job.trips.all)
+
+    def told(label: str, iteration: Iteration) -> bool:
+        print(f"{label}{iteration.line(count)}", file=sys.stderr, flush=True)
+        return stopping.asked
+
+    search = Search(
+        job.town, job.ground, job.trips.all, workers, lambda one: told("before, " if works.close else "", one)
+    )
+    given = works.close and all(trip.path for trip in job.trips.all)
+    if not given:
+        search.start(job.asked.seeds[0])
+        search.improve(job.asked)
+    judged = search.judged(job.check)
+    before = Diverted(None, job.trips.all, search, judged)
+    if not works.close:
+        return [before]
+    closing = closing_of(works.close, works.sign, job.town.graph, search, judged)
+    return [before, *diverted(before, closing, works.close, job.asked, job.check, works.knowing, told)]
+
+
+def write(job: Job, all_: Sequence[Diverted]) -> None:
+    """Writes all files of what was found."""
+    target, many = job.target, len(all_) > 2
+    for one in all_[len(all_) > 1 :]:
+        write_routes(placed(target.routes, one.share, many), Trips(list(one.trips), job.trips.types), job.town.graph)
+        if target.run and target.map:
+            write_run_of(one, placed(target.run, one.share, many), placed(target.map, one.share, many))
+    with whole_folder(target.folder, NAME, AT_WISH) as folder:
+        for one in all_[len(all_) > 1 :]:
+            place = f"{folder}/{one.label.replace(' ', '-')}" if many else folder
+            os.makedirs(place, exist_ok=True)
+            write_results(place, job.town, one.trips, one.search.iterations, one.judged, setting_of(job, one, all_[0]))
+            draw(place, all_[0], one)
+        if job.works.close:
+            write_routes(f"{folder}/before.rou.xml", job.trips, job.town.graph)
+            write_table(f"{folder}/knowing.csv", SHARES, share_rows(all_))
+            write_table(f"{folder}/flows.csv", FLOWS, flow_rows(job.town.graph, all_))
+        if many:
+            with whole_file(f"{folder}/{NAME}") as file:
+                json.dump({**setting_of(job, all_[0], all_[0]), "knowing": job.works.knowing}, file, indent=1)
+                file.write("\n")
+
+
+def write_run_of(one: Diverted, run_path: str, map_path: str) -> None:
+    """The run of found routes, as streetsim-import makes it, and with works their lines."""
+    write_loaded(one.search.town.loaded(one.trips), run_path, map_path)
+
+
+def setting_of(job: Job, one: Diverted, before: Diverted) -> dict:
+    """What a search was asked for and came to, for setting.json."""
+    works, setting = job.works, job.words | {"import": asdict(job.town.options)}
+    setting |= {"until": job.ground.until, "iteration": one.search.best.number, "not_trusted": list(one.doubts())}
+    if works.close:
+        setting |= {"close": works.close, "knowing": one.share, "sign": works.sign, "before": works.before}
+        setting |= {"without_works": figures(before.judged)}
+    return setting
+
+
+def tell(job: Job, one: Diverted, before: Diverted) -> int:
+    """Says what was found and what speaks against it; gives the status, 1 where the gap that was asked for is not
+    reached."""
+    label = f"{one.label}: " * (one.share is not None)
+    if is_still(one.search) and one.judged.gap > job.asked.gap:
+        print(
+            f"warning: {label}the gap does not fall any more: the least was seen in iteration {one.search.best.number}",
+            file=sys.stderr,
+        )
+    if one is not before and (why := within_gap(one, before)):
+        print(f"warning: {label}{why}", file=sys.stderr)
+    mean, runs, missed = fmean(one.means()), len(one.judged.outcomes), missing(job, one, before)
+    print(
+        f"{label}mean trip {mean:.1f} s{f' ({mean - fmean(before.means()):+.1f} s by the works)' * bool(label)}, "
+        f"gap {100 * one.judged.gap:.2f} % by {runs} seed{'s' * (runs > 1)} that the search did not see"
+        f"{f': the gap of {100 * job.asked.gap:g} % is not reached{missed}' if missed is not None else ''}; "
+        f"routes of iteration {one.search.best.number}"
+    )
+    return 0 if missed is None else 1
+
+
+def missing(job: Job, one: Diverted, before: Diverted) -> str | None:
+    """Where the gap that was asked for is not reached, in words that may be empty; none where it is. Ways without works
+    that were given are not judged."""
+    without = before.judged.gap if before.search.iterations and one is not before else 0.0
+    if max(one.judged.gap, without) <= job.asked.gap:
+        return None
+    if without <= job.asked.gap:
+        return ""
+    return f"{', nor' * (one.judged.gap > job.asked.gap)} without works ({100 * without:.2f} %)"

@@ -1,0 +1,57 @@
+"""What a run asks for, and what is kept of it."""
+from collections import Counter
+from collections.abc import Callable
+from contextlib import AbstractContextManager
+from dataclasses import dataclass, field
+
+from streetsim.base.client import Census, Client, Row, Vehicle
+from streetsim.model.detectors import Areas
+from streetsim.model.mapping import Map, Place
+from streetsim.model.runs import Command, Line, Run
+from streetsim.run.budget import Asking
+from streetsim.run.edgedata import Edgedata
+from streetsim.run.settings import Settings
+from streetsim.works.watched import Watched
+
+Tell = Callable[[int, Census | None], object]  # gets the clock and the last census
+Rescue = tuple[int, int, Command]  # clock, car, enter command
+PhaseRow = tuple[int, str, int, str, int, str]  # begin, light, phase, state, seconds, why it ended
+QueueRow = tuple[int, int, int, int, float, str]  # clock, link, lane, vehicles that stand, metres, before what
+Serving = Callable[[], AbstractContextManager[Client]]  # begins the program of a run
+
+
+@dataclass(slots=True)
+class Records:
+    counts: dict[Place, dict[int, Row]] = field(default_factory=dict)  # (link, lane): rows by their begin
+    loops: dict[str, dict[int, Row]] = field(default_factory=dict)  # e1: rows by their begin
+    areas: Areas = field(default_factory=lambda: Areas([], 0))  # what e2 saw
+    edgedata: Edgedata = field(default_factory=lambda: Edgedata(0, 1))
+    uncounted: int = 0  # lanes without a detector, as there are more than 1,024
+    queues: list[QueueRow] = field(default_factory=list)
+    censuses: list[Census] = field(default_factory=list)
+    # For each vehicle of the file its last reply, or none if it never entered.
+    ends: list[Vehicle | None] = field(default_factory=list)
+    unsent: int = 0  # timed lines whose clock did not come
+    unpolled: int = 0  # polls that were left out, as the calls went to rescues
+    rescues: Counter[int] = field(default_factory=Counter)  # by vehicle
+    rescued: list[Rescue] = field(default_factory=list)  # in the order in which they were done
+    asking: Asking = field(default_factory=lambda: Asking(0, False, [], 0))
+    ended: str = ""  # why a run without a last second ended
+    calls: int = 0  # that were made
+    clock: int = 0
+    works: list[Watched] = field(default_factory=list)  # what was seen before works
+    phases: list[PhaseRow] = field(default_factory=list)  # of lights that detectors drive
+    sent: list[tuple[int, Line]] = field(default_factory=list)  # timed lines, by clock, those of merging among them
+
+
+@dataclass(frozen=True, slots=True)
+class Recorded:
+    """A run that was made, and what it takes to repeat it for further looks: changing nothing, side by side."""
+
+    run: Run
+    mapping: Map
+    settings: Settings
+    records: Records
+    serving: Serving
+    folder: str  # for files that are there meanwhile
+    jobs: int

@@ -1,0 +1,95 @@
+"""The rows of a run's tables, under SUMO's names."""
+from collections.abc import Iterable, Iterator
+
+from streetsim.base import limits
+from streetsim.model.detectors import Detector
+from streetsim.model.freeflow import Alone
+from streetsim.model.mapping import Map
+from streetsim.model.runs import Run
+from streetsim.model.tables import Entry
+from streetsim.run.edgedata import edge_rows
+from streetsim.run.records import Records
+
+
+def counts(records: Records, mapping: Map) -> Iterator[Entry]:
+    """A row for each period and lane that has a detector."""
+    for (link, lane), rows in sorted(records.counts.items()):
+        for row in rows.values():
+            yield (
+                row.start,
+                row.start + row.steps,
+                mapping.links[link].edge,
+                link,
+                mapping.links[link].lanes[lane],
+                row.passes,
+                f"{row.flow * 3600:.1f}",
+                row.kmh(mapping.links[link].cell_metres),
+                f"{row.density * 100:.1f}",
+            )
+
+
+def edges(records: Records, mapping: Map) -> Iterator[Entry]:
+    """A row for each period and edge of which all lanes have a detector, as SUMO's edgeData."""
+    for begin, end, edge, entered, left, *seen in edge_rows(records.counts, records.edgedata, mapping):
+        texts = ("" if value is None else f"{value:.2f}" for value in seen)
+        yield begin, end, edge, "" if entered is None else entered, left, *texts
+
+
+def trips(records: Records, run: Run, mapping: Map) -> Iterator[Entry]:
+    """A row for each vehicle of the run file, as SUMO's tripinfo; a trip lasts from the wished departure to arrival."""
+    alone = Alone(mapping, run.load.command["dawdle"] / 1000)
+    for place, (name, line, end) in enumerate(zip(names(run, mapping), run.enters, records.ends, strict=True)):
+        plan, depart = line.command["plan"], line.command["depart"]
+        free = alone.trip(plan)
+        arrival = end.step + 1 if end is not None and end.state == "arrived" and end.step is not None else None
+        trip = (
+            (arrival, arrival - depart, f"{free:.1f}", f"{arrival - depart - free:.1f}")
+            if arrival is not None
+            else ("", "", f"{free:.1f}", "")
+        )
+        yield (name, depart, *trip, len(plan), records.rescues[place], end.state if end else "not departed")
+
+
+def names(run: Run, mapping: Map) -> list[str]:
+    """SUMO's names of the vehicles; those that were added to the run file by hand go by their number."""
+    return [*mapping.cars, *(f"#{number}" for number in range(len(mapping.cars), len(run.enters)))][: len(run.enters)]
+
+
+def queues(records: Records, mapping: Map) -> Iterator[Entry]:
+    """A row for each poll and lane where vehicles stand at the stop line, or before works."""
+    for clock, link, lane, count, metres, before in records.queues:
+        at = mapping.links[link]
+        yield clock, at.edge, at.lanes[lane], count, round(metres, 1), before
+
+
+def summary(records: Records) -> Iterator[Entry]:
+    """A row for each census."""
+    for census in records.censuses:
+        yield census.clock, census.admitted, census.waiting, census.cells, census.buffers, census.arrived, census.taken
+
+
+def loop_rows(records: Records, detectors: Iterable[Detector]) -> Iterator[tuple[object, ...]]:
+    """(begin, end, id, vehicles, an hour, km/h, occupancy in percent) of each period of each e1."""
+    for one in detectors:
+        for row in records.loops.get(one.name, {}).values():
+            flow, density = f"{row.flow * 3600:.1f}", f"{row.density * 100:.1f}"
+            yield row.start, row.start + row.steps, one.name, row.passes, flow, row.kmh(one.cell_metres), density
+
+
+def area_rows(records: Records, detectors: Iterable[Detector], until: int) -> Iterator[tuple[object, ...]]:
+    """(begin, end, id, mean and most vehicles, km/h, occupancy in percent, mean and longest jam in vehicles) of each
+    period of each e2; until: where the last period ends at the latest."""
+    for one in detectors:
+        for (_, begin), area in sorted(item for item in records.areas.seen.items() if item[0][0] == one.name):
+            metres = (one.last - one.first + 1) * one.cell_metres
+            yield (
+                begin,
+                min(begin + one.period, until),
+                one.name,
+                f"{area.vehicles / area.samples:.2f}",
+                area.most,
+                f"{area.speeds / area.vehicles * 3.6 * one.cell_metres:.1f}" if area.vehicles else "",
+                f"{area.covered / area.samples / metres * 100:.1f}",
+                f"{area.jams / area.samples:.2f}",
+                area.longest,
+            )

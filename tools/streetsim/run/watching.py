@@ -1,0 +1,91 @@
+"""Looks at lanes in every second of a run, by further runs that repeat it: looking changes nothing."""
+import json
+import os
+from collections.abc import Iterable, Iterator, Sequence
+
+from streetsim.base import limits
+from streetsim.base.client import Refused, line_of, read_reply
+from streetsim.base.files import Fault, open_text
+from streetsim.base.jobs import side_by_side
+from streetsim.model.folder import Frame
+from streetsim.model.mapping import Place
+from streetsim.model.runs import Command
+from streetsim.run.budget import Asking
+from streetsim.run.desk import Desk
+from streetsim.run.records import Recorded, Rescue
+
+SLACK = 200  # calls
+
+
+class Watcher(Desk):
+    """Repeats a run up to the last of some clocks, and looks at lanes at each of them."""
+
+    def look(self, rescued: Sequence[Rescue], clocks: Iterable[int], lanes: Sequence[Place]) -> Iterator[Frame]:
+        """What stands there at each clock, as a folder's polls. rescued: (clock, car, enter command) of the run."""
+        self.begin(Asking(0, False, [], 0))
+        self.owners: list[int] = []  # the vehicle of the file by car number
+        left, clock = list(reversed(rescued)), self.start
+        for target in clocks:
+            while clock < target:
+                self.send_timed(clock)
+                clock = self.advance(clock, min(target, left[-1][0] if left else target))
+                if clock == target:
+                    yield self.frame(clock, lanes)
+                while left and left[-1][0] == clock:
+                    self.repeat(*left.pop()[1:])
+
+    def enter(self, last: int) -> None:
+        """Sends the run's enters up to a place, whose cars follow those so far."""
+        self.owners += range(self.entered, last)
+        super().enter(last)
+
+    def frame(self, clock: int, lanes: Iterable[Place]) -> Frame:
+        """What stands on some lanes at a clock, as a folder's polls; without closed stretches."""
+        shown = []
+        for (link, lane), reply in self.lanes(lanes).items():
+            cells = [(self.owners[car], *rest) for car, *rest in reply.cells]
+            if cells or reply.buffer:
+                shown.append([link, lane, cells, [self.owners[car] for car, _, _ in reply.buffer], []])
+        return {"clock": clock, "lanes": shown}
+
+    def repeat(self, car: int, command: Command) -> None:
+        """Takes a car out and enters its vehicle anew, as the run did at this clock."""
+        for reply in map(read_reply, self.exchange([line_of({"cmd": "takeout", "car": car}), line_of(command)])):
+            if isinstance(reply, Refused):
+                raise Fault(f"{self.run.path}: a rescue that is repeated was refused: {reply}")
+        self.owners.append(self.owners[car])
+
+
+def windows(made: Recorded, clocks: Sequence[int], lanes: Sequence[Place]) -> list[Sequence[int]]:
+    """Clocks in parts, each of which one run that repeats it can look at, by the calls that it takes."""
+    run = made.run
+    with made.serving() as sim:
+        most = made.settings.calls or sim.calls
+    if not most:
+        return [clocks]
+    other = len(run.enters) + 2 + len(run.first) + len(run.timed) + 2 * len(made.records.rescued) + SLACK
+    other += (clocks[-1] - run.start()) // limits.STEPS if clocks else 0
+    room = (most - other) // (len(lanes) + 2)
+    if room < 1:
+        told = f"too few to look at {len(lanes):,} lanes in a run that repeats this one"
+        raise Fault(f"{run.path}: the program takes {most:,} calls, {told}")
+    return [clocks[at : at + room] for at in range(0, len(clocks), room)]
+
+
+def watch(made: Recorded, clocks: Sequence[int], lanes: Sequence[Place]) -> Iterator[Frame]:
+    """Yields the frames of the clocks, in order. Runs go side by side, and each writes what it sees to a file, which is
+    removed when it is read."""
+
+    def look(part: tuple[int, Sequence[int]], _tell: object) -> str:
+        place, clocks = part
+        path = f"{made.folder}/watched-{place}.jsonl"
+        with made.serving() as sim, open_text(path, "w") as file:
+            watcher = Watcher(sim, made.run, made.mapping, made.settings)
+            for frame in watcher.look(made.records.rescued, clocks, lanes):
+                file.write(json.dumps(frame, separators=(",", ":")) + "\n")
+        return path
+
+    for path in side_by_side(look, list(enumerate(windows(made, clocks, lanes))), made.jobs):
+        with open_text(path) as file:
+            yield from map(json.loads, file)
+        os.remove(path)

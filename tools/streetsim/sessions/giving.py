@@ -1,0 +1,113 @@
+"""Giving way without a light in studies and searches: rounds are made where a run is done,
+with its signals and its seed."""
+import json
+from collections.abc import Iterator
+from dataclasses import replace
+from functools import partial
+
+from streetsim.base.client import most_calls
+from streetsim.base.files import Fault
+from streetsim.base.serving import serving
+from streetsim.model.mapping import Map
+from streetsim.model.runs import Line, Run, with_load
+from streetsim.model.sources import digest_of
+from streetsim.run.rounds import Yielding, gaps_of, refuse_too_few_calls, with_lines
+from streetsim.run.settings import Settings
+from streetsim.sessions.open_end import outcome_of
+from streetsim.sessions.prepared import Giving, Outcome, Session, outcome, session_of
+from streetsim.works.closures import closures_of
+
+ADVICE = "with --rounds 0 nobody gives way"
+
+
+def giving_session(
+    program: str,
+    run: Run,
+    mapping: Map,
+    settings: Settings,
+    rounds: int,
+    without: frozenset = frozenset(),
+    **load: int,
+) -> Session:
+    """The session of a run whose vehicles give way by so many rounds; a Fault where the calls do not suffice for these.
+    settings: its end, whether that is open, whether vehicles merge before works by turns, and which lights detectors
+    drive."""
+    until = settings.until
+    session = session_of(program, run, until, without, **load)
+    gives_way = rounds and mapping.yields
+    if not (gives_way or settings.open_end or settings.lights.driven or closures_of(run, until)):
+        return session
+    try:
+        if gives_way:
+            asked = Settings(until, rescue=0, lights=settings.lights)
+            refuse_too_few_calls(run, mapping, asked, most_calls(program))
+    except Fault as fault:
+        raise Fault(f"{run.path}: {fault}: {ADVICE}") from None
+    ends = settings.open_end, settings.merging, settings.lights
+    return replace(session, giving=Giving(with_load(run, **load), mapping, until, without, rounds, *ends))
+
+
+def gaps(session: Session, signals: bytes, seed: int) -> tuple[list, Yielding]:
+    """The signal lines of a session's minor streets, (clock, line), for some signals of its lights and a seed."""
+    giving = session.giving
+    if giving is None:
+        return [], Yielding()
+    run = with_signals(with_load(giving.run, seed=seed), signals, giving.without)
+    serve = partial(serving, session.program, run.path)
+    try:
+        settings = Settings(giving.until, rescue=0, merging=giving.merging, lights=giving.lights)
+        return gaps_of(run, giving.mapping, settings, giving.rounds, serve, lambda *_: None)
+    except Fault as fault:
+        raise Fault(f"{fault}: {ADVICE}") from None
+
+
+def with_gaps(session: Session, lines: list) -> Session:
+    """The session with signal lines of minor streets, and no more rounds."""
+    giving = session.giving
+    assert giving is not None
+    made = session_of(session.program, with_lines(giving.run, lines), giving.until, giving.without)
+    return replace(made, digest=session.digest)
+
+
+def outcome_giving_way(session: Session, signals: bytes, seed: int) -> Outcome:
+    """What a run with some signals and a seed gave, after its rounds."""
+    if session.giving is None:
+        return outcome(session, signals, seed)
+    lines, yielding = gaps(session, signals, seed)
+    giving = session.giving
+    if giving.open_end or giving.lights.driven or closures_of(giving.run, giving.until):
+        found = open_outcome(session, lines, signals, seed)
+    else:
+        found = outcome(with_gaps(session, lines), signals, seed)
+    return replace(found, junctions=yielding.junctions, lines=yielding.lines)
+
+
+def open_outcome(session: Session, lines: list, signals: bytes, seed: int) -> Outcome:
+    """What a run gave that is asked while it goes, without a last second, with works or lights that detectors drive:
+    with signal lines of its minor streets."""
+    if digest_of(session.program) != session.digest:
+        raise Fault(f"{session.program}: another program than the one that the runs were prepared for, or none")
+    giving = session.giving
+    assert giving is not None
+    run = with_signals(with_load(giving.run, seed=seed), signals, giving.without)
+    settings = Settings(
+        giving.until,
+        every=0,
+        rescue=0,
+        open_end=giving.open_end,
+        merging=giving.merging,
+        lights=giving.lights,
+    )
+    return outcome_of(session.program, with_lines(run, lines), giving.mapping, settings)
+
+
+def with_signals(run: Run, signals: bytes, nodes: frozenset) -> Run:
+    """The run with signals in place of those of some nodes."""
+    kept = (line for line in run.first if not (line.command["cmd"] == "signal" and line.command["node"] in nodes))
+    return replace(run, first=[*kept, *lines_in(signals)])
+
+
+def lines_in(text: bytes) -> Iterator[Line]:
+    """The lines of some text, as those of no file."""
+    for line in text.decode().splitlines():
+        yield Line(0, line, json.loads(line))

@@ -1,0 +1,68 @@
+"""Runs of a study that are driven step by step: those without a last second, which go on until all have arrived, nobody
+moves, or the calls are spent, and those with works, before which vehicles merge."""
+import hashlib
+from typing import Any
+
+from streetsim.base.client import Client
+from streetsim.base.serving import serving
+from streetsim.model.mapping import Map
+from streetsim.model.runs import Run
+from streetsim.run.budget import MINUTE, Asking, Budget
+from streetsim.run.record import Recorder
+from streetsim.run.records import Records
+from streetsim.run.settings import Settings
+from streetsim.sessions.prepared import Outcome, all_gone
+from streetsim.works.watched import doubts_of
+
+
+class Summed(Client):
+    """A client that keeps the sum of all replies."""
+
+    def __init__(self, *words: Any, **more: Any) -> None:
+        super().__init__(*words, **more)
+        self.sum = hashlib.sha256()
+
+    def turn(self, chunk: list[bytes]) -> list[bytes]:
+        """As of any client; adds the replies to the sum."""
+        replies = super().turn(chunk)
+        for reply in replies:
+            self.sum.update(reply)
+        return replies
+
+
+class Counted(Recorder):
+    """A run whose vehicles are counted each minute and asked for at its end; nothing else is asked,
+    and nobody is rescued."""
+
+    def __init__(self, sim: Client, run: Run, mapping: Map, settings: Settings) -> None:
+        super().__init__(sim, run, mapping, settings, None, lambda *_: None)
+        self.budget = Budget(run, self.settings, (), (), ())
+
+    def record(self) -> Records:
+        """Makes the whole run."""
+        self.most = self.sim.calls
+        self.begin(Asking(0, False, [], 0))
+        clock = self.start
+        while clock < self.settings.until:
+            self.send_timed(clock)
+            clock = self.advance(clock, (clock // MINUTE + 1) * MINUTE)
+            self.look(clock)
+        self.find_ends()
+        return self.records
+
+
+def outcome_of(program: str, run: Run, mapping: Map, settings: Settings) -> Outcome:
+    """What a run gives. One that has not arrived counts until the end that the run had."""
+    with serving(program, run.path, client=Summed) as sim:
+        assert isinstance(sim, Summed)
+        records = Counted(sim, run, mapping, settings).record()
+        digest = sim.sum.hexdigest()
+    ends = [one.step + 1 if one and one.state == "arrived" and one.step is not None else None for one in records.ends]
+    seconds = sum(
+        max(0, (records.clock if end is None else end) - line.command["depart"])
+        for line, end in zip(run.enters, ends, strict=True)
+    )
+    arrived, gone = sum(end is not None for end in ends), all_gone(ends, run.start())
+    worst = max(records.censuses, key=lambda census: census.waiting)
+    at_works, waiting = tuple(doubts_of(records.works, mapping)), (worst.waiting, worst.clock)
+    return Outcome(digest, arrived, seconds, records.clock, *waiting, records.ended, gone=gone, at_works=at_works)

@@ -1,0 +1,201 @@
+"""Whole runs as prepared bytes: what the program is sent, and what is read from its replies.
+
+A session holds all of a run but its seed and its signals, so that runs of many plans cost little besides the program's
+own time. It carries no path but the program's: its functions run on any machine that has the program.
+"""
+from __future__ import annotations
+
+import hashlib
+import json
+import re
+import subprocess
+import tempfile
+from bisect import bisect_left
+from collections.abc import Collection, Iterable, Sequence
+from dataclasses import dataclass
+from itertools import pairwise
+from operator import itemgetter
+
+from streetsim.actuated.lights import LISTED, Lights
+from streetsim.base import limits
+from streetsim.base.client import most_calls
+from streetsim.base.files import Fault
+from streetsim.model.mapping import Map
+from streetsim.model.runs import Line, Run
+from streetsim.model.sources import digest_of
+
+INTERVALS = (10, 20, 30, 60, 120, 300, 600)  # seconds between counts; the first that the program's calls allow
+MINUTE = 60  # seconds between looks at who waits to enter, at least
+COUNT = b'{"cmd":"count"}\n'
+ARRIVED = re.compile(rb'"arrived":(\d+)')
+WAITING = re.compile(rb'"waiting":(\d+)')
+REFUSED = re.compile(rb'.*(?:"error":|"starved"|"short":).*')
+
+
+@dataclass(frozen=True, slots=True)
+class Session:
+    """A run but for its seed and its signals, as bytes."""
+
+    program: str
+    digest: str | None  # SHA-256 of the program's file
+    calls: int
+    opening: bytes  # the load, up to its seed
+    first: bytes  # what goes before the enters, but the signals
+    enters: bytes
+    departs: tuple[int, ...]  # of the vehicles that depart before the end
+    clocks: tuple[int, ...]  # at which vehicles are counted: the start and the end, and between
+    counting: bytes  # the steps, with counts
+    minutes: tuple[int, ...]  # at which it is looked who waits to enter: the start and the end, and between
+    asking: bytes  # the steps, with counts at these, and then a question for each of these vehicles
+    giving: Giving | None = None  # what rounds need by which vehicles give way without a light
+
+
+@dataclass(frozen=True, slots=True)
+class Outcome:
+    """What a run gave, asked for each vehicle; one that has not arrived counts until the end."""
+
+    digest: str  # SHA-256 of all replies
+    arrived: int
+    seconds: int  # of all vehicles, from the wished departure to the arrival
+    end: int  # the last clock
+    waiting: int  # vehicles that waited to enter, at the worst of the looks
+    waiting_at: int  # its clock
+    ended: str = ""  # why a run without a last second ended
+    junctions: int = 0  # without a light, at which vehicles give way
+    lines: int = 0  # signals by which they do
+    gone: int | None = None  # the clock at which all had arrived; none where some have not
+    at_works: tuple[str, ...] = ()  # what speaks against the run, by what was seen before its works
+
+
+def session_of(program: str, run: Run, until: int, without: Collection[int] = frozenset(), **load: int) -> Session:
+    """The session of a run up to a clock, without the signals of some nodes, and with other values of the load."""
+    command = {**run.load.command, **load}
+    command.pop("seed", None)
+    first = [line for line in run.first if not (line.command["cmd"] == "signal" and line.command["node"] in without)]
+    enters = [line for line in run.enters if line.command["depart"] < until]
+    timed = [(clock, line) for clock, line in run.timed if clock < until]
+    calls = most_calls(program) or limits.CALLS
+    left = calls - 2 * len(enters) - len(first) - len(without) - 2 * len(timed) - 2
+    clocks, minutes = counted_clocks(run, until, left), counted_clocks(run, until, left, MINUTE)
+    asks = b"".join(b'{"cmd":"vehicle","car":%d}\n' % car for car in range(len(enters)))
+    return Session(
+        program=program,
+        digest=digest_of(program),
+        calls=calls,
+        opening=json.dumps(command, separators=(",", ":")).encode()[:-1] + b',"seed":',
+        first=lines_of(first),
+        enters=lines_of(enters),
+        departs=tuple(line.command["depart"] for line in enters),
+        clocks=clocks,
+        counting=steps(clocks, timed, COUNT),
+        minutes=minutes,
+        asking=steps(minutes, timed, COUNT) + asks,
+    )
+
+
+def lines_of(lines: Iterable[Line]) -> bytes:
+    """Lines of a run as bytes."""
+    return "".join(line.text + "\n" for line in lines).encode()
+
+
+def counted_clocks(run: Run, until: int, calls: int, least: int = 0) -> tuple[int, ...]:
+    """The clocks at which vehicles are counted, as often as so many calls allow, with at least so many seconds between;
+    Fault where the calls allow none."""
+    start, timed = run.start(), {clock for clock, _ in run.timed if run.start() < clock < until}
+    for every in (seconds for seconds in INTERVALS if seconds >= least):
+        clocks = {*range(start, until, every), until}
+        if 2 * len(clocks) + len(timed - clocks) <= calls:
+            return tuple(sorted(clocks))
+    raise Fault(
+        f"{run.path}: a run of {len(run.enters):,} vehicles up to {until:,} s takes more calls than the program allows"
+    )
+
+
+def steps(clocks: Sequence[int], timed: Sequence[tuple[int, Line]], counted: bytes) -> bytes:
+    """The steps from clock to clock, what is sent meanwhile, and a line at each clock but the first."""
+    told, clocks = set(clocks), sorted({*clocks, *(clock for clock, _ in timed if clocks[0] < clock < clocks[-1])})
+    sent = {clock: b"" for clock in clocks}
+    for clock, line in timed:
+        sent[max(clock, clocks[0])] += line.text.encode() + b"\n"
+    parts = (
+        sent[begin] + b'{"cmd":"advance","steps":%d}\n' % (end - begin) + (counted if end in told else b"")
+        for begin, end in pairwise(clocks)
+    )
+    return b"".join(parts)
+
+
+def replies(session: Session, signals: bytes, seed: int, tail: bytes) -> bytes:
+    """What the program says to a whole run; Fault where it refuses a line, or is another program than the session's.
+    Files in place of pipes, so that nobody waits for the other side."""
+    if digest_of(session.program) != session.digest:
+        raise Fault(f"{session.program}: another program than the one that the runs were prepared for, or none")
+    with tempfile.TemporaryFile() as given, tempfile.TemporaryFile() as told:
+        given.writelines((session.opening, b"%d}\n" % seed, session.first, signals, session.enters, tail))
+        given.seek(0)
+        words = [session.program, "--calls", str(session.calls)]
+        done = subprocess.run(words, stdin=given, stdout=told, stderr=subprocess.PIPE, check=False)
+        told.seek(0)
+        text = told.read()
+    if done.returncode:
+        why = done.stderr.decode(errors="replace").strip()
+        raise Fault(f"the program ended with status {done.returncode}: {why or 'nothing on standard error'}")
+    if found := any(mark in text for mark in (b'"error":', b'"starved"', b'"short":')) and REFUSED.search(text):
+        number = text.count(b"\n", 0, found.start()) + 1
+        raise Fault(f"the program refused call {number:,} of a run: {found[0].decode(errors='replace')[:100]}")
+    return text
+
+
+def vehicle_seconds(session: Session, signals: bytes, seed: int) -> float:
+    """The seconds of all vehicles from the wished departure to the arrival or the end, of a run with some signals and a
+    seed: the area above the curve of arrivals. These are whole seconds, taken as spread evenly between two counts."""
+    text = replies(session, signals, seed, session.counting)
+    arrived = [0, *map(int, ARRIVED.findall(text))]
+    if len(arrived) != len(session.clocks):
+        raise Fault(f"{len(arrived) - 1:,} counts were answered, and {len(session.clocks) - 1:,} were asked for")
+    start, count = session.clocks[0], len(session.departs)
+    area = sum(
+        (later - clock) * (count - (here + there) / 2)
+        for (clock, later), (here, there) in zip(pairwise(session.clocks), pairwise(arrived), strict=True)
+    )
+    return area + 0.5 * arrived[-1] + count * start - sum(session.departs)
+
+
+def outcome(session: Session, signals: bytes, seed: int) -> Outcome:
+    """What a run with some signals and a seed gave, exactly."""
+    text = replies(session, signals, seed, session.asking)
+    count, until = len(session.departs), session.clocks[-1]
+    last = [json.loads(line) for line in text.splitlines()[-count:]] if count else []
+    ends = [one["step"] + 1 if one["state"] == "arrived" else None for one in last]
+    seconds = sum((until if end is None else end) - depart for end, depart in zip(ends, session.departs, strict=True))
+    arrived, digest = sum(end is not None for end in ends), hashlib.sha256(text).hexdigest()
+    waiting = most_waiting(session, map(int, WAITING.findall(text)))
+    return Outcome(digest, arrived, seconds, until, *waiting, gone=all_gone(ends, session.clocks[0]))
+
+
+def all_gone(ends: Sequence[int | None], start: int) -> int | None:
+    """When the last of all arrived, by the arrivals; none where one has not; the start where there is nobody."""
+    arrivals = [end for end in ends if end is not None]
+    return max(arrivals, default=start) if len(arrivals) == len(ends) else None
+
+
+def most_waiting(session: Session, counts: Iterable[int]) -> tuple[int, int]:
+    """How many vehicles waited to enter at the worst look, and its clock; counts: of all who wait,
+    also for their second."""
+    departs, clocks = sorted(session.departs), session.minutes[1:]
+    later = (len(departs) - bisect_left(departs, clock) for clock in clocks)
+    waiting = [count - others for count, others in zip(counts, later, strict=True)]
+    return max(zip(waiting, clocks, strict=True), key=itemgetter(0), default=(0, session.clocks[0]))
+
+
+@dataclass(frozen=True, slots=True)
+class Giving:
+    """What the rounds of a session need, but signals and seed."""
+
+    run: Run
+    mapping: Map
+    until: int
+    without: frozenset  # nodes whose signals are others
+    rounds: int
+    open_end: bool = False  # `until` is a first guess, and a run goes on until all have arrived or nobody moves
+    merging: bool = True  # by turns before works
+    lights: Lights = LISTED  # that detectors drive

@@ -1,0 +1,192 @@
+"""TraCI's calls as scenarios and `streetsim.traci` both have them, in metres, metres a second and seconds."""
+from collections.abc import Callable, Container, Sequence
+from typing import Any, Generic, TypeVar
+
+from streetsim.base import limits
+from streetsim.simulation.errors import NotHere
+from streetsim.simulation.fleet import NOWHERE, Place
+from streetsim.simulation.simulation import Simulation
+
+METRES, GAP = limits.CELL_METRES, limits.GAP_METRES
+Simulated = TypeVar("Simulated", bound=Simulation)
+
+
+class Calls(Generic[Simulated]):
+    """A domain of calls, as TraCI groups them. What is not here says what to do instead."""
+
+    name = ""
+
+    def __init__(self, now: Callable[[], Simulated]) -> None:
+        self.now = now  # the simulation
+
+    def __getattr__(self, call: str) -> Any:
+        if call.startswith("__"):
+            raise AttributeError(call)
+        called = f"{self.name}.{call}"
+        raise NotHere(f"{called} is not here: {self.advice(called)}")
+
+    def advice(self, called: str) -> str:
+        """What to do instead of a call that is not here."""
+        raise NotImplementedError
+
+    def check(self, name: str, names: Container[str]) -> None:
+        """Refuses a name that is not one of some; here all may be."""
+
+
+class SimulationCalls(Calls[Simulated]):
+    """What is told of the run."""
+    def getTime(self) -> float:
+        """The clock, in seconds."""
+        return float(self.now().clock)
+
+    def getMinExpectedNumber(self) -> int:
+        """Vehicles that have not ended."""
+        return self.now().expected()
+
+
+class VehicleCalls(Calls[Simulated]):
+    """What is told of a vehicle, by its place."""
+
+    def place(self, name: str) -> Place | None:
+        """Where a vehicle is; none before it departs and after its end."""
+        raise NotImplementedError
+
+    def place_on_lane(self, name: str) -> Place | None:
+        """Where a vehicle is, for what is told of its lane; none as `place`, or where its lane is not told."""
+        return self.place(name)
+
+    def known(self, name: str) -> Simulated:
+        """The simulation, where there is such a vehicle; refused elsewhere, as each face does."""
+        return self.now()
+
+    def getRoadID(self, name: str) -> str:
+        """The edge; in a junction ':' and its name; '' where it has no place."""
+        place, mapping = self.place(name), self.now().map
+        if place is None:
+            return ""
+        link = mapping.links[place.link]
+        return link.edge if place.cell is not None else f":{mapping.nodes[link.end][0]}"
+
+    def getLaneIndex(self, name: str) -> int:
+        """The lane's index in SUMO; TraCI's value for no number where it has no place."""
+        place = self.place_on_lane(name)
+        return int(NOWHERE) if place is None else self.now().map.links[place.link].lanes[place.lane]
+
+    def getLaneID(self, name: str) -> str:
+        """SUMO's name of the lane; in a junction ':', its name and '_0'; '' where it has no place."""
+        place = self.place_on_lane(name)
+        if place is None:
+            return ""
+        if place.cell is None:
+            return f"{self.getRoadID(name)}_0"
+        return self.now().map.lane_name(place.link, place.lane)
+
+    def getLanePosition(self, name: str) -> float:
+        """The front of the vehicle, in metres from the lane's begin; in a junction 0; TraCI's value for no number where
+        it has no place."""
+        place = self.place_on_lane(name)
+        if place is None:
+            return NOWHERE
+        return self.front(place) if place.cell is not None else 0.0
+
+    def front(self, place: Place) -> float:
+        """Metres from the link's begin to the vehicle's front; in a junction the whole link."""
+        link = self.now().map.links[place.link]
+        return (place.cell + 1) * link.metres / link.cells if place.cell is not None else link.metres
+
+    def getSpeed(self, name: str) -> float:
+        """Metres a second, of cells of 7.5 m; TraCI's value for no number where it has no place."""
+        place = self.place(name)
+        return NOWHERE if place is None else place.speed * METRES
+
+    def getLength(self, name: str) -> float:
+        """Metres of the vehicle: its cells without the gap ahead, 5 m for one cell, 12.5 m for two."""
+        return self.known(name).fleet.sizes.get(name, 1) * METRES - GAP
+
+    def getMinGap(self, name: str) -> float:
+        """Metres of the gap ahead of a vehicle that stands, which its cells hold."""
+        self.known(name)
+        return GAP
+
+    def getRoute(self, name: str) -> tuple[str, ...]:
+        """The edges of its plan, those that are driven included."""
+        simulation = self.known(name)
+        return simulation.edges(simulation.plan(name))
+
+
+class PlaceCalls(Calls[Simulated]):
+    """What is told of a place on the road, by the vehicles that are there."""
+
+    def cars(self, name: str) -> list[int]:
+        """Numbers of the vehicles there, from the stop line."""
+        raise NotImplementedError
+
+    def speeds(self, name: str) -> list[float]:
+        """Metres a second of those that are on cells."""
+        raise NotImplementedError
+
+    def speed_of_nobody(self, _name: str) -> float:
+        """The mean speed where there is nobody, metres a second."""
+        return -1.0
+
+    def getLastStepVehicleIDs(self, name: str) -> tuple[str, ...]:
+        """Names of the vehicles there, from the stop line."""
+        names = self.now().fleet.names
+        return tuple(names[car] for car in self.cars(name))
+
+    def getLastStepVehicleNumber(self, name: str) -> int:
+        return len(self.cars(name))
+
+    def getLastStepMeanSpeed(self, name: str) -> float:
+        """Metres a second, of those that are on cells; `speed_of_nobody` where none is."""
+        speeds = self.speeds(name)
+        return sum(speeds) / len(speeds) if speeds else self.speed_of_nobody(name)
+
+
+class StretchCalls(PlaceCalls[Simulated]):
+    """The same of a place with a length, on which vehicles can stand."""
+
+    def getLastStepHaltingNumber(self, name: str) -> int:
+        """How many on cells stand."""
+        return sum(not speed for speed in self.speeds(name))
+
+
+class LaneCalls(StretchCalls[Simulated]):
+    """The same of lanes, which can be closed."""
+
+    def getIDList(self) -> tuple[str, ...]:
+        """The lanes that the import kept; those inside junctions are none here."""
+        return tuple(self.now().lane_of)
+
+    def places(self, name: str) -> list[tuple[int, int]]:
+        """Its (link, lane), or those of all its lanes."""
+        self.check(name, self.now().lane_of)
+        return [self.now().lane_of[name]]
+
+    def getLastStepVehicleIDs(self, name: str) -> tuple[str, ...]:
+        """Vehicles, the rearmost first."""
+        return super().getLastStepVehicleIDs(name)[::-1]
+
+    def getLength(self, name: str) -> float:
+        """Metres, as SUMO has them."""
+        return self.now().map.links[self.places(name)[0][0]].metres
+
+    def setDisallowed(self, name: str, classes: str | Sequence[str]) -> None:
+        """Closes the lane where the classes of the import (or all) are disallowed."""
+        told = {classes} if isinstance(classes, str) else set(classes)
+        lanes = [self.now().map.lane_name(*place) for place in self.places(name)]
+        if "all" in told or set(self.now().map.options["classes"]) <= told:
+            for lane in lanes:
+                self.close(lane)
+
+    def close(self, lane: str) -> None:
+        """Closes a lane, by SUMO's name, whole."""
+        self.now().close_lane(lane)
+
+    def setAllowed(self, name: str, classes: str | Sequence[str]) -> None:
+        """Opens the lane again where one of the classes of the import (or all, or none named) is allowed."""
+        told = {classes} if isinstance(classes, str) else set(classes)
+        lanes = [self.now().map.lane_name(*place) for place in self.places(name)]
+        if not told or "all" in told or set(self.now().map.options["classes"]) & told:
+            for lane in lanes:
+                self.now().reopen_lane(lane)

@@ -1,0 +1,55 @@
+"""How the links of a map lead to each other."""
+from collections import defaultdict
+from collections.abc import Collection, Sequence
+from functools import cached_property
+
+from streetsim.model.mapping import Map, MapTurn
+
+
+class Connections:
+    """The turns of a map, by the link from which they lead."""
+
+    def __init__(self, mapping: Map) -> None:
+        self.map = mapping
+
+    @cached_property
+    def by_link(self) -> dict[int, list[MapTurn]]:
+        """The turns from each link."""
+        found: defaultdict[int, list[MapTurn]] = defaultdict(list)
+        for turn in self.map.turns:
+            found[turn.link].append(turn)
+        return dict(found)
+
+    def to(self, link: int, following: int) -> list[MapTurn]:
+        """The turns from a link to a next one."""
+        return [turn for turn in self.by_link.get(link, ()) if turn.next == following]
+
+    def plan(self, edges: Sequence[str]) -> tuple[int, ...]:
+        """Links along edges, each with a turn to the next; ValueError where there are none, or the map lacks an
+        edge."""
+        if unknown := [edge for edge in edges if edge not in self.map.links_of]:
+            raise ValueError(f"the map has no edge {unknown[0]!r}")
+        plans: dict[int, tuple[int, ...]]
+        plans = {link: (link,) for link in self.map.links_of[edges[0]]} if edges else {}
+        for edge in edges[1:]:
+            ways = [(plan, link) for link in self.map.links_of[edge] for plan in plans.values()]
+            plans = {link: (*plan, link) for plan, link in ways if self.to(plan[-1], link)}
+        if not plans:
+            raise ValueError(f"no way along {' '.join(edges)}")
+        return next(iter(plans.values()))
+
+    def departure_lane(self, plan: Sequence[int]) -> int:
+        """The first lane of a plan's first link from which it can be driven; 0 where no lane leads on."""
+        return next((turn.lane for turn in self.to(*plan[:2])), 0) if len(plan) > 1 else 0
+
+    def next_lane(self, link: int, lane: int | None, following: int) -> int:
+        """The lane of a next link to which a turn leads: from a lane (none: any) if it leads there, else from any of
+        the link's; 0 where none leads there."""
+        found = self.to(link, following)
+        return next((turn.next_lane for turn in found if turn.lane == lane), found[0].next_lane if found else 0)
+
+    def turn_at_light(self, link: int, lane: int | None, following: int, lights: Collection[str]) -> MapTurn | None:
+        """A turn to a next link that one of some lights controls, from a lane (none: any) where one leads there; none
+        where none does."""
+        found = [turn for turn in self.to(link, following) if turn.light in lights]
+        return next((turn for turn in found if turn.lane == lane), found[0] if found else None)

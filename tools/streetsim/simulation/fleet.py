@@ -1,0 +1,41 @@
+"""The vehicles of a simulation by SUMO's names, and where one is."""
+from collections.abc import Sequence
+from dataclasses import dataclass, field
+
+from streetsim.model.runs import Command
+
+NOWHERE = -1073741824.0  # TraCI's value for a place that is not known
+
+
+@dataclass(slots=True)
+class Place:
+    """Where a vehicle is; no cell in a junction."""
+
+    link: int
+    lane: int
+    cell: int | None
+    speed: int  # cells a step
+
+    @property
+    def front(self) -> int:
+        """The cell of its front, of one that is on cells."""
+        assert self.cell is not None
+        return self.cell
+
+
+@dataclass(slots=True)
+class Fleet:
+    """What the program was told of vehicles. One that was taken out and entered anew has the last of its numbers."""
+
+    cars: dict[str, int] = field(default_factory=dict)  # by name: number
+    names: dict[int, str] = field(default_factory=dict)  # by number
+    plans: dict[str, tuple[int, ...]] = field(default_factory=dict)  # by name: links, those that are driven included
+    sizes: dict[str, int] = field(default_factory=dict)  # by name: cells
+    starts: dict[int, tuple[int, int]] = field(default_factory=dict)  # by number: (link, lane) on which it departs
+
+    def note(self, name: str, car: int, command: Command, driven: Sequence[int] = ()) -> None:
+        """Notes a vehicle that the program was told of by an enter command; driven: the links behind it, of one that
+        was taken out."""
+        plan = command["plan"]
+        self.cars[name], self.names[car], self.starts[car] = car, name, (plan[0], command["lane"])
+        self.plans[name], self.sizes[name] = (*driven, *plan), command.get("size", 1)

@@ -1,0 +1,41 @@
+"""The metres that SUMO's lanes inside junctions have. Nobody drives them here; distances count them, as SUMO's do."""
+from collections.abc import Sequence
+from itertools import pairwise
+
+from streetsim.model.mapping import Map
+from streetsim.simulation.street_facts import Facts
+
+
+class Inside:
+    """Of a run's links, by the connections of the network's file."""
+
+    def __init__(self, mapping: Map, facts: Facts) -> None:
+        self.map, self.facts = mapping, facts
+        self.known: dict[tuple[int, int | None, int], float] = {}  # by link, lane and next link
+
+    def metres(self, link: int, lane: int | None, following: int) -> float:
+        """Metres in the junction from a link's end to the begin of a next one: from a lane (none: any) if it leads
+        there, else from any of the link's; 0 where no connection is known."""
+        way = link, lane, following
+        if way not in self.known:
+            self.known[way] = self.between(*way)
+        return self.known[way]
+
+    def between(self, link: int, lane: int | None, following: int) -> float:
+        """As `metres`, looked for among the connections of the link."""
+        target = self.map.links[following]
+        wanted = {f"{target.edge}_{index}" for index in target.lanes}
+        lanes = [self.map.lane_name(link, each) for each in range(len(self.map.links[link].lanes))]
+        names = lanes if lane is None else [lanes[lane], *lanes]
+        ways = [
+            one
+            for name in names
+            for one in self.facts.lanes[name].links
+            if one.target.rpartition("_")[0] == target.edge
+        ]
+        found = next((one for one in ways if one.target in wanted), ways[0] if ways else None)
+        return 0.0 if found is None else self.facts.metres_inside(found.via)
+
+    def along(self, links: Sequence[int]) -> float:
+        """Metres in all junctions on a way."""
+        return sum(self.metres(link, None, following) for link, following in pairwise(links))

@@ -1,0 +1,149 @@
+"""The lights of a session under a script."""
+from collections.abc import Sequence
+from dataclasses import dataclass, field
+
+from streetsim.simulation.errors import TraCIException
+from streetsim.simulation.shown import CONSTANT
+from streetsim.simulation.simulation import Simulation
+from streetsim.sumo.yielding import PERMISSIVE
+
+STATES = "rRyYgGsSuUoO"
+
+Phases = list[tuple[float, str]]
+Link = tuple[str, str, str] | None  # lane, next lane, lane inside the junction
+
+
+@dataclass(slots=True)
+class Light:
+    """What a light shows: phases of (seconds, state) over and over, of which the first began at a clock."""
+
+    phases: Phases
+    begin: float
+    program: str
+    links: list[Link] = field(default_factory=list)  # of each connection, by index
+    states: int = 0  # how many letters a state has
+    names: list[str] = field(default_factory=list)  # of the phases
+    # Those that can be chosen: phases and their names.
+    programs: dict[str, tuple[Phases, list[str]]] = field(default_factory=dict)
+
+    def at(self, clock: float) -> tuple[int, float]:
+        """The index of the phase at a clock, and the seconds that are left of it."""
+        place = (clock - self.begin) % sum(duration for duration, _ in self.phases)
+        for index, (duration, _) in enumerate(self.phases):
+            if place < duration:
+                return index, duration - place
+            place -= duration
+        return 0, self.phases[0][0]
+
+    def starts(self, index: int) -> float:
+        """When a phase begins, in seconds from the first one's begin."""
+        return sum(duration for duration, _ in self.phases[:index])
+
+    def shown(self) -> Phases:
+        """The phases as they are sent; a state that is shown all the time is shown whole, also its permissive greens.
+        """
+        alone = len(self.phases) == 1
+        return [(duration, state.replace("g", "G") if alone else state) for duration, state in self.phases]
+
+
+class Control:
+    """What each light shows, and the phases that a script has set to end at a clock."""
+
+    def __init__(self, simulation: Simulation, lights: dict[str, Light]) -> None:
+        self.simulation, self.lights = simulation, lights
+        self.timers: list[tuple[int, str, int]] = []  # (clock, light, index): the phase that begins then
+
+    def light(self, name: str) -> Light:
+        """A light by its name; TraCIException where there is none."""
+        if name not in self.lights:
+            raise TraCIException(f"Traffic light '{name}' is not known")
+        return self.lights[name]
+
+    def state(self, name: str) -> str:
+        """What a light shows now, a letter for each signal."""
+        light = self.lights[name]
+        return light.phases[light.at(self.simulation.clock)[0]][1]
+
+    def show_due(self) -> None:
+        """Ends the phases that are to end at the clock."""
+        for clock, light, index in [timer for timer in self.timers if timer[0] <= self.simulation.clock]:
+            self.timers.remove((clock, light, index))
+            self.show_phase(light, index)
+
+    def show_phase(self, name: str, index: int) -> None:
+        """Goes on with a phase of the light's program, from its begin."""
+        light = self.light(name)
+        light.begin = self.simulation.clock - light.starts(index)
+        self.show_cycle(name)
+
+    def show_cycle(self, name: str) -> None:
+        """Shows the light's program from its begin on."""
+        light = self.light(name)
+        self.show(name, light.shown(), light.begin)
+
+    def show_program(self, name: str, phases: Phases, index: int, program: str, names: Sequence[str] = ()) -> None:
+        """Shows other phases, (seconds, state), from the begin of one of them (index); names: of the phases."""
+        light = self.light(name)
+        check_phases(name, phases, light.states)
+        check_index(name, phases, index)
+        light.phases, light.program, light.names = list(phases), program, list(names)
+        self.go_to(name, index)
+
+    def go_to(self, name: str, index: int) -> None:
+        """Goes on with a phase that a script names, and forgets when the present one was to end."""
+        check_index(name, self.light(name).phases, index)
+        self.end_timers(name)
+        self.show_phase(name, index)
+
+    def end_timers(self, name: str) -> None:
+        """Forgets when a phase of a light was to end."""
+        self.timers = [timer for timer in self.timers if timer[1] != name]
+
+    def end_phase(self, name: str, clock: int) -> None:
+        """Shows the present phase until a clock, and then the next one."""
+        light = self.light(name)
+        index, _ = light.at(self.simulation.clock)
+        self.end_timers(name)
+        self.timers.append((clock, name, (index + 1) % len(light.phases)))
+        self.show(name, [(CONSTANT, light.phases[index][1].replace("g", "G"))], 0)
+
+    def hold(self, name: str, state: str, program: str = "online") -> None:
+        """Shows a state until the next is set."""
+        check_state(name, state, self.light(name).states)
+        self.show_program(name, [(CONSTANT, state)], 0, program)
+
+    def resume(self, name: str, node: int) -> None:
+        """Goes on, at a node, with a program that is sent phase by phase, of which the present phase was sent."""
+        light = self.light(name)
+        offset = light.begin % light.starts(len(light.phases))
+        self.simulation.shown.resume(name, light.shown(), offset, self.simulation.clock, node)
+
+    def show(self, name: str, phases: Phases, begin: float) -> None:
+        """Sends a cycle of phases, (seconds, state), of which the first began at a clock."""
+        if len(phases) == 1 and phases[0][0] == CONSTANT and not set(phases[0][1]) & set(PERMISSIVE):
+            self.simulation.show(self.simulation.shown.constant(name, phases[0][1], begin))
+        else:
+            self.simulation.show_program(name, phases, begin % sum(duration for duration, _ in phases))
+
+
+def check_state(name: str, state: str, length: int) -> None:
+    """Refuses letters that are no state of a signal, and a state of another length."""
+    wrong = [letter for letter in state if letter not in STATES]
+    if wrong:
+        raise TraCIException(f"Traffic light '{name}': {wrong[0]!r} is no state of a signal")
+    if len(state) != length:
+        raise TraCIException(f"Traffic light '{name}' has {length} signals, the state {state!r} has {len(state)}")
+
+
+def check_phases(name: str, phases: Sequence[tuple[float, str]], length: int) -> None:
+    """Refuses phases, (seconds, state), with such states, or that last no time."""
+    for duration, state in phases:
+        check_state(name, state, length)
+        if not duration > 0:
+            raise TraCIException(f"Traffic light '{name}': a phase of {duration} s")
+
+
+def check_index(name: str, phases: Phases, index: int) -> None:
+    """Refuses a phase that there is not."""
+    if not 0 <= index < len(phases):
+        raise TraCIException(f"Traffic light '{name}' has no phase {index}")

@@ -1,0 +1,116 @@
+"""The words of SUMO's command line: what is done by them here, what they do not change here, and what is refused."""
+import re
+from collections.abc import Mapping
+
+from streetsim.base.files import Fault
+from streetsim.base.words import FALSE, MOST_ROUNDS
+from streetsim.sumo.configuration import NOWHERE, OUTPUT, SILENT, SYNONYMS, is_one, read_configuration
+from streetsim.simulation.errors import FatalTraCIError
+from streetsim.simulation.writing import SERVED
+
+SHORT = {
+    "-c": "configuration-file", "-n": "net-file", "-r": "route-files", "-a": "additional-files", "-b": "begin",
+    "-e": "end", "-v": "verbose", "-W": "no-warnings", "-l": "log", "-t": "duration-log.statistics",
+    "-w": "weight-files", "-x": "weight-attribute", "-H": "human-readable-time", "-s": "route-steps",
+    "-X": "xml-validation", "-S": "start", "-g": "gui-settings-file", "-Q": "quit-on-end", "-G": "game", "-d": "delay",
+    "-B": "breakpoints", "-D": "demo", "-T": "disable-textures", "-C": "save-configuration",
+}
+INPUTS = {
+    "configuration-file", "net-file", "route-files", "additional-files", "step-length", "time-to-teleport",
+    "output-prefix", "rounds", "ignore-route-errors", "merge",
+}
+LOGS = ("log", "message-log", "error-log")  # files that get what the import says
+IMPORTED = {
+    "seed", "begin", "classes", "joint", "turns", "sizes", "dawdle", "change", "zone", "residence", "buffer",
+    "permissive",
+}
+# What would change the demand or the start of a run.
+REFUSED = {
+    "scale": "make the routes of the demand that is wanted",
+    "load-state": "a run repeats exactly: start it again and step to the time",
+    "mesosim": "there are no queues of the mesoscopic model here",
+    "random": "give a --seed",
+}
+# SUMO's further options and their families.
+KNOWN = re.compile(
+    r"weight.*|load-state\..*|junction-taz|(netstate-dump|save-state|[\w-]+-output)\..*|step-method\.ballistic"
+    r"|extrapolate-departpos|lateral-resolution|no-internal-links|ignore-.*|collision\..*|max-.*|scale-suffix"
+    r"|time-to-(teleport\..*|impatience)|startup-wait-threshold|(sloppy|eager|emergency)-insert|random-depart-offset"
+    r"|lanechange\..*|tls\..*|railsignal.*|default\..*|overhead-wire\..*|emergencydecel\..*|parking\..*|use-stop-ended"
+    r"|pedestrian\..*|ride\..*|persontrip\..*|routing-algorithm|astar\..*|railway\..*|replay-rerouting"
+    r"|(person-)?device\..*|emissions\..*|phemlight-.*|meso-.*|duration-log\.statistics"
+)
+
+
+def options_of(words: list[str]) -> dict[str, str]:
+    """SUMO's options by their long names, '' where a word has no value; those of a configuration stand behind those of
+    the words. FatalTraCIError for what SUMO does not know either."""
+    options, at = {}, 0
+    if words and not str(words[0]).startswith("-"):
+        options["configuration-file"], at = str(words[0]), 1
+    while at < len(words):
+        word, _, value = str(words[at]).partition("=")
+        at += 1
+        if not value and at < len(words) and is_value(str(words[at])):
+            value, at = str(words[at]), at + 1
+        options[name_of(word)] = value
+    if "configuration-file" in options:
+        try:
+            options = {**read_configuration(options["configuration-file"]), **options}
+        except Fault as fault:
+            raise FatalTraCIError(str(fault)) from None
+    for name, value in options.items():
+        check_option(name, value)
+    return options
+
+
+def is_value(word: str) -> bool:
+    """Whether a word is an option's value: no option itself, or a number below 0."""
+    return not word.startswith("-") or re.match(r"-[\d.]", word) is not None
+
+
+def name_of(word: str) -> str:
+    """The long name of an option; FatalTraCIError where a word is none."""
+    if not word.startswith("-") or word in ("-", "--"):
+        raise FatalTraCIError(f"{word!r} is no option: options begin with '--'")
+    if not word.startswith("--"):
+        if word not in SHORT:
+            raise FatalTraCIError(f"No option with the name '{word.removeprefix('-')}' exists.")
+        return SHORT[word]
+    name = word.removeprefix("--")
+    return SYNONYMS.get(name, name)
+
+
+def check_option(name: str, value: str) -> None:
+    """Refuses what cannot be done: unknown options, outputs, steps of another length, what changes the demand;
+    FatalTraCIError."""
+    on = value.lower() not in FALSE
+    if name == "step-length" and not is_one(value):
+        raise FatalTraCIError(f"--step-length {value}: steps are of one second")
+    if name == "rounds" and not (value.isdecimal() and int(value) <= MOST_ROUNDS):
+        raise FatalTraCIError(f"--rounds {value}: is not 0 to {MOST_ROUNDS}")
+    if name == "merge" and value not in ("turns", "none"):
+        raise FatalTraCIError(f"--merge {value}: is not turns or none")
+    if name in REFUSED and on and not (name == "scale" and is_one(value)):
+        raise FatalTraCIError(f"--{name} {value}: streetsim has nothing for it; {REFUSED[name]}")
+    if OUTPUT.fullmatch(name) and name not in SERVED and value not in NOWHERE and on:
+        told = ", ".join(f"--{served}" for served in SERVED)
+        raise FatalTraCIError(
+            f"--{name} {value}: not written here ({told} are); leave it out, or give --{name} /dev/null"
+        )
+    known = name in INPUTS or name in IMPORTED or name in REFUSED or name in LOGS
+    if not (known or OUTPUT.fullmatch(name) or SILENT.fullmatch(name) or KNOWN.fullmatch(name)):
+        raise FatalTraCIError(f"No option with the name '{name}' exists.")
+
+
+def warnings_of(options: Mapping[str, str]) -> list[str]:
+    """What is to be said of SUMO's options that are read and do nothing here."""
+    lacking = [
+        name for name in options if KNOWN.fullmatch(name) and not SILENT.fullmatch(name) and not OUTPUT.fullmatch(name)
+    ]
+    told = [f"--{name} {options[name]}".rstrip() + " has no effect here" for name in lacking if name not in IMPORTED]
+    if not options.get("time-to-teleport", "-1").startswith("-") and options["time-to-teleport"] != "0":
+        told.append(
+            f"--time-to-teleport {options['time-to-teleport']} has no effect here: nobody teleports under a script"
+        )
+    return told

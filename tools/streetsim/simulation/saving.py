@@ -1,0 +1,92 @@
+"""States of a session: the lines that brought it there, as a run repeats exactly, and what is known of it."""
+import json
+from typing import Any
+
+from streetsim.base.files import open_text, whole_file
+from streetsim.simulation.errors import TraCIException
+from streetsim.simulation.fleet import Place
+from streetsim.simulation.session import Session
+
+FORMAT = "streetsim state 2"
+State = dict[str, Any]
+TALLIED = ("waiting", "waited", "lost", "travelled")
+
+
+def save_state(session: Session, path: str) -> None:
+    """Writes what restores a session: its lines, vehicles and lights."""
+    session.follow()
+    session.let_go()
+    fleet, types, view, lights = session.fleet, session.types, session.view, session.control.lights.items()
+    state = {
+        **{"format": FORMAT, "load": session.source.load.text},
+        "lines": [line.decode() for line in session.client.changes],
+        **{"entered": session.entered, "sent": session.sent, "clock": session.clock},
+        **{"names": list(fleet.names.values()), "starts": list(fleet.starts.values())},
+        **{"cars": fleet.cars, "plans": fleet.plans, "sizes": fleet.sizes},
+        **{"kind_of": types.kind_of, "route_of": types.route_of},
+        **{name: list(getattr(session.tally, name).items()) for name in TALLIED},
+        **{"seen": sorted(view.seen), "gone": view.gone},
+        "held": [[car, [place.link, place.lane, place.speed]] for car, place in view.held.items()],
+        **{"wishes": session.wishes, "pending": [[car, *way] for car, way in session.pending.items()]},
+        "loops": {name: loop.last for name, loop in session.loops.items()},
+        "lights": {name: [one.phases, one.begin, one.program, one.names] for name, one in lights},
+        "timers": session.control.timers,
+        **{"forgotten": sorted(session.shown.forgotten), "coming": list(session.shown.coming)},
+    }
+    with whole_file(path) as file:
+        json.dump(state, file, separators=(",", ":"))
+
+
+def load_state(session: Session, path: str) -> None:
+    """Brings a session of the same files to a state that was written; TraCIException where it is of others, or output
+    files are being written."""
+    try:
+        with open_text(path) as file:
+            state = json.load(file)
+    except (OSError, ValueError) as fault:
+        raise TraCIException(f"{path}: cannot be read: {fault}") from None
+    if not isinstance(state, dict) or state.get("format") != FORMAT:
+        raise TraCIException(f"{path}: not a state that simulation.saveState of streetsim wrote")
+    if state["load"] != session.source.load.text:
+        raise TraCIException(f"{path}: a state of another network, or of other words")
+    if session.writer is not None:
+        raise TraCIException("simulation.loadState: output files are being written, which go on from second to second")
+    session.client.repeat([line.encode() for line in state["lines"]])
+    session.entered, session.sent, session.clock = state["entered"], state["sent"], state["clock"]
+    session.merges.links.clear()
+    for command in map(json.loads, state["lines"]):
+        session.merges.done(session.clock, command)
+    restore_vehicles(session, state)
+    restore_lights(session, state)
+    session.look_again()
+
+
+def restore_vehicles(session: Session, state: State) -> None:
+    """What is known of vehicles and loops."""
+    fleet, types, view = session.fleet, session.types, session.view
+    fleet.cars, fleet.sizes, fleet.names = state["cars"], state["sizes"], dict(enumerate(state["names"]))
+    fleet.plans = {name: tuple(links) for name, links in state["plans"].items()}
+    fleet.starts = {car: (link, lane) for car, (link, lane) in enumerate(state["starts"])}
+    types.kind_of, types.route_of = state["kind_of"], state["route_of"]
+    for name in TALLIED:
+        setattr(session.tally, name, {int(car): value for car, value in state[name]})
+    view.gone, view.seen = state["gone"], set(state["seen"])
+    view.held = {car: Place(link, lane, None, speed) for car, (link, lane, speed) in state["held"]}
+    session.wishes = {name: tuple(links) for name, links in state["wishes"].items()}
+    session.pending = {car: (link, tuple(links)) for car, link, links in state["pending"]}
+    for name, last in state["loops"].items():
+        session.loops[name].last = last
+
+
+def restore_lights(session: Session, state: State) -> None:
+    """What the lights show, and the phases that are to come."""
+    control, shown = session.control, session.shown
+    for name, (phases, begin, program, names) in state["lights"].items():
+        light = control.lights[name]
+        light.phases, light.begin, light.program = [(seconds, state) for seconds, state in phases], begin, program
+        light.names = list(names)
+    control.timers = [(clock, light, index) for clock, light, index in state["timers"]]
+    shown.forgotten, shown.coming = frozenset(state["forgotten"]), {}
+    for name, node in session.map.signals:
+        if node in state["coming"]:
+            control.resume(name, node)

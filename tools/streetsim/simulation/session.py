@@ -1,0 +1,221 @@
+"""A run under a script that asks what stands where after each step."""
+from collections.abc import Mapping, Sequence
+from pathlib import Path
+from typing import Self
+
+from streetsim.base import limits
+from streetsim.base.client import line_of
+from streetsim.model.mapping import read_map
+from streetsim.model.runs import read_run
+from streetsim.simulation.endless import Endless
+from streetsim.simulation.errors import FatalTraCIError, TraCIException
+from streetsim.simulation.fleet import Place
+from streetsim.simulation.inside import Inside
+from streetsim.simulation.lights import Control
+from streetsim.simulation.simulation import Simulation
+from streetsim.simulation.street_facts import Facts
+from streetsim.simulation.tally import Loop, Tally
+from streetsim.simulation.types import Types
+from streetsim.simulation.view import View
+from streetsim.simulation.ways import Ways
+from streetsim.simulation.writing import Writer
+
+
+class Session(Simulation):
+    """A simulation that is looked at after each step, from the first question on. Vehicles enter the program when they
+    depart, so that what waits for later is not told; its calls do not end."""
+
+    kind_of_client = Endless
+    client: Endless
+
+    def __init__(
+        self, folder: Path, facts: Facts, options: Mapping[str, str], rounds: int = 0, program: str | None = None
+    ) -> None:
+        """folder: has run.jsonl and map.json; options: of SUMO's command line; rounds: of the run, before, by which
+        vehicles of the file give way without a light."""
+        run, mapping, merging = read_run(folder / "run.jsonl"), read_map(folder / "map.json"), options.get("merge")
+        super().__init__(run, mapping, rounds, program, merging=merging != "none")
+        self.facts, self.options, self.inside = facts, options, Inside(self.map, facts)
+        self.detectors = {one.name: one for one in self.map.detectors}
+        self.loops = {name: Loop(one) for name, one in self.detectors.items() if one.kind == "e1"}
+        self.types, self.view, self.tally = Types(self.map), View(self), Tally()
+        self.control = Control(self, facts.lights_at({light for light, _ in self.map.signals}))
+        self.wishes: dict[str, tuple[int, ...]] = {}  # by name, the other plans of those that were not told
+        self.pending: dict[int, tuple[int, tuple[int, ...]]] = {}  # by number: a link, and other links after its end
+        self.entered = 0  # how many of the run's vehicles the program was told of
+        self.loaded: list[str] = []  # names of those that were told in the last step
+        self.followed = False  # whether each step is looked at
+        self.writer: Writer | None = None  # of SUMO's output files
+        self.ways: Ways | None = None  # what router gives
+
+    def refusal(self, line: bytes, reply: Exception) -> Exception:
+        """TraCI's error: the run cannot go on."""
+        return FatalTraCIError(f"streetsim refused {line[:60].decode()!r}: {reply}")
+
+    def write(self, paths: Mapping[str, str], period: int) -> None:
+        """From now on writes SUMO's output files, by kind; period: seconds of the rows of edgeData."""
+        self.writer = Writer(dict(paths), self.map, self.dawdle, period, self.clock)
+        self.follow()
+
+    def close(self) -> None:
+        """Ends the run; output files take their names."""
+        if self.writer is not None:
+            self.writer.close()
+        self.client.close()
+
+    # Steps
+
+    def go_on(self, target: int) -> None:
+        """One step where each is looked at, or where a phase is to end; else as many as may be told at once."""
+        alone = self.followed or self.control.timers
+        target = self.clock + 1 if alone else min(target, self.clock + limits.STEPS)
+        self.control.show_due()
+        self.enter_due(target)
+        self.view.before = self.view.places if self.view.asked else {}
+        self.advance(target)
+        self.view.clear()
+        if self.followed:
+            self.look()
+            if self.writer is not None:
+                self.writer.note(self.clock, self.view)
+            self.turn_off()
+
+    def follow(self) -> Self:
+        """Looks at each step from now on, and at this one.
+        Who departed before the first look is told by the place alone."""
+        if not self.view.asked:
+            self.look()
+            if not self.followed:
+                self.view.departed = [car for car in self.view.departed if self.view.has_just_departed(car)]
+        self.followed = True
+        return self
+
+    def look(self) -> None:
+        """What stands where, with a second more for those who stand."""
+        self.view.look()
+        self.tally.note(self.view, self.map, self.inside, self.dawdle)
+        self.note_loops()
+
+    def look_again(self) -> None:
+        """Looks after a state was loaded: nothing is known of the step before."""
+        seen, self.loaded = set(self.view.seen), []
+        self.view.before = {}
+        self.view.look()
+        self.view.seen, self.view.departed = seen | set(self.view.places), []
+        self.note_loops()
+
+    def note_loops(self) -> None:
+        """Notes who passed the induction loops since the last look."""
+        for loop in self.loops.values():
+            loop.note(self.view, self.clock)
+
+    def router(self) -> Ways:
+        """Shortest ways by what is known at the clock."""
+        self.follow()
+        if self.ways is None:
+            self.ways = Ways(self, self.inside, self.view)
+        return self.ways
+
+    # Vehicles
+
+    def enter_due(self, target: int) -> None:
+        """Tells the program of the file's vehicles that depart before a clock."""
+        enters, run, names = [], self.source, []
+        while self.entered < len(run.enters) and run.needed[self.entered] < target:
+            command = run.enters[self.entered].command
+            name = self.map.cars[self.entered] if self.entered < len(self.map.cars) else f"#{self.entered}"
+            self.entered += 1
+            if name in self.view.gone:
+                continue
+            self.refuse_second(name)
+            if plan := self.wishes.pop(name, None):
+                command = {**command, "plan": list(plan), "lane": self.connections.departure_lane(plan)}
+            enters.append(command)
+            names.append(name)
+        self.loaded = names
+        cars = self.send(map(line_of, enters))
+        for name, command, car in zip(names, enters, cars, strict=True):
+            self.fleet.note(name, car, command)
+            self.expect(name, command["depart"])
+
+    def add(self, name: str, plan: Sequence[int], depart: int, size: int) -> None:
+        """Adds a vehicle of a script: links, the clock of its departure, the cells that it takes."""
+        self.refuse_second(name)
+        self.enter(name, plan, self.connections.departure_lane(plan), depart, size)
+        self.loaded.append(name)
+        self.expect(name, depart)
+
+    def refuse_second(self, name: str) -> None:
+        """Refuses a name by which the program was told of a vehicle, also of one that has ended."""
+        if name in self.fleet.cars:
+            raise TraCIException(f"Vehicle '{name}' exists already.")
+
+    def expect(self, name: str, depart: int) -> None:
+        """Tells the output files of a vehicle that departs at a clock."""
+        if self.writer is not None:
+            self.writer.expect(self.fleet.cars[name], name, depart, self.types.name(name))
+
+    def remove(self, name: str) -> None:
+        """Takes out a vehicle that the program was told of."""
+        car = self.fleet.cars[name]
+        self.tell({"cmd": "takeout", "car": car})
+        self.view.remove(name, car)
+        self.pending.pop(car, None)
+
+    def expected(self) -> int:
+        """How many vehicles have not ended, those too that the program was not told of."""
+        return len(self.source.enters) - self.entered + super().expected()
+
+    def route(self, name: str) -> tuple[int, ...]:
+        """The links of a route of the files or of those that a script added; TraCIException where its edges do not lead
+        on."""
+        if name not in self.routes:
+            try:
+                return self.connections.plan(self.facts.routes[name])
+            except ValueError as fault:
+                raise TraCIException(f"Route '{name}': {fault}") from None
+        return self.routes[name]
+
+    # Other plans: a vehicle enters anew where its other way begins, and is the same one for all calls
+
+    def plan(self, name: str) -> tuple[int, ...]:
+        """The links of a vehicle's plan, also before it departs."""
+        if plan := self.fleet.plans.get(name) or self.wishes.get(name):
+            return plan
+        return tuple(self.source.enters[self.types.known[name]].command["plan"])
+
+    def replan(self, name: str, links: tuple[int, ...]) -> None:
+        """Has a vehicle go on along other links, of which the first is the one where it is or departs; who is on a link
+        takes the other way at the node behind it."""
+        car, plans = self.fleet.cars.get(name), self.fleet.plans
+        if car is None:
+            self.wishes[name] = links
+            return
+        place = self.follow().view.places.get(car)
+        if place is None:
+            self.turn(car, links)
+        else:
+            plans[name] = (*plans[name][: plans[name].index(place.link) + 1], *links[1:])
+            self.pending[car] = place.link, links[1:]
+            self.turn_off()
+
+    def turn_off(self) -> None:
+        """Those in a buffer who are to take another way behind it enter on the next link of that."""
+        for car, (link, links) in list(self.pending.items()):
+            place = self.view.places.get(car)
+            if place is None or place.link != link:
+                del self.pending[car]
+            elif place.cell is None and car not in self.view.held:
+                del self.pending[car]
+                self.turn(car, links, place)
+
+    def turn(self, car: int, links: Sequence[int], place: Place | None = None) -> None:
+        """Enters a vehicle anew, by its number, with another plan; place: the node where it is, if it has departed."""
+        name = self.fleet.names[car]
+        driven = self.fleet.plans[name][: -len(links)] if place is not None else ()
+        new = self.enter_anew(name, links, self.clock, driven)
+        if self.writer is not None:
+            self.writer.rename(car, new)
+        if place is not None:
+            self.view.rename(car, new, place)
+            self.tally.rename(car, new)

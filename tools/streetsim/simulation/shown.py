@@ -1,0 +1,108 @@
+"""What is shown at the nodes of lights: whole programs, and long ones phase by phase."""
+from collections.abc import Iterable, Iterator, Sequence
+
+from streetsim.base import limits
+from streetsim.base.report import Report
+from streetsim.model.mapping import Map, MapTurn
+from streetsim.simulation.fleet import Command
+from streetsim.sumo.net import Program
+from streetsim.sumo.signals import LitNode, TooLong, cycle_told, phase_lines, signal
+from streetsim.sumo.yielding import GREEN
+
+NOTHING: Command = {}
+CONSTANT = 600  # seconds of a phase that is shown until the next is set
+
+
+class Phases:
+    """The phases of a program that does not fit in one plan, of which each is sent at its clock."""
+
+    def __init__(self, own: LitNode, begin: int) -> None:
+        """own: the program at a node; begin: the clock from which on it is told."""
+        self.lines = phase_lines(own, begin)
+        self.clock, self.command = next(self.lines)
+
+    def due(self, clock: int) -> Iterator[Command]:
+        """The commands of the phases that have begun at a clock and were not told before."""
+        while self.clock <= clock:
+            yield self.command
+            self.clock, self.command = next(self.lines, (limits.CLOCK + 1, NOTHING))
+
+
+class Shown:
+    """The signals that hold at the nodes of a map's lights, and those of long programs that are to come."""
+
+    def __init__(self, mapping: Map, first: Iterable[Command]) -> None:
+        """first: commands of the file, of which some are signals."""
+        self.map = mapping
+        self.signals = {command["node"]: command for command in first if command["cmd"] == "signal"}  # by node
+        self.forgotten: frozenset[int] = frozenset()  # nodes for which lines of the file are no longer sent
+        self.coming: dict[int, Phases] = {}  # by node, of the programs that are sent phase by phase
+        self.known: dict[int, list[MapTurn]] = {}  # by node: what turns gives
+
+    def nodes(self, light: str) -> list[int]:
+        """The nodes of a light."""
+        return [node for name, node in self.map.signals if name == light]
+
+    def turns(self, node: int) -> list[MapTurn]:
+        """The turns at a node."""
+        if node not in self.known:
+            self.known[node] = [turn for turn in self.map.turns if self.map.links[turn.link].end == node]
+        return self.known[node]
+
+    def program(
+        self, light: str, phases: Sequence[tuple[float, str]], offset: float, clock: int
+    ) -> tuple[list[Command], list[str]]:
+        """The commands that show a cycle of (seconds, state), as a tlLogic has it with its offset, from a clock on, and
+        what there is to warn of; of permissive greens the usual share is shown, as flows are not known here."""
+        report, commands, coming = Report(), [], {}
+        for node in self.nodes(light):
+            own = self.own(light, node, phases, offset, report)
+            try:
+                commands.append(signal(own))
+            except TooLong:
+                report.warn(f"light {light!r}: {cycle_told(own)}; its phases are sent one by one")
+                coming[node] = Phases(own, clock)
+                commands += coming[node].due(clock)
+        self.forget(light)
+        self.coming |= coming
+        return commands, report.warnings
+
+    def own(self, light: str, node: int, phases: Sequence[tuple[float, str]], offset: float, report: Report) -> LitNode:
+        """A program at one node of a light, as lines are made of it."""
+        turns = [(turn.link, turn.lane, turn.next, turn) for turn in self.turns(node)]
+        edges = {link: self.map.links[link].edge for link, *_ in turns}
+        program = Program(offset, list(phases), "static")
+        return LitNode(node, turns, edges, light, program, self.map.options["permissive"], report)
+
+    def constant(self, light: str, state: str, begin: float) -> list[Command]:
+        """The commands that show a state without permissive greens until the next, in one phase from a clock on: no
+        second differs from another."""
+        self.forget(light)
+        commands = []
+        for node in self.nodes(light):
+            green = sorted(
+                [turn.link, turn.lane, turn.next]
+                for turn in self.turns(node)
+                if turn.light != light or state[turn.index] in GREEN
+            )
+            offset = round(-(begin % CONSTANT)) % CONSTANT
+            commands.append({"cmd": "signal", "node": node, "offset": offset, "phases": [[CONSTANT, green]]})
+        return commands
+
+    def resume(self, light: str, phases: Sequence[tuple[float, str]], offset: float, clock: int, node: int) -> None:
+        """Goes on with a program that is sent phase by phase, of which the present phase was sent."""
+        self.coming[node] = Phases(self.own(light, node, phases, offset, Report()), clock)
+        list(self.coming[node].due(clock))
+
+    def forget(self, light: str) -> None:
+        """Sends no more of what was to come for a light that a script sets."""
+        self.forgotten = self.forgotten | frozenset(self.nodes(light))
+        self.coming = {node: phases for node, phases in self.coming.items() if node not in self.forgotten}
+
+    def due(self, clock: int) -> list[Command]:
+        """The commands of the phases that begin at a clock."""
+        return [command for phases in self.coming.values() for command in phases.due(clock)]
+
+    def next_clock(self, target: int) -> int:
+        """The clock at which the next of the phases begins, at most a target."""
+        return min([target, *(phases.clock for phases in self.coming.values())])

@@ -1,0 +1,200 @@
+"""A run under SUMO's names."""
+from collections.abc import Iterable, Sequence
+from math import ceil
+from typing import Any
+
+from streetsim.base import limits
+from streetsim.base.client import Client, Short, Vehicle, line_of, read_reply
+from streetsim.model.mapping import Map
+from streetsim.model.runs import Run
+from streetsim.run.rounds import giving_way_to_scripts
+from streetsim.simulation.connections import Connections
+from streetsim.simulation.fleet import Command, Fleet
+from streetsim.simulation.shown import Shown
+from streetsim.works.merges import Merges
+
+
+class Simulation:
+    """A run of the program: its map, clock, vehicles, lanes and lights. The network and the first signals of its file
+    are told at once; of the vehicles each kind of simulation tells when it wants."""
+
+    kind_of_client: type[Client] = Client
+
+    def __init__(
+        self, source: Run, mapping: Map, rounds: int, program: str | None = None, workers: int = 1, merging: bool = True
+    ) -> None:  # fmt: skip
+        """Where vehicles of the file give way without a light, so many rounds of the run come first. merging: whether
+        vehicles merge before works by turns."""
+        self.source, self.map = source, mapping
+        self.clock, self.sent = source.start(), 0  # sent: how many of the file's timed lines
+        self.shown = Shown(mapping, (line.command for line in source.first))
+        self.fleet, self.connections = Fleet(), Connections(mapping)
+        self.lane_of = {mapping.lane_name(link, lane): (link, lane) for link, lane in mapping.lanes()}
+        self.routes: dict[str, tuple[int, ...]] = {}  # those that a script adds: links
+        self.source, self.yielding = giving_way_to_scripts(source, mapping, rounds, program, workers)
+        self.client = self.kind_of_client(program, workers)
+        joint = [number for number, link in enumerate(mapping.links) if len(link.lanes) == 2]
+        self.merges = Merges({number: mapping.links[number].cells for number in joint} if merging else {})
+        self.send(line.text.encode() + b"\n" for line in [self.source.load, *self.source.first])
+        for line in self.source.first:
+            self.merges.done(self.clock, line.command)
+
+    @property
+    def dawdle(self) -> float:
+        """The chance of slowing down, 0 to 1."""
+        return self.source.load.command.get("dawdle", 0) / 1000
+
+    # Lines
+
+    def send(self, lines: Iterable[bytes]) -> list[Any]:
+        """Sends lines of the run and gives their replies; raises what is refused."""
+        sent = list(lines)
+        replies = [read_reply(text) for text in self.client.exchange(sent)]
+        for line, reply in zip(sent, replies, strict=True):
+            if isinstance(reply, Exception):
+                raise self.refusal(line, reply)
+        return replies
+
+    def refusal(self, _line: bytes, reply: Exception) -> Exception:
+        """What is raised where a line is refused."""
+        return reply
+
+    def tell(self, command: Command) -> Any:
+        """The reply to one command."""
+        [reply] = self.send([line_of(command)])
+        return reply
+
+    # The clock
+
+    def step(self, time: float = 0) -> None:
+        """One step, or all steps until a time in seconds is reached; none where it is, as in SUMO."""
+        target = ceil(time) if time else self.clock + 1
+        while self.clock < target:
+            self.go_on(target)
+
+    def go_on(self, target: int) -> None:
+        """Makes at least one step, and none beyond a clock."""
+        self.advance(target)
+
+    def advance(self, target: int) -> None:
+        """Steps until a clock, with the lines of the file and the phases that are due on the way."""
+        while self.clock < target:
+            steps = min(limits.STEPS, self.send_timed(target) - self.clock)
+            merging = self.merges.next()
+            steps = steps if merging is None else max(1, min(steps, merging - self.clock))
+            reply = self.tell({"cmd": "advance", "steps": steps})
+            self.clock = reply.clock if isinstance(reply, Short) else reply
+            self.merge()
+
+    def send_timed(self, target: int) -> int:
+        """Sends the lines that are due; gives the clock at which the next one is, at most a target."""
+        due = []
+        while self.sent < len(self.source.timed) and self.source.timed[self.sent][0] <= self.clock:
+            line = self.source.timed[self.sent][1]
+            if line.command.get("node") not in self.shown.forgotten:
+                due += [*map(line_of, self.merges.before(line.command)), line.text.encode() + b"\n"]
+                self.merges.done(self.clock, line.command)
+            self.sent += 1
+        self.send(due)
+        self.show(self.shown.due(self.clock))
+        following = [clock for clock, _ in self.source.timed[self.sent : self.sent + 1]]
+        return self.shown.next_clock(min([target, *following]))
+
+    def show(self, commands: Sequence[Command]) -> None:
+        """Sends signal commands."""
+        self.send(map(line_of, commands))
+        self.shown.signals.update({command["node"]: command for command in commands})
+
+    def show_program(self, light: str, phases: Sequence[tuple[float, str]], offset: float) -> list[str]:
+        """Shows a cycle of (seconds, state) at a light from the next step on; gives what there is to warn of."""
+        commands, told = self.shown.program(light, phases, offset, self.clock)
+        self.show(commands)
+        return told
+
+    # Vehicles
+
+    def enter(
+        self, name: str, plan: Iterable[int], lane: int, depart: int, size: int = 1, driven: Sequence[int] = ()
+    ) -> int:
+        """Tells the program of a vehicle, or anew of one that was taken out after some links (driven); gives its
+        number. plan: links; lane: of the first; depart: clock; size: cells."""
+        command = {"cmd": "enter", "plan": list(plan), "lane": lane, "depart": depart}
+        command |= {"size": size} if size > 1 else {}
+        car = self.tell(command)
+        self.fleet.note(name, car, command, driven)
+        return car
+
+    def vehicles(self, cars: Iterable[int]) -> list[Vehicle]:
+        """Where vehicles of some numbers are."""
+        return self.send(line_of({"cmd": "vehicle", "car": car}) for car in cars)
+
+    def enter_anew(self, name: str, links: Sequence[int], depart: int, driven: Sequence[int] = ()) -> int:
+        """Takes a vehicle out, and enters it with another plan, after some links that it has driven; gives its new
+        number. Plans do not change in the program."""
+        self.tell({"cmd": "takeout", "car": self.fleet.cars[name]})
+        lane = self.connections.departure_lane(links)
+        return self.enter(name, links, lane, depart, self.fleet.sizes[name], driven)
+
+    def plan(self, name: str) -> Sequence[int]:
+        """The links of a vehicle's plan, those that are driven included."""
+        return self.fleet.plans[name]
+
+    def expected(self) -> int:
+        """How many vehicles, of those the program was told of, have not ended."""
+        census = self.client.count()
+        return census.admitted - census.arrived - census.taken
+
+    def edges(self, links: Iterable[int]) -> tuple[str, ...]:
+        """SUMO's names of the edges of links."""
+        return tuple(self.map.links[link].edge for link in links)
+
+    # Lanes
+
+    def lanes_on(self, edge: str) -> list[tuple[int, int]]:
+        """All (link, lane) of an edge."""
+        links = self.map.links
+        return [(link, lane) for link in self.map.links_of[edge] for lane in range(len(links[link].lanes))]
+
+    def close_lane(self, lane: str, begin: float = 0.0, end: float | None = None) -> None:
+        """Closes a lane, by SUMO's name, from one place to another (none: its end), in metres: road works. ValueError
+        beyond the lane."""
+        self.change_works({"cmd": "close", **self.works_place(lane, begin, end)})
+
+    def reopen_lane(self, lane: str, begin: float = 0.0, end: float | None = None) -> None:
+        """Opens a lane again, as `close_lane` closes it."""
+        self.change_works({"cmd": "reopen", **self.works_place(lane, begin, end)})
+
+    def change_works(self, command: Command) -> None:
+        """Closes or reopens, and has vehicles merge before what is closed."""
+        self.send(map(line_of, [*self.merges.before(command), command]))
+        self.merges.done(self.clock, command)
+
+    def merge(self) -> None:
+        """Looks at works, and sends what has vehicles merge."""
+        for link in self.merges.due(self.clock):
+            lanes = self.client.lane(link, 0), self.client.lane(link, 1)
+            self.send(map(line_of, self.merges.told(self.clock, link, lanes)))
+
+    def stop_merging(self) -> None:
+        """From now on who stands before works waits for a gap."""
+        self.let_go()
+        self.merges = Merges({})
+
+    def let_go(self) -> None:
+        """Opens what merging holds: nothing is closed but the works, until vehicles merge again."""
+        self.send(map(line_of, self.merges.end()))
+
+    def works_place(self, lane: str, begin: float, end: float | None) -> Command:
+        """The cells of works, as fields of a command; a lane takes the whole metre in which it ends, as streetsim-run
+        --close does. ValueError beyond the lane."""
+        number, index = self.lane_of[lane]
+        link = self.map.links[number]
+        last = link.metres if end is None else end
+        if begin >= link.metres:
+            raise ValueError(f"lane {lane!r} ends at {link.metres:g} m, before {begin:g} m")
+        if not 0 <= begin < last:
+            raise ValueError(f"lane {lane!r}: from {begin:g} m to {last:g} m there are no works")
+        if last > ceil(link.metres):
+            raise ValueError(f"lane {lane!r} ends at {link.metres:g} m, before {last:g} m")
+        cells = link.closed_between(begin, last)
+        return {"link": number, "lane": index, "first": cells[0], "last": cells[1]}

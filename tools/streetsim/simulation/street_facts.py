@@ -1,0 +1,169 @@
+"""What a network and its additional and route files tell, and a run's map does not: widths and classes of lanes,
+names of streets, connections, junctions, the programs of lights, routes by name."""
+from collections.abc import Container, Sequence
+from dataclasses import dataclass, field
+from xml.etree.ElementTree import Element
+
+from streetsim.base.files import attribute, elements, number, seconds
+from streetsim.sumo.configuration import NOWHERE
+from streetsim.simulation.lights import Light
+
+Point = tuple[float, float]
+WIDTH = 3.2  # metres of a lane, where a file has none
+INSIDE = "internal"  # the function of the edges in a junction
+WRITING = (
+    "edgeData", "laneData", "inductionLoop", "e1Detector", "laneAreaDetector", "e2Detector", "e3Detector",
+    "entryExitDetector",
+)
+
+
+@dataclass(slots=True)
+class Connection:
+    """A way from a lane to a next one, as SUMO's lane.getLinks has it."""
+
+    target: str  # the next lane
+    via: str  # the lane inside the junction
+    direction: str
+    state: str  # without a light
+    light: str
+    index: int
+
+
+@dataclass(slots=True)
+class LaneFacts:
+    """What a network's file says of a lane."""
+    speed: float  # metres a second
+    metres: float
+    width: float
+    allowed: tuple[str, ...]
+    disallowed: tuple[str, ...]
+    shape: tuple[Point, ...]
+    links: list[Connection] = field(default_factory=list)
+
+
+@dataclass(slots=True)
+class Junction:
+    """What a network's file says of a junction."""
+    place: Point
+    shape: tuple[Point, ...]  # closed
+
+
+@dataclass(slots=True)
+class Facts:
+    """What the files of a run say; lanes, edges and junctions by SUMO's names."""
+
+    lanes: dict[str, LaneFacts] = field(default_factory=dict)
+    inside: dict[str, float] = field(default_factory=dict)  # metres of the lanes inside junctions
+    # By lane inside a junction the next one there, where turns wait between.
+    onward: dict[str, str] = field(default_factory=dict)
+    streets: dict[str, str] = field(default_factory=dict)  # by edge
+    junctions: dict[str, Junction] = field(default_factory=dict)
+    lights: dict[str, Light] = field(default_factory=dict)
+    # By light and program: when its first phase begins.
+    offsets: dict[tuple[str, str], float] = field(default_factory=dict)
+    boundary: tuple[Point, Point] = ((0.0, 0.0), (0.0, 0.0))
+    routes: dict[str, tuple[str, ...]] = field(default_factory=dict)
+    edgedata: list[tuple[str, float]] = field(default_factory=list)  # file and period, as additional files ask for them
+    # Files of detectors and of further edgeData, which are not written.
+    unwritten: list[str] = field(default_factory=list)
+
+    def read_edge(self, path: str, element: Element) -> None:
+        """Takes the lanes of an edge, or the metres of those inside a junction."""
+        edge = attribute(path, element, "id")
+        for lane in element.iter("lane"):
+            name, metres = attribute(path, lane, "id"), attribute(path, lane, "length", number)
+            if element.get("function") == INSIDE:
+                self.inside[name] = metres
+                continue
+            allowed, disallowed = (tuple((lane.get(word) or "").split()) for word in ("allow", "disallow"))
+            speed, width = attribute(path, lane, "speed", number), number(lane.get("width") or str(WIDTH))
+            self.lanes[name] = LaneFacts(speed, metres, width, allowed, disallowed, points(lane.get("shape")))
+            self.streets[edge] = element.get("name") or ""
+
+    def read_connection(self, element: Element) -> None:
+        """Takes a way from a lane to a next one; one inside a junction leads on there."""
+        source, target = (
+            f"{element.get(edge)}_{element.get(lane)}" for edge, lane in (("from", "fromLane"), ("to", "toLane"))
+        )
+        via, direction, state, light = (element.get(name) or "" for name in ("via", "dir", "state", "tl"))
+        if source in self.inside and via:
+            self.onward[source] = via
+        if source in self.lanes:
+            index = int(element.get("linkIndex") or -1)
+            self.lanes[source].links.append(Connection(target, via, direction, state, light, index))
+
+    def metres_inside(self, via: str) -> float:
+        """Metres of a way through a junction that begins with a lane inside it."""
+        metres = self.inside.get(via, 0.0)
+        return metres + self.metres_inside(self.onward[via]) if via in self.onward else metres
+
+    def read_light(self, path: str, element: Element) -> None:
+        """Takes a program of a light. The last one is the one that runs; the others can be chosen."""
+        phases = [
+            (attribute(path, one, "duration", seconds), attribute(path, one, "state")) for one in element.iter("phase")
+        ]
+        if not phases:
+            return
+        names = [one.get("name") or "" for one in element.iter("phase")]
+        name, program = attribute(path, element, "id"), element.get("programID") or "0"
+        light = Light(phases, seconds(element.get("offset") or "0"), program, names=names)
+        self.offsets[name, program] = light.begin
+        light.programs = {**(self.lights[name].programs if name in self.lights else {}), program: (phases, names)}
+        self.lights[name] = light
+
+    def lights_at(self, names: Container[str]) -> dict[str, Light]:
+        """The lights of some names, each with its connections by index."""
+        links: dict[str, dict[int, tuple[str, str, str]]] = {}
+        for lane, fact in self.lanes.items():
+            for one in fact.links:
+                links.setdefault(one.light, {})[one.index] = (lane, one.target, one.via)
+        lights = {name: light for name, light in self.lights.items() if name in names}
+        for name, light in lights.items():
+            light.states = len(light.phases[0][1])
+            light.links = [links.get(name, {}).get(index) for index in range(light.states)]
+        return lights
+
+
+def points(text: str | None) -> tuple[Point, ...]:
+    """The points of a shape as a file has it; none of none."""
+    return tuple((float(x), float(y)) for x, y, *_ in (part.split(",") for part in (text or "").split()))
+
+
+def read_facts(net: str, additional: Sequence[str], routes: Sequence[str]) -> Facts:
+    """The facts of a network, its additional files and its route files."""
+    facts = Facts()
+    for path in (net, *additional):
+        for element in elements(path, None):
+            read_element(facts, path, element)
+    for path in (*additional, *routes):
+        for element in elements(path, None):
+            name = element.get("id")
+            if element.tag == "route" and name:
+                facts.routes[name] = tuple((element.get("edges") or "").split())
+    return facts
+
+
+def read_element(facts: Facts, path: str, element: Element) -> None:
+    """Takes what an element of a network or an additional file says."""
+    if element.tag == "edge":
+        facts.read_edge(path, element)
+    elif element.tag == "connection":
+        facts.read_connection(element)
+    elif element.tag == "junction" and element.get("type") != INSIDE:
+        place = attribute(path, element, "x", number), attribute(path, element, "y", number)
+        shape = points(element.get("shape"))
+        facts.junctions[attribute(path, element, "id")] = Junction(
+            place, shape if shape[:1] == shape[-1:] else (*shape, shape[0])
+        )
+    elif element.tag == "tlLogic":
+        facts.read_light(path, element)
+    elif element.tag == "location" and element.get("convBoundary"):
+        left, low, right, high = map(float, attribute(path, element, "convBoundary").split(","))
+        facts.boundary = (left, low), (right, high)
+    elif element.tag in WRITING and element.get("file", NOWHERE[0]) not in NOWHERE:
+        if element.tag == "edgeData" and not facts.edgedata:
+            facts.edgedata.append(
+                (attribute(path, element, "file"), seconds(element.get("period") or element.get("freq") or "0"))
+            )
+        else:
+            facts.unwritten.append(attribute(path, element, "file"))

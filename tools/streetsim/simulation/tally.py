@@ -1,0 +1,65 @@
+"""What is noted second by second: of vehicles how long they have stood and how far they have come; of loops who passed.
+"""
+from dataclasses import dataclass, field
+
+from streetsim.model.detectors import Detector
+from streetsim.model.mapping import Map
+from streetsim.simulation.inside import Inside
+from streetsim.simulation.view import View
+
+
+@dataclass(slots=True)
+class Tally:
+    """By the number of a vehicle, as long as it is looked at."""
+
+    waiting: dict[int, float] = field(default_factory=dict)  # seconds of standing, now
+    waited: dict[int, float] = field(default_factory=dict)  # and in all
+    lost: dict[int, float] = field(default_factory=dict)  # seconds
+    travelled: dict[int, float] = field(default_factory=dict)  # metres of the links and junctions behind it
+
+    def note(self, view: View, mapping: Map, inside: Inside, dawdle: float) -> None:
+        """Notes one second more, by a look; dawdle: a chance, 0 to 1."""
+        standing = [car for car, place in view.places.items() if not place.speed]
+        self.waiting = {car: self.waiting.get(car, 0) + 1 for car in standing}
+        for car in standing:
+            self.waited[car] = self.waited.get(car, 0) + 1
+        for car, place in view.places.items():
+            self.lost[car] = self.lost.get(car, 0.0) + 1 - place.speed / (mapping.links[place.link].limit - dawdle)
+            before = view.before.get(car)
+            if before is not None and before.link != place.link:
+                metres = mapping.links[before.link].metres + inside.metres(before.link, before.lane, place.link)
+                self.travelled[car] = self.travelled.get(car, 0.0) + metres
+
+    def rename(self, car: int, new: int) -> None:
+        """Notes that a vehicle has another number."""
+        for values in (self.waiting, self.waited, self.lost, self.travelled):
+            if car in values:
+                values[new] = values.pop(car)
+
+
+@dataclass(slots=True)
+class Loop:
+    """What an induction loop saw in the last step."""
+
+    detector: Detector
+    passed: list[int] = field(default_factory=list)  # vehicles that were on it
+    last: float = -1.0  # the clock at which one was last on it
+
+    def note(self, view: View, clock: int) -> None:
+        """Notes one second more, by a look at a clock."""
+        self.passed = [car for car in {**view.before, **view.places} if self.was_under(car, view)]
+        if self.passed:
+            self.last = float(clock)
+
+    def was_under(self, car: int, view: View) -> bool:
+        """Whether a vehicle stands on the loop, or drove over it in the last step."""
+        one, now, before = self.detector, view.places.get(car), view.before.get(car)
+        there = now is not None and (now.link, now.lane) == (one.link, one.lane) and now.cell is not None
+        here = now if there else None
+        if here and (here.cell == one.first or (here.front > one.first and before is None)):
+            return here.cell == one.first
+        if before is None or before.cell is None or before.link != one.link or before.cell > one.first:
+            return False
+        if now is not None and now.link == one.link and now.cell is not None:
+            return here is not None and here.front > one.first
+        return (now.lane if now is not None and now.link == one.link else before.lane) == one.lane

@@ -1,0 +1,38 @@
+"""The types and routes of vehicles, as SUMO's files and scripts name them."""
+from streetsim.base import limits
+from streetsim.model.mapping import Map
+from streetsim.sumo.types import DEFAULT, Kind
+
+
+class Types:
+    """By vehicle the type and the route, and what a type is."""
+
+    def __init__(self, mapping: Map) -> None:
+        self.of_file, self.sizes = mapping.kinds, mapping.options.get("sizes", True)
+        self.known = {name: at for at, name in enumerate(mapping.cars)}  # the vehicles of the run file: their place
+        self.kinds = {name: Kind(*rest) for name, *rest in self.of_file.get("types", ())} or {DEFAULT: Kind()}
+        self.kind_of: dict[str, str] = {}  # by name, of the vehicles that a script adds
+        self.route_of: dict[str, str] = {}  # by name, of those and of the ones that it sends another way
+
+    def name(self, vehicle: str) -> str:
+        """The name of a vehicle's type, the usual one where nobody says another."""
+        if vehicle in self.kind_of or vehicle not in self.known:
+            return self.kind_of.get(vehicle, DEFAULT)
+        places, at = self.of_file.get("type", ()), self.known[vehicle]
+        return self.of_file["types"][places[at]][0] if at < len(places) else DEFAULT
+
+    def kind(self, vehicle: str) -> Kind:
+        """A vehicle's type; SUMO's usual one where no file has it."""
+        return self.kinds.get(self.name(vehicle), Kind())
+
+    def cells(self, name: str) -> int:
+        """The cells that a vehicle of a type takes."""
+        metres = self.kinds[name].length + self.kinds[name].gap
+        return max(1, min(limits.SIZE, int(metres / limits.CELL_METRES + 0.5))) if self.sizes else 1
+
+    def route(self, vehicle: str) -> str:
+        """The name of a vehicle's route; '!' and the vehicle's name where the route has none, or was changed."""
+        if vehicle in self.route_of or vehicle not in self.known:
+            return self.route_of.get(vehicle, f"!{vehicle}")
+        named, at = self.of_file.get("route") or (), self.known[vehicle]
+        return (named[at] if at < len(named) else "") or f"!{vehicle}"

@@ -1,0 +1,92 @@
+"""What stands where in a simulation, as polls of all its lanes show it."""
+from collections.abc import Iterable
+
+from streetsim.base.client import Entries, Lane, line_of, read_reply
+from streetsim.run.desk import EMPTY
+from streetsim.simulation.errors import FatalTraCIError
+from streetsim.simulation.fleet import Place
+from streetsim.simulation.simulation import Simulation
+
+
+class View:
+    """The vehicles on the road at the clock of a look, and what has changed since the look before."""
+
+    def __init__(self, simulation: Simulation) -> None:
+        self.simulation = simulation
+        places = simulation.map.lanes()
+        self.polls = [(place, line_of({"cmd": "lane", "link": place[0], "lane": place[1]})) for place in places]
+        self.places: dict[int, Place] = {}  # by number, of those on their way at the clock
+        self.asked = False  # whether the places are those of the clock
+        self.on_lane: dict[tuple[int, int], list[int]] = {}  # by (link, lane): numbers, from the stop line
+        # By (link, lane): numbers of those in the junction behind it, first who is to leave it first.
+        self.in_buffer: dict[tuple[int, int], list[int]] = {}
+        # Of each lane where anybody is: (link, lane, cells, numbers in the buffer).
+        self.frame: list[tuple[int, int, Entries, list[int]]] = []
+        self.before: dict[int, Place] = {}  # the places a step earlier
+        self.held: dict[int, Place] = {}  # by number: the place of who enters anew there
+        self.seen: set[int] = set()
+        self.departed: list[int] = []  # in the last step
+        self.arrived: list[int] = []
+        self.gone: dict[str, int | None] = {}  # by name the step of its end
+
+    def clear(self) -> None:
+        """Forgets places, which are no longer those of the clock."""
+        self.places, self.asked = {}, False
+
+    def look(self) -> None:
+        """Notes what stands where at the clock, and what has changed since the last look."""
+        self.places, self.asked, self.on_lane, self.in_buffer, self.frame = {}, True, {}, {}, []
+        texts = self.simulation.client.exchange(line for _, line in self.polls)
+        for (place, _), text in zip(self.polls, texts, strict=True):
+            if text != EMPTY:
+                reply = read_reply(text)
+                if not isinstance(reply, Lane):
+                    raise FatalTraCIError(f"streetsim refused a poll of a lane: {reply}")
+                self.note_lane(place, reply)
+        self.note_held()
+        self.departed = [car for car in self.places if car not in self.seen]
+        self.seen.update(self.departed)
+        self.note_gone([car for car in self.before if car not in self.places])
+
+    def note_lane(self, place: tuple[int, int], reply: Lane) -> None:
+        """Takes the reply of a lane."""
+        self.places.update({car: Place(*place, cell, speed) for car, cell, speed, *_ in reply.cells})
+        self.places.update({car: Place(*place, None, speed) for car, speed, *_ in reply.buffer})
+        self.on_lane[place] = [entry[0] for entry in reply.cells]
+        self.in_buffer[place] = [entry[0] for entry in reply.buffer]
+        self.frame.append((*place, reply.cells, self.in_buffer[place]))
+
+    def note_held(self) -> None:
+        """Adds who was taken out at a node to go another way: there until seen on its next link."""
+        self.held = {car: place for car, place in self.held.items() if car not in self.places}
+        self.places.update(self.held)
+
+    def note_gone(self, cars: Iterable[int]) -> None:
+        """Takes what became of vehicles that are no longer seen."""
+        self.arrived = []
+        for reply in self.simulation.vehicles(cars):
+            self.gone[self.simulation.fleet.names[reply.car]] = reply.step
+            if reply.state == "arrived":
+                self.arrived.append(reply.car)
+
+    def has_just_departed(self, car: int) -> bool:
+        """Whether a vehicle stands where it departs."""
+        fleet, place = self.simulation.fleet, self.places[car]
+        return place.cell == 0 and not place.speed and place.link == fleet.plans[fleet.names[car]][0]
+
+    def waiting_to_depart(self) -> list[int]:
+        """Numbers of those that the program was told of and that have not departed."""
+        cars = self.simulation.fleet.cars
+        return [car for name, car in cars.items() if car not in self.seen and name not in self.gone]
+
+    def rename(self, car: int, new: int, place: Place) -> None:
+        """Notes that a vehicle at a node is held there under another number."""
+        self.seen.add(new)
+        self.places.pop(car)
+        self.places[new] = self.held[new] = Place(place.link, place.lane, None, 0)
+
+    def remove(self, name: str, car: int) -> None:
+        """Notes that a vehicle was taken out."""
+        self.gone[name] = self.simulation.clock
+        self.places.pop(car, None)
+        self.held.pop(car, None)

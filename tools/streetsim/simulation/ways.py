@@ -1,0 +1,77 @@
+"""Shortest ways in a simulation, by the travel times of now or by metres."""
+from array import array
+from operator import itemgetter
+
+from streetsim.base import limits
+from streetsim.simulation.errors import TraCIException
+from streetsim.simulation.inside import Inside
+from streetsim.simulation.simulation import Simulation
+from streetsim.simulation.view import View
+from streetsim.ways.costs import Costs, flat_costs
+from streetsim.ways.graph import END, Graph
+from streetsim.ways.router import Router
+
+SLOWEST = 0.1  # metres a second that an edge counts with where all stand, as in SUMO
+
+
+class Ways:
+    """Shortest ways over the links of a simulation's map, by the turns between them that its run has: it takes no more.
+    inside: the metres inside junctions; view: whose speeds give the seconds."""
+
+    def __init__(self, simulation: Simulation, inside: Inside, view: View) -> None:
+        self.simulation, self.map, self.inside, self.view = simulation, simulation.map, inside, view
+        names = {str(at): (str(link.begin), str(link.end)) for at, link in enumerate(self.map.links)}
+        self.graph = Graph(names, ((str(turn.link), str(turn.next)) for turn in self.map.turns), names)
+        self.adapted: dict[str, float] = {}  # seconds that a script has set, by edge
+        self.now: tuple[int, Router] | None = None  # by the travel times of a clock
+        self.by_metres: Router | None = None
+
+    def adapt(self, edge: str, seconds: float | None) -> None:
+        """Sets the seconds of an edge, or goes back to those of its traffic (none)."""
+        if seconds is None:
+            self.adapted.pop(edge, None)
+        else:
+            self.adapted[edge] = seconds
+        self.now = None
+
+    def way(self, origin: str, target: str) -> tuple[tuple[int, ...], float]:
+        """The links of the shortest way from an edge to another by travel times at the clock, and its seconds;
+        TraCIException where there is none."""
+        clock = self.simulation.clock
+        if self.now is None or self.now[0] != clock:
+            costs = {edge: self.seconds(edge) for edge in self.map.links_of}
+            of_link = [costs[link.edge] for link in self.map.links]
+            taken = flat_costs(self.graph, [of_link[link] for link, _ in self.graph.movements])
+            self.now = clock, Router(self.graph, taken)
+        return self.search(origin, target, self.now[1])
+
+    def metres(self, origin: str, target: str) -> float:
+        """The length of the shortest way, both edges whole, with the junctions between; TraCIException where there is
+        none."""
+        if self.by_metres is None:
+            links, inside = self.map.links, self.inside
+            inner = ((link, 0.0 if to == END else inside.metres(link, None, to)) for link, to in self.graph.movements)
+            costs: list[float | array] = [links[link].metres + metres for link, metres in inner]
+            self.by_metres = Router(self.graph, Costs(float("inf"), 1, costs))
+        return self.search(origin, target, self.by_metres)[1]
+
+    def search(self, origin: str, target: str, router: Router) -> tuple[tuple[int, ...], float]:
+        """The best way over the parallel links of both edges, and its cost; TraCIException where there is none."""
+        links_of = self.map.links_of
+        if unknown := [edge for edge in (origin, target) if edge not in links_of]:
+            raise TraCIException(f"Edge '{unknown[0]}' is not known.")
+        pairs = ((first, last) for last in links_of[target] for first in links_of[origin])
+        path, least = min((router.search(*pair, 0.0) for pair in pairs), key=itemgetter(1))
+        if not path:
+            raise TraCIException(f"No way from edge '{origin}' to edge '{target}'.")
+        return path, least
+
+    def seconds(self, edge: str) -> float:
+        """The seconds of an edge, at the mean speed of those on it, else at its limit; or as a script has set them."""
+        if edge in self.adapted:
+            return float(self.adapted[edge])
+        view, lanes = self.view, self.simulation.lanes_on(edge)
+        speeds = [view.places[car].speed * limits.CELL_METRES for lane in lanes for car in view.on_lane.get(lane, ())]
+        limit = self.inside.facts.lanes[self.map.lane_name(*lanes[0])].speed
+        mean = sum(speeds) / len(speeds) if speeds else limit
+        return self.map.links[lanes[0][0]].metres / max(SLOWEST, mean)

@@ -1,0 +1,31 @@
+"""SUMO's output files of a session, second by second."""
+from collections.abc import Sequence
+
+from streetsim.model.mapping import Map
+from streetsim.outputs.writing import Outputs
+from streetsim.simulation.view import View
+
+SERVED = {f"{kind}-output": kind for kind in ("tripinfo", "summary", "fcd", "queue")}
+
+
+class Writer(Outputs):
+    """Output files that are written while a script runs, and take their names when it closes the run."""
+
+    def __init__(self, paths: dict, mapping: Map, dawdle: float, period: int, start: int) -> None:
+        super().__init__(paths, mapping, dawdle, period, start)
+        self.first: dict[int, int] = {}  # the first number of a vehicle that entered anew
+
+    def rename(self, car: int, new: int) -> None:
+        """Notes that a vehicle has another number; the files go on with its first."""
+        self.first[new] = self.first.get(car, car)
+
+    def note(self, clock: int, view: View) -> None:
+        """Writes the second that ends at a clock, of which a look has shown what stood where."""
+        owner = self.first.get
+        lanes: list[Sequence]
+        lanes = [
+            [link, lane, [(owner(car, car), *rest) for car, *rest in cells], [owner(car, car) for car in buffer], []]
+            for link, lane, cells, buffer in view.frame
+        ]
+        lanes += [[place.link, place.lane, [], [owner(car, car)], []] for car, place in view.held.items()]
+        self.step(clock, lanes, [owner(car, car) for car in view.arrived])

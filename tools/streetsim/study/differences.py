@@ -1,0 +1,58 @@
+"""What the runs of a study differ by, and how sure that is."""
+from collections.abc import Iterator, Mapping, Sequence
+from statistics import fmean, stdev
+
+from streetsim.base.seeds import paired, runs_needed, unpaired
+from streetsim.model.tables import Entry
+from streetsim.sessions.prepared import Outcome
+from streetsim.study.variants import Study
+
+RUNS = (
+    *("variant", "seed", "arrived", "mean_trip_s", "total_s", "end_s", "ended", "waited_to_enter"),
+    *("junctions_giving_way", "signal_lines", "digest"),
+)
+DIFFERENCES = (
+    *("variant", "mean_trip_s", "difference", "half_width_95_paired", "half_width_95_unpaired", "runs"),
+    *("runs_needed_paired", "runs_needed_unpaired", "not_trusted"),
+)
+# Variant, mean, difference, half widths (paired, unpaired), runs, runs needed (paired, unpaired).
+Difference = tuple[str, float, float | None, float | None, float | None, int, int | None, int | None]
+
+
+def means_of(study: Study, results: Mapping[str, Sequence[Outcome]], name: str) -> list[float]:
+    """The mean trips of a variant, seconds, by seed."""
+    cars = len(study.variants[name].session.departs)
+    return [one.seconds / cars for one in results[name]]
+
+
+def run_rows(study: Study, results: Mapping[str, Sequence[Outcome]]) -> Iterator[Entry]:
+    """The rows of runs.csv."""
+    for name, outcomes in results.items():
+        for seed, one, mean in zip(study.seeds, outcomes, means_of(study, results, name), strict=True):
+            ends = one.seconds, one.end, one.ended.partition(": ")[2] or "until"
+            yield name, seed, one.arrived, f"{mean:.3f}", *ends, one.waiting, one.junctions, one.lines, one.digest
+
+
+def differences(study: Study, results: Mapping[str, Sequence[Outcome]], precision: float) -> list[Difference]:
+    """A row for each variant, to the base: mean trips of equal seeds (paired), and as if their seeds were others.
+    precision: percent of the base's mean trip, which runs are to reach."""
+    base = means_of(study, results, study.base)
+    error = fmean(base) * precision / 100
+    rows: list[Difference] = []
+    for name in study.variants:
+        means = means_of(study, results, name)
+        if name == study.base or len(means) < 2:
+            difference = None if name == study.base else fmean(means) - fmean(base)
+            rows.append((name, fmean(means), difference, None, None, len(means), None, None))
+            continue
+        difference, half = paired(base, means)
+        other = unpaired(base, means)
+        apart = [there - here for here, there in zip(base, means, strict=True)]
+        needed = runs_needed(stdev(apart), error), runs_needed((stdev(base) ** 2 + stdev(means) ** 2) ** 0.5, error)
+        rows.append((name, fmean(means), difference, half, other, len(means), *needed))
+    return rows
+
+
+def written(row: Entry) -> Entry:
+    """A row as texts; none is empty."""
+    return tuple("" if value is None else f"{value:.3f}" if isinstance(value, float) else value for value in row)

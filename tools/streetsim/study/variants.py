@@ -1,0 +1,214 @@
+"""The variants of a study, as its file says them."""
+import contextlib
+import os
+import sys
+import tomllib
+from collections.abc import Iterable, Iterator, Mapping
+from dataclasses import dataclass
+from functools import partial
+from typing import Any
+
+from streetsim.actuated.lights import LISTED, Lights, driven_lights
+from streetsim.base import limits
+from streetsim.base.client import most_calls
+from streetsim.base.files import Fault, Json, open_text, reading
+from streetsim.base.seeds import seeds_of
+from streetsim.base.words import MOST_ROUNDS, ROUNDS, whole_seconds
+from streetsim.model import trust
+from streetsim.model.mapping import Map, read_map
+from streetsim.model.runs import Run
+from streetsim.routes.studied import Wished, routed
+from streetsim.run.ending import first_guess
+from streetsim.run.settings import Settings
+from streetsim.sessions.giving import giving_session
+from streetsim.sessions.prepared import Session
+from streetsim.signals.light_lines import LightLines, read_plans
+from streetsim.signals.plans import light_of
+from streetsim.signals.town import Reading, lights_of, read_pair
+from streetsim.sumo.net import actuated
+from streetsim.works.asked import all_works
+from streetsim.works.sites import lanes_to_join, with_works
+
+KEYS = {"run", "map", "until", "seeds", "base", "rounds", "merge", "lights", "variant"}
+VARIANT = {"run", "map", "plans", "close", "merge", "lights", "dawdle", "route", "knowing"}
+
+
+@dataclass(slots=True)
+class Variant:
+    """A variant, ready to run."""
+
+    session: Session
+    signals: bytes  # lines
+    due: list[float]  # when vehicles would arrive, were nobody in their way, rising
+    doubts: list[str]  # what speaks against its runs before any is made
+    works: list[tuple[str, int]]  # lanes, and when works on them begin
+
+
+@dataclass(slots=True)
+class Study:
+    until: int | None  # none: each run goes on until all have arrived, nobody moves, or the calls are spent
+    seeds: range
+    base: str  # the variant to which others are compared
+    variants: dict[str, Variant]
+
+
+def read_study(path: str, simulator: str, rounds: int | None = None) -> Study:
+    """A study, with its variants as bytes; the paths in it are beside it; rounds: in place of those that it names."""
+    with reading(path), open_text(path) as file:
+        value = load_toml(path, file.read())
+    refuse_unknown(path, value, KEYS, "key")
+    for key in ("run", "map", "seeds", "variant"):
+        if key not in value:
+            raise Fault(f"{path}: no {key!r} in it")
+    value["until"] = until = read_until(path, value.get("until"))
+    variants = value["variant"]
+    if not isinstance(variants, dict) or not all(isinstance(one, dict) for one in variants.values()) or not variants:
+        raise Fault(f"{path}: variants are tables [variant.NAME]")
+    base = value.get("base", next(iter(variants)))
+    if base not in variants:
+        raise Fault(f"{path}: base = {base!r}: there is no variant of this name; there are {', '.join(variants)}")
+    named = value.get("rounds", ROUNDS)
+    if type(named) is not int or not 0 <= named <= MOST_ROUNDS:
+        raise Fault(f"{path}: rounds = {named!r} is not 0 to {MOST_ROUNDS}")
+    value["rounds"] = named if rounds is None else rounds
+    seeds = seeds_of(value["seeds"], f"{path}: seeds")
+    lanes = joint_lanes(path, value)
+    made = {}
+    for name, one in variants.items():
+        with naming(where := f"{path}: variant {name!r}"):
+            made[name] = read_variant(where, path, value, one, lanes, simulator)
+    return Study(until, seeds, base, made)
+
+
+@contextlib.contextmanager
+def naming(where: str) -> Iterator[None]:
+    """Has a fault name the variant that it is of."""
+    try:
+        yield
+    except Fault as fault:
+        raise fault if str(fault).startswith(where) else Fault(f"{where}: {fault}") from None
+
+
+def read_until(path: str, until: Any) -> int | None:
+    """The last second of a study, from a number or a time; none where it names none; Fault otherwise."""
+    if isinstance(until, str) and whole_seconds(until) is not None:
+        until = whole_seconds(until)
+    if until is not None and (type(until) is not int or not 1 <= until <= limits.CLOCK):
+        raise Fault(f"{path}: until = {until!r} is not 1 to {limits.CLOCK:,}")
+    return until
+
+
+def load_toml(path: str, text: str) -> Json:
+    """What a TOML file's text says; Fault where it is none."""
+    try:
+        return tomllib.loads(text)
+    except tomllib.TOMLDecodeError as fault:
+        raise Fault(f"{path}: not TOML: {fault}") from None
+
+
+def refuse_unknown(where: str, table: Iterable[str], known: Iterable[str], what: str) -> None:
+    """Refuses keys that are not known; what: how the user calls them."""
+    if unknown := [key for key in table if key not in known]:
+        raise Fault(f"{where}: unknown {what} {unknown[0]!r}; known are {', '.join(sorted(known))}")
+
+
+def joint_lanes(path: str, study: Json) -> dict[tuple[str, str], dict[str, None]]:
+    """The lanes that works of a variant need to be joint, and so are in all variants of the same run: {(run, map):
+    lanes}."""
+    found: dict[tuple[str, str], dict[str, None]] = {}
+    for name, variant in study["variant"].items():
+        with naming(where := f"{path}: variant {name!r}"):
+            check_types(where, {**study, **variant})
+            lanes = found.setdefault(pair_of(study, variant), {})
+            if closed := variant.get("close"):
+                mapping = read_map(os.path.join(os.path.dirname(os.path.abspath(path)), pair_of(study, variant)[1]))
+                lanes.update(dict.fromkeys(lanes_to_join(all_works(closed, mapping, 0, study["until"]), mapping)))
+    return found
+
+
+def pair_of(study: Json, variant: Json) -> tuple[str, str]:
+    """The run and the map of a variant."""
+    return variant.get("run", study["run"]), variant.get("map", study["map"])
+
+
+def read_variant(
+    where: str,
+    path: str,
+    study: Json,
+    variant: Json,
+    joint: Mapping[tuple[str, str], Iterable[str]],
+    simulator: str,
+) -> Variant:
+    """A variant, read and made ready; where: for faults; joint: the lanes that are joint for works, by run and map;
+    simulator: the program."""
+    refuse_unknown(where, variant, VARIANT, "key")
+    beside = partial(os.path.join, os.path.dirname(os.path.abspath(path)))
+    run_path, map_path = map(beside, pair_of(study, variant))
+    run, mapping = read_pair(run_path, map_path, study["until"])
+    works = all_works(variant.get("close", ()), mapping, run.start(), study["until"])
+    until = study["until"] or first_guess(run)
+    told: list[str] = []
+    found: list[str] = []
+    if variant.get("route"):
+        close, knowing, lanes = variant.get("close", ()), variant.get("knowing", 1.0), joint[pair_of(study, variant)]
+        seeds = seeds_of(study["seeds"], f"{path}: seeds")
+        wished = Wished(close, knowing, lanes, simulator, until, study["rounds"], seeds)
+        run, mapping, found = routed(run, mapping, map_path, wished, where)
+    else:
+        run, mapping, told = with_works(run, mapping, map_path, works, joint[pair_of(study, variant)])
+    drives = variant.get("lights", study.get("lights")) != "listed" and "plans" not in variant
+    lights = lights_in(run, mapping, until, simulator) if drives else LISTED
+    told += lights.notes()
+    print(*(f"{where}: {text}" for text in told), sep="\n", end="\n" if told else "", file=sys.stderr)
+    load = {"dawdle": variant["dawdle"]} if "dawdle" in variant else {}
+    nodes: frozenset[int] = frozenset()
+    signals, sensing = b"", lights.going_by(mapping)
+    if "plans" in variant:
+        plans = list(map(beside, variant["plans"]))
+        signals, sensing = signals_of(Reading(run_path, map_path, plans, until, simulator, 0, ()), run, mapping)
+        nodes = frozenset(node for _, node in mapping.signals)
+    merging = variant.get("merge", study.get("merge")) != "none"
+    settings = Settings(until, open_end=study["until"] is None, merging=merging, lights=lights)
+    session = giving_session(simulator, run, mapping, settings, study["rounds"], nodes, **load)
+    doubts = [*found, *trust.of_lengths(until, run, mapping), *trust.of_actuated(until, run, mapping, sensing)]
+    begins = [(one.lane, one.first) for one in works]
+    return Variant(session, signals, trust.free_arrivals(run, mapping), doubts, begins)
+
+
+def lights_in(run: Run, mapping: Map, until: int, simulator: str) -> Lights:
+    """The lights that detectors drive."""
+    return driven_lights(run, mapping, until, most_calls(simulator)) if mapping.actuated else LISTED
+
+
+def check_types(where: str, value: Json) -> None:
+    """Refuses values of another kind than their key's."""
+    for key in ("run", "map"):
+        if not isinstance(value[key], str):
+            raise Fault(f"{where}: {key} = {value[key]!r} is no path")
+    for key in ("plans", "close"):
+        if not isinstance(value.get(key, []), list) or not all(isinstance(one, str) for one in value.get(key, ())):
+            raise Fault(f"{where}: {key} = {value[key]!r} is no list of texts")
+    if value.get("plans") == []:
+        raise Fault(f"{where}: plans = []: the network is the first of them")
+    if type(value.get("dawdle", 0)) is not int or not 0 <= value.get("dawdle", 0) <= 1000:
+        raise Fault(f"{where}: dawdle = {value['dawdle']!r} is not 0 to 1,000")
+    if type(value.get("route", False)) is not bool:
+        raise Fault(f"{where}: route = {value['route']!r} is neither true nor false")
+    if type(value.get("knowing", 1)) not in (int, float) or not 0 <= value.get("knowing", 1) <= 1:
+        raise Fault(f"{where}: knowing = {value['knowing']!r} is not 0 to 1")
+    if value.get("merge", "turns") not in ("turns", "none"):
+        raise Fault(f"{where}: merge = {value['merge']!r} is neither 'turns' nor 'none'")
+    if value.get("lights", "actuated") not in ("actuated", "listed"):
+        raise Fault(f"{where}: lights = {value['lights']!r} is neither 'actuated' nor 'listed'")
+    if "knowing" in value and not (value.get("route") and value.get("close")):
+        raise Fault(f"{where}: knowing is of who goes round works: close = [..] and route = true are needed too")
+
+
+def signals_of(asked: Reading, run: Run, mapping: Map) -> tuple[bytes, list[str]]:
+    """The signal lines of all lights of the map under the plans of a variant,
+    and which of them SUMO times by detectors."""
+    net = read_plans(asked.plans, mapping)
+    found = {name: light_of(name, net.programs[name]) for name in lights_of(asked, mapping, net)}
+    plan = {name: timing for name, (_, timing) in found.items()}
+    lines = LightLines(net, run, mapping).of(plan, {name: light for name, (light, _) in found.items()})
+    return lines, actuated(net, found)

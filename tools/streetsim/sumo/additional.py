@@ -1,0 +1,49 @@
+"""Additional files: programs, types, detectors, demand."""
+from collections import defaultdict
+from xml.etree.ElementTree import Element
+
+from streetsim.base.files import Fault, FilePath, attribute, elements, told
+from streetsim.base.report import Report, some
+from streetsim.sumo.demand import Demand
+from streetsim.sumo.detectors import KINDS, read_detector
+from streetsim.sumo.net import SumoNet, read_program
+from streetsim.sumo.types import TAGS, Types
+
+UNDONE = {  # elements of additional files that change traffic in SUMO: what to do here
+    "rerouter": "ways round works: streetsim-route --close; closed lanes: streetsim-run --close",
+    "calibrator": "give its flows as routes",
+    "variableSpeedSign": "the lanes keep their speed: judge by SUMO",
+    "WAUT": 'signal lines of the run file with "at" change plans by time of day',
+}
+DEMAND = ("route", "routeDistribution", "vehicle", "flow", "trip", "person", "personFlow", "container", "containerFlow")
+
+
+def read_additional(path: FilePath, net: SumoNet, types: Types, report: Report, demand: Demand | None = None) -> None:
+    """Adds to a network the signal programs and detectors of an additional file, to types its vehicle types, and to a
+    demand its vehicles, flows and routes, which are a Fault where no demand is given; all else is reported."""
+    undone = defaultdict(list)
+    for element in elements(path, ["additional", "add", "routes", "tlLogics"]):
+        if element.tag == "tlLogic":
+            refuse_unknown_light(path, element, net)
+            read_program(path, element, net, ())
+        elif element.tag in TAGS:
+            types.read(path, element)
+        elif element.tag in KINDS:
+            net.detectors += filter(None, [read_detector(path, element, report)])
+        elif element.tag in DEMAND and demand is not None:
+            demand.read_element(path, element)
+        elif element.tag in DEMAND:
+            raise Fault(f"{told(path, element)} in an additional file: give files of routes after --routes")
+        elif element.tag in UNDONE:
+            undone[element.tag].append(element.get("id", "without a name"))
+        else:
+            report.ignored[f"<{element.tag}> of additional files"] += 1
+    for tag, names in undone.items():
+        report.warn(f"{path}: <{tag}> does nothing here: {some(names)}", names, UNDONE[tag])
+
+
+def refuse_unknown_light(path: FilePath, element: Element, net: SumoNet) -> None:
+    """Refuses a program of a light that the network does not have, as SUMO does."""
+    light = attribute(path, element, "id")
+    if light not in net.programs and all(light != one.light for one in net.connections):
+        raise Fault(f"{told(path, element)}: the network has no light of this name")

@@ -1,0 +1,108 @@
+"""A network that was read, and its vehicles, to the lines of a run and the map of its names."""
+import json
+from collections.abc import Iterable, Sequence
+from dataclasses import asdict
+
+from streetsim.base import limits
+from streetsim.base.files import Fault, Json
+from streetsim.base.report import Report
+from streetsim.model.mapping import Map, MapLink, MapTurn
+from streetsim.model.runs import Command
+from streetsim.sumo.conflicts import conflicts_of
+from streetsim.sumo.demand import Vehicle, enters, kinds_of
+from streetsim.sumo.detectors import placed
+from streetsim.sumo.net import SumoNet, actuated
+from streetsim.sumo.network import Network, Options
+from streetsim.sumo.programs import kept_programs
+from streetsim.sumo.rules import warn_of_rules
+from streetsim.sumo.signals import movements, signals
+from streetsim.sumo.types import Sizes, Types
+from streetsim.sumo.yielding import equivalents, hourly_flows
+
+# The network, its lights with their nodes, the commands of the run, the names of its vehicles.
+Made = tuple[Network, list[tuple[str, int]], list[Command], list[str]]
+
+
+def run_and_map(made: Made, report: Report) -> tuple[list[str], Map]:
+    """The lines of the run as texts, and its map, of what `converted` made."""
+    network, lights, commands, names = made
+    mapping = map_of(network, lights, names, report)
+    mapping.detectors = placed(network.detectors, mapping, network.closed_lanes, report)
+    mapping.warnings, mapping.told = list(report.lines()), report.rows()
+    lines = [json.dumps(command, separators=(",", ":")) for command in commands]
+    refuse_over_limits(network, lines[0], names)
+    return lines, mapping
+
+
+def converted(net: SumoNet, types: Types, vehicles: Sequence[Vehicle], options: Options, report: Report) -> Made:
+    """The network, lights, commands and names of a run, of a network that was read and vehicles in order of
+    departure."""
+    flows = hourly_flows(vehicles)
+    network = Network(net, options, report, flows)
+    found = movements(net, network, flows, report)
+    network.equivalents = equivalents(one for junction in found.values() for one in junction.values())
+    sizes = Sizes(types)
+    entered, driven = enters(vehicles, net, network, sizes, report)
+    network.kinds = kinds_of(driven, types)
+    network.last = max((command["depart"] for command in entered), default=options.begin)
+    network.open_beside_works()
+    sizes.tell(report)
+    warn_of_rules(net, network, report)
+    made = signals(net, network, found, report)
+    lights = [(light, command["node"]) for light, command in made if "at" not in command]
+    network.yields = conflicts_of(net, network, flows)
+    network.actuated = actuated(net, (light for light, _ in made))
+    network.programs = kept_programs(net, network, lights, flows)
+    return (
+        network,
+        lights,
+        [network.load(), *(command for _, command in made), *entered],
+        [vehicle.name for vehicle in driven],
+    )
+
+
+def refuse_over_limits(network: Network, load: str, names: Sequence[str]) -> None:
+    """Refuses what the simulator does not take: load is its line, names are of the vehicles."""
+    over = list(network.over_limits())
+    if len(names) > limits.VEHICLES:
+        over.append(f"{len(names):,} vehicles, at most {limits.VEHICLES:,}")
+    if len(load) > limits.LINE:
+        over.append(f"a load line of {len(load):,} bytes, at most {limits.LINE:,}")
+    if over:
+        raise Fault(f"too large for streetsim: {'; '.join(over)}. Nothing was written")
+
+
+def map_of(network: Network, lights: list[tuple[str, int]], names: list[str], report: Report) -> Map:
+    """The map of an import; lights: each with its node; names: of the vehicles, by number."""
+    options = asdict(network.options)
+    return Map(
+        nodes=[
+            (name, *place, residence)
+            for name, place, residence in zip(network.nodes, network.places, network.residences, strict=True)
+        ],
+        links=[
+            MapLink(link.edge, link.lanes, link.begin, link.end, link.cells, link.limit, link.metres, tuple(link.shape))
+            for link in network.links
+        ],
+        turns=[
+            MapTurn(link, lane, following, turn.next_lane, turn.light, turn.index, turn.added, turn.speed, turn.limit)
+            for (link, lane, following), turn in network.turns.items()
+        ],
+        signals=lights,
+        cars=names,
+        options=options,
+        warnings=list(report.lines()),
+        yields=network.yields,
+        kinds=network.kinds,
+        location=network.location,
+        actuated=network.actuated,
+        programs=network.programs,
+        rings=network.rings,
+    )
+
+
+def options_again(mapping: Map, joint: Iterable[str]) -> Options:
+    """The options of the import that made a map, with more lanes joint."""
+    known: Json = {name: tuple(value) if isinstance(value, list) else value for name, value in mapping.options.items()}
+    known["joint"] = (*known.get("joint", ()), *joint)
+    return Options(**known)

@@ -1,0 +1,35 @@
+"""Seconds that are lost at junctions without a light."""
+from collections import Counter
+from collections.abc import Mapping, Sequence
+
+from streetsim.sumo.net import Connection, SumoNet
+
+Way = tuple[str, str]  # an edge and the next one
+Flows = Mapping[Way, float]  # vehicles an hour
+SLOW = 0.8  # of the speed of the faster street, before it or after it: a junction is turned in with less
+TURNING, LOOKING = 2.3, 1.2  # seconds lost in it, and by one that goes straight on and has to look out
+STOPPING, STOPS = 3.5, "sw"  # seconds more of one that has to stop, by its connection's state
+
+
+def lost(
+    connections: Sequence[Connection], net: SumoNet, flows: Flows, longer: Mapping[str, float]
+) -> tuple[float, float]:
+    """Vehicles an hour at a junction, by its connections, and the seconds that these lose in all beside ones that go
+    straight on and first. longer: the seconds that a ring's edges take longer here than in SUMO, which are made up for
+    at their ends."""
+    sharing = Counter((connection.source, connection.target) for connection in connections)
+    total = seconds = 0.0
+    for connection in connections:
+        way = connection.source, connection.target
+        flow = flows.get(way, 0.0) / sharing[way]
+        total += flow
+        seconds -= longer.get(connection.source, 0.0) * flow
+        yields = net.yields_of(connection)
+        fastest = max(net.edges[name].lanes[0].speed for name in way)
+        if connection.speed and connection.speed < SLOW * fastest:
+            seconds += TURNING * flow
+        elif yields:
+            seconds += LOOKING * flow
+        if connection.state in STOPS and not connection.light:
+            seconds += STOPPING * flow
+    return total, seconds

@@ -1,0 +1,86 @@
+"""What a map keeps of lights that SUMO times by detectors: their programs, the lanes before them, who gives way there.
+The package actuated reads it."""
+from collections import defaultdict
+from collections.abc import Iterable, Sequence
+from dataclasses import astuple
+from typing import Any
+
+from streetsim.base.files import Json
+from streetsim.sumo.losses import Flows
+from streetsim.sumo.net import STATIC, Connection, SumoNet, connections_of
+from streetsim.sumo.network import Network
+from streetsim.sumo.signals import light_of
+
+MOST_BEFORE = 4  # lanes before one, on which its detector may lie
+
+
+def kept_programs(
+    net: SumoNet, network: Network, lights: Iterable[tuple[str, int]], flows: Flows
+) -> list[Json]:
+    """Of each light that is not timed by seconds alone: kind, offset, phases, parameters, ways and lanes for its
+    detectors, and for its nodes what says who gives way."""
+    nodes = defaultdict(list)
+    for light, node in lights:
+        if net.programs[light].kind != STATIC:
+            nodes[light].append(node)
+    at_junction = connections_of(net) if nodes else {}
+    before = lanes_before(net) if nodes else {}
+    found = []
+    for light, numbers in sorted(nodes.items()):
+        program, own = net.programs[light], [one for one in net.connections if one.light == light]
+        phases = zip(program.phases, program.bounds, program.following, strict=True)
+        junctions = [(number, network.nodes[number]) for number in numbers]
+        found.append({
+            "light": light,
+            "kind": program.kind,
+            "offset": program.offset,
+            "phases": [[seconds, state, *bounds, list(then)] for (seconds, state), bounds, then in phases],
+            "parameters": program.parameters,
+            "more": list(program.more),
+            "ways": [way_of(one, net) for one in own],
+            "lanes": [lane_of(*key, net, before) for key in sorted({(one.source, one.source_lane) for one in own})],
+            "nodes": [node_of(number, at_junction[name], net, flows, name) for number, name in junctions],
+        })
+    return found
+
+
+def way_of(one: Connection, net: SumoNet) -> list[Any]:
+    """Its place in a state, its lanes, and whether it turns back."""
+    back = net.edges[one.source].begin == net.edges[one.target].end
+    return [one.index, f"{one.source}_{one.source_lane}", f"{one.target}_{one.target_lane}", back]
+
+
+def lanes_before(net: SumoNet) -> dict[tuple[str, int], list[Connection]]:
+    """The connections that lead to each lane."""
+    found = defaultdict(list)
+    for one in net.connections:
+        found[one.target, one.target_lane].append(one)
+    return dict(found)
+
+
+def lane_of(edge: str, index: int, net: SumoNet, before: dict[tuple[str, int], list[Connection]]) -> list[Any]:
+    """Its name, its speed, whether its edge has no other, and the metres of it and of those before it that alone lead
+    to it, without a light."""
+    lane = next(one for one in net.edges[edge].lanes if one.index == index)
+    stretches: list[list[Any]] = [[f"{edge}_{index}", lane.metres]]
+    key = edge, index
+    while len(stretches) <= MOST_BEFORE and len(into := before.get(key, [])) == 1 and not into[0].light:
+        key = into[0].source, into[0].source_lane
+        metres = next(one.metres for one in net.edges[key[0]].lanes if one.index == key[1])
+        stretches.append([f"{key[0]}_{key[1]}", metres])
+    return [f"{edge}_{index}", lane.speed, len(net.edges[edge].lanes) == 1, stretches]
+
+
+def node_of(number: int, connections: Sequence[Connection], net: SumoNet, flows: Flows, name: str) -> Json:
+    """Its connections that its light controls or none does, who gives way to whom, and the flows. Without all three
+    nothing is known of who gives way."""
+    light = light_of(connections, net)
+    own = [one for one in connections if one.light in (light, None)]
+    known = bool(flows) and bool(net.yields.get(name)) and all(one.request is not None for one in own)
+    ways = dict.fromkeys((one.source, one.target) for one in own)
+    return {
+        "node": number,
+        "connections": [list(astuple(one)) for one in own] if known else [],
+        "yields": [[request, sorted(foes)] for request, foes in net.yields[name].items()] if known else [],
+        "flows": [[*way, flows[way]] for way in ways if way in flows] if known else [],
+    }

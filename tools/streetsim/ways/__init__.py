@@ -1,0 +1,1 @@
+"""Ways through a network: its graph, what ways cost, the shortest ones."""

@@ -1,0 +1,152 @@
+"""What runs show of the seconds that movements take by time of day, and the costs for a router that are made of it."""
+from array import array
+from collections.abc import Sequence
+from dataclasses import dataclass
+
+from streetsim.ways.graph import Graph
+from streetsim.ways.minor import Minor
+
+AS_MOVEMENT = 2.0  # vehicles for which the mean delay of the edge counts where few of a movement were seen
+AS_EDGE = 1.0  # vehicles without delay that are added to those of an edge
+TURN_BACK = 5.0  # seconds that a turn back costs the router besides
+FALL = 0.9  # seconds a second by which costs fall at most: who sets out later should not arrive much sooner
+PARTS = 5  # of a slice, in each of which a cost is constant
+SHARES = [(part + 0.5) / PARTS - 0.5 for part in range(PARTS)]  # of a slice, from its middle to the middle of a part
+
+
+@dataclass(slots=True)
+class Observed:
+    """What one run showed: seconds and numbers of vehicles of each movement in each slice of
+    time, one after another."""
+
+    slices: int
+    seconds: array
+    counts: array
+
+    def add(self, movement: int, slice_: int, seconds: float) -> None:
+        """Adds a vehicle that took a movement in so many seconds; slices behind the last count as it."""
+        place = movement * self.slices + min(slice_, self.slices - 1)
+        self.seconds[place] += seconds
+        self.counts[place] += 1
+
+
+def nothing_observed(movements: int, slices: int) -> Observed:
+    """What a run shows at first, of so many movements and slices."""
+    zeros = array("d", [0.0]) * (movements * slices)
+    return Observed(slices, zeros, array(zeros.typecode, zeros))
+
+
+def mean_of(runs: Sequence[Observed]) -> Observed:
+    """The mean of some runs, one at least."""
+    if len(runs) == 1:
+        return runs[0]
+    seconds, counts = (
+        array("d", [sum(values) / len(runs) for values in zip(*(getattr(run, name) for run in runs), strict=True)])
+        for name in ("seconds", "counts")
+    )
+    return Observed(runs[0].slices, seconds, counts)
+
+
+@dataclass(slots=True)
+class Costs:
+    """Seconds of movements by time: of each its mean in each slice, or one that is the same at all times."""
+
+    width: float  # seconds of a slice
+    slices: int
+    means: list[float | array]
+
+    @property
+    def part(self) -> float:
+        """The seconds for which a cost is constant."""
+        return self.width / PARTS
+
+    def row(self, movement: int) -> array:
+        """The costs of a movement in each part of all slices, in seconds, between the middles of slices by a straight
+        line."""
+        means = self.means[movement]
+        if isinstance(means, float):
+            return array("d", [means]) * (PARTS * self.slices)
+        before, after = [means[0], *means[:-1]], [*means[1:], means[-1]]
+        return array("d", [
+            own + ((later - own) * share if share >= 0 else (own - sooner) * share)
+            for sooner, own, later in zip(before, means, after, strict=True)
+            for share in SHARES
+        ])  # fmt: skip
+
+    def least(self, movement: int) -> float:
+        """The least seconds of a movement at any time."""
+        means = self.means[movement]
+        return means if isinstance(means, float) else min(means)
+
+
+class Table:
+    """Costs by the clock, whose rows are made when they are first asked for."""
+
+    def __init__(self, costs: Costs) -> None:
+        self.costs = costs
+        self.rows: list[array | None] = [None] * len(costs.means)
+        self.inverse, self.last = 1 / costs.part, PARTS * costs.slices - 1
+
+    def row(self, movement: int) -> array:
+        """The costs of a movement, made once."""
+        made = self.rows[movement]
+        if made is None:
+            made = self.rows[movement] = self.costs.row(movement)
+        return made
+
+    def at(self, movement: int, clock: float) -> float:
+        """The seconds of a movement that begins at a clock; behind the last slice as in it."""
+        row, part = self.rows[movement], int(clock * self.inverse)
+        if row is None:
+            row = self.row(movement)
+        return row[part if part < self.last else self.last]
+
+
+def costs_of(
+    graph: Graph, free: Sequence[float], observed: Observed, width: float, minor: Minor | None = None
+) -> Costs:
+    """The costs by what was observed; free: seconds of movements; width: seconds of a slice. A movement that n vehicles
+    took in a slice has the mean of their delays and, as of some more vehicles, of the edge's, or what those wait who
+    give way if that is more; what nobody took has this wait alone."""
+    slices, counts = observed.slices, observed.counts
+    delays = array("d", [
+        seconds - counts[place] * free[place // slices] for place, seconds in enumerate(observed.seconds)
+    ])  # fmt: skip
+    of_edge, edge_counts = edge_sums(graph, slices, delays), edge_sums(graph, slices, counts)
+    seen = [any(edge_counts[edge * slices : (edge + 1) * slices]) for edge in range(len(graph.edges))]
+    means: list[float | array] = []
+    for movement, (edge, _) in enumerate(graph.movements):
+        base = free[movement] + (TURN_BACK if graph.turns_back[movement] else 0.0)
+        waits = minor is not None and movement in minor.foes
+        if not seen[edge] and not waits:
+            means.append(base)
+            continue
+        row, last = array("d"), 0.0
+        for slice_ in range(slices):
+            place, there = movement * slices + slice_, edge * slices + slice_
+            shared = of_edge[there] / (edge_counts[there] + AS_EDGE)
+            if minor is not None and waits:
+                shared = max(shared, minor.wait(movement, lambda foe: counts[foe * slices + slice_] * 3600 / width))
+            delay = (delays[place] + AS_MOVEMENT * shared) / (counts[place] + AS_MOVEMENT)
+            last = max(0.5 * free[movement], base + delay, last - FALL * width)
+            row.append(last)
+        means.append(row)
+    return Costs(width, slices, means)
+
+
+def edge_sums(graph: Graph, slices: int, values: array) -> array:
+    """The sums over the movements of each edge, slice by slice, of values by movement and slice."""
+    sums = array("d", [0.0]) * (len(graph.edges) * slices)
+    for movement, (edge, _) in enumerate(graph.movements):
+        for slice_ in range(slices):
+            sums[edge * slices + slice_] += values[movement * slices + slice_]
+    return sums
+
+
+def flat_costs(graph: Graph, seconds: Sequence[float]) -> Costs:
+    """Costs that are the same at all times, of the seconds of each movement; turning back costs more."""
+    return Costs(
+        float("inf"),
+        1,
+        [value + (TURN_BACK if back else 0.0) for value, back in zip(seconds, graph.turns_back, strict=True)],
+    )

@@ -1,0 +1,26 @@
+"""A network where no route is known yet."""
+from array import array
+
+from streetsim.base.report import Report
+from streetsim.model.mapping import Map
+from streetsim.sumo.converting import map_of
+from streetsim.sumo.net import SumoNet
+from streetsim.sumo.network import Network, Options
+from streetsim.sumo.signals import signals
+from streetsim.ways.graph import Graph
+from streetsim.ways.seconds import capacities, free_seconds
+
+
+def map_without_routes(net: SumoNet, options: Options) -> Map:
+    """The map of an import without vehicles."""
+    report = Report()
+    return map_of(Network(net, options, report, {}), [], [], report)
+
+
+def times_without_routes(net: SumoNet, graph: Graph, options: Options) -> tuple[array, list[float]]:
+    """Free seconds of movements, and vehicles an hour that they let pass."""
+    report = Report()
+    network = Network(net, options, report, {})
+    made = [command for _, command in signals(net, network, {}, report) if "at" not in command]
+    mapping = map_of(network, [], [], report)
+    return free_seconds(graph, mapping, made, options.dawdle / 1000), capacities(graph, mapping, made)

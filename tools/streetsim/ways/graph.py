@@ -1,0 +1,49 @@
+"""A network as a router sees it: edges and movements by number."""
+from collections.abc import Iterable
+
+from streetsim.model.mapping import Map
+from streetsim.sumo.net import SumoNet
+
+END = -1  # stands for the next edge of a movement that ends a trip
+
+
+class Graph:
+    """Edges go by number. A movement is a way from an edge to a next one, or to the END of a trip on that edge;
+    these stand last.
+
+    Turn restrictions hold, since there is a movement only where the network has a connection.
+    """
+
+    def __init__(self, edges: Iterable[str], ways: Iterable[tuple[str, str]], ends: dict[str, tuple[str, str]]) -> None:
+        """ways: edge and next edge; ends: for each edge the junctions where it begins and ends."""
+        self.edges = list(edges)
+        self.number = {name: at for at, name in enumerate(self.edges)}
+        found = dict.fromkeys((self.number[edge], self.number[following]) for edge, following in ways)
+        self.movements = [*found, *((edge, END) for edge in range(len(self.edges)))]
+        self.movement_of = {way: at for at, way in enumerate(self.movements)}
+        self.out: list[list[tuple[int, int]]] = [[] for _ in self.edges]  # (next edge, movement)
+        self.into: list[list[tuple[int, int]]] = [[] for _ in self.edges]  # (edge before, movement)
+        for at, (edge, following) in enumerate(found):
+            self.out[edge].append((following, at))
+            self.into[following].append((edge, at))
+        self.turns_back = [
+            following != END and ends[self.edges[edge]] == ends[self.edges[following]][::-1]
+            for edge, following in self.movements
+        ]
+
+    def names(self, path: Iterable[int]) -> tuple[str, ...]:
+        """The edges of a path by their names."""
+        return tuple(self.edges[edge] for edge in path)
+
+
+def graph_of_net(net: SumoNet) -> Graph:
+    """The graph of a SUMO network's kept lanes."""
+    ways = ((one.source, one.target) for one in net.connections)
+    return Graph(net.edges, ways, {name: (edge.begin, edge.end) for name, edge in net.edges.items()})
+
+
+def graph_of_map(mapping: Map) -> Graph:
+    """The graph of a run's map."""
+    links = mapping.links
+    ways = ((links[turn.link].edge, links[turn.next].edge) for turn in mapping.turns)
+    return Graph(mapping.links_of, ways, {link.edge: (str(link.begin), str(link.end)) for link in links})

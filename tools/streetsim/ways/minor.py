@@ -1,0 +1,38 @@
+"""What those wait who give way where no light is, by the vehicles that go first: for ways that nobody takes yet."""
+import math
+from collections.abc import Callable
+
+from streetsim.model.waiting import Gap
+from streetsim.sumo.conflicts import gaps_of_ways
+from streetsim.sumo.net import SumoNet
+from streetsim.ways.graph import Graph
+
+MOST_WAIT = 150.0  # seconds; then one goes
+MOST_HOURLY = 3600.0  # vehicles an hour that are reckoned with
+
+Hourly = Callable[[int], float]  # vehicles an hour of a movement
+
+
+class Minor:
+    """The movements that give way, by number, with those that go before each."""
+
+    def __init__(self, graph: Graph, net: SumoNet) -> None:
+        self.foes: dict[int, list[tuple[int, Gap]]] = {}
+        for way, foes in gaps_of_ways(net).items():
+            self.foes[number_of(graph, way)] = [(number_of(graph, foe), gap) for foe, gap in foes.items()]
+
+    def wait(self, movement: int, hourly: Hourly) -> float:
+        """The mean seconds until a gap comes in the traffic that goes first, as at random; 0 where none goes first."""
+        flows = [(min(MOST_HOURLY, hourly(foe)), gap) for foe, gap in self.foes.get(movement, ())]
+        every = sum(flow for flow, _ in flows)
+        if not every:
+            return 0.0
+        seconds = sum(flow * gap.before(flow, flow, every) for flow, gap in flows) / every
+        rate = every / 3600
+        return min(MOST_WAIT, math.expm1(min(50.0, rate * seconds)) / rate - seconds)
+
+
+def number_of(graph: Graph, way: tuple[str, str]) -> int:
+    """The number of the movement from an edge to a next one."""
+    edge, following = way
+    return graph.movement_of[graph.number[edge], graph.number[following]]

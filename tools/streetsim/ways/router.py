@@ -1,0 +1,156 @@
+"""Time-dependent shortest paths over edges."""
+from array import array
+from collections.abc import Mapping, Sequence
+from heapq import heappop, heappush
+from itertools import pairwise
+from typing import NamedTuple
+
+from streetsim.ways.costs import Costs, Table
+from streetsim.ways.graph import END, Graph
+
+FAR = 1e9  # seconds: no way
+
+Path = tuple[int, ...]
+Shut = Mapping[int, Sequence[tuple[float, float]]]  # by edge: from when until when nobody can pass it
+
+
+class Wish(NamedTuple):
+    """A trip as the router sees it: from when on it goes from an edge to another,
+    and the path that it has (none: empty)."""
+
+    trip: int
+    origin: int
+    target: int
+    clock: float
+    path: Path
+
+
+class Found(NamedTuple):
+    """What the router found for a trip: the best path, its seconds and those of the trip's own path.
+    No path: no way."""
+
+    trip: int
+    path: Path
+    least: float
+    own: float
+
+
+class Router:
+    """A* with the least seconds to the target as bound, which are searched backwards once for each target in turn."""
+
+    def __init__(self, graph: Graph, costs: Costs, shut: Shut | None = None) -> None:
+        self.graph, self.table, self.shut = graph, Table(costs), shut or {}
+        self.least = [costs.least(movement) for movement in range(len(graph.movements))]
+        self.arcs: list[list[tuple[int, array]] | None] = [None] * len(graph.edges)
+        self.target, self.bounds = END, [FAR]
+
+    def arcs_of(self, edge: int) -> list[tuple[int, array]]:
+        """The next edges of an edge, each with the costs of going there."""
+        made = self.arcs[edge]
+        if made is None:
+            made = self.arcs[edge] = [
+                (following, self.table.row(movement)) for following, movement in self.graph.out[edge]
+            ]
+        return made
+
+    def bounds_to(self, target: int) -> list[float]:
+        """The least seconds from the begin of each edge to that of the target; FAR where no way leads there."""
+        if self.target == target:
+            return self.bounds
+        least, into = self.least, self.graph.into
+        found, heap = [FAR] * len(into), [(0.0, target)]
+        found[target] = 0.0
+        while heap:
+            seconds, edge = heappop(heap)
+            if seconds > found[edge]:
+                continue
+            for before, movement in into[edge]:
+                through = seconds + least[movement]
+                if through < found[before]:
+                    found[before] = through
+                    heappush(heap, (through, before))
+        self.target, self.bounds = target, found
+        return found
+
+    def search(self, origin: int, target: int, clock: float) -> tuple[Path, float]:
+        """The path that is shortest from a clock on, and its seconds to the end of the target;
+        no path where there is none."""
+        bounds, inverse, last, shut = self.bounds_to(target), self.table.inverse, self.table.last, self.shut
+        best, before = {origin: clock}, dict[int, int]()
+        # Of equal ones the farthest comes first.
+        heap = [(clock + bounds[origin], -clock, origin)] if bounds[origin] < FAR else []
+        while heap:
+            _, now, edge = heappop(heap)
+            now = -now
+            if edge == target:
+                return (
+                    self.traced(before, origin, target),
+                    now + self.table.at(self.graph.movement_of[target, END], now) - clock,
+                )
+            if now > best[edge]:
+                continue
+            part = int(now * inverse)
+            if part > last:
+                part = last
+            for following, row in self.arcs_of(edge):
+                then = now + row[part]
+                if then < best.get(following, FAR) and not (following in shut and self.opened(following, then) > then):
+                    best[following] = then
+                    before[following] = edge
+                    heappush(heap, (then + bounds[following], -then, following))
+        return (), FAR
+
+    @staticmethod
+    def traced(before: dict[int, int], origin: int, target: int) -> Path:
+        """The path that a search found."""
+        path = [target]
+        while path[-1] != origin:
+            path.append(before[path[-1]])
+        return tuple(reversed(path))
+
+    def clocks(self, path: Path, clock: float) -> list[float]:
+        """When each edge of a path is reached, by one that begins at a clock, and when its end is."""
+        found, movement_of = [clock], self.graph.movement_of
+        for way in pairwise((*path, END)):
+            reached = found[-1] + self.table.at(movement_of[way], found[-1])
+            found.append(self.opened(way[1], reached) if self.shut else reached)
+        return found
+
+    def opened(self, edge: int, clock: float) -> float:
+        """When one may enter an edge that is reached at a clock; at once where it is open."""
+        return next((end for begin, end in self.shut.get(edge, ()) if begin <= clock < end), clock)
+
+    def met(self, path: Path, clock: float) -> int | None:
+        """The place of the first edge of a path, from a clock on, that is reached while it is shut; none where none
+        is."""
+        if self.shut.keys().isdisjoint(path):
+            return None
+        if self.opened(path[0], clock) != clock:
+            return 0
+        clocks, movement_of = self.clocks(path, clock), self.graph.movement_of
+        for at, way in enumerate(pairwise(path)):
+            reached = clocks[at] + self.table.at(movement_of[way], clocks[at])
+            if self.opened(way[1], reached) != reached:
+                return at + 1
+        return None
+
+    def own(self, wish: Wish) -> float:
+        """The seconds of the path that a trip has; FAR where it has none."""
+        return self.clocks(wish.path, wish.clock)[-1] - wish.clock if wish.path else FAR
+
+    def found(self, wish: Wish) -> Found:
+        """The best path of a trip, and the seconds of its own."""
+        path, least = self.search(wish.origin, wish.target, wish.clock)
+        return Found(wish.trip, path, least, self.own(wish))
+
+
+def in_order(wishes: Sequence[Wish]) -> list[Wish]:
+    """Wishes by target, so that each is searched backwards once."""
+    return sorted(wishes, key=lambda wish: (wish.target, wish.trip))
+
+
+def parts_of(wishes: Sequence[Wish], count: int) -> list[list[Wish]]:
+    """The wishes in so many parts at most, by target, so that few targets are searched backwards twice."""
+    order = in_order(wishes)
+    size = max(1, -(-len(order) // count))
+    return [order[at : at + size] for at in range(0, len(order), size)]

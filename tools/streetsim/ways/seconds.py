@@ -1,0 +1,77 @@
+"""Seconds of movements where nobody is in the way, and what their greens let pass."""
+from array import array
+from collections import defaultdict
+from collections.abc import Iterable, Iterator
+
+from streetsim.model.freeflow import FreeFlow
+from streetsim.model.mapping import Map
+from streetsim.ways.graph import END, Graph
+
+SATURATION = 1700.0  # vehicles an hour and lane in green, by and large
+NEVER = 3600.0  # seconds of a wait for a green that does not come
+LEAST_CAPACITY = 100.0  # vehicles an hour that any movement lets pass
+
+
+def free_seconds(graph: Graph, mapping: Map, signals: Iterable[dict], dawdle: float) -> array:
+    """For each movement the seconds of its edge, and of crossing with the mean wait at its signal. signals: commands;
+    dawdle: a chance from 0 to 1. Of parallel links the last counts."""
+    driving, waits = FreeFlow(mapping, dawdle), mean_waits(graph, mapping, signals)
+    edge_of = {graph.number[link.edge]: at for at, link in enumerate(mapping.links)}
+    seconds = array("d")
+    for edge, following in graph.movements:
+        link = edge_of[edge]
+        crossing = 0.0 if following == END else driving.crossing[link] + waits.get((edge, following), 0.0)
+        seconds.append(driving.driving[link] + crossing)
+    return seconds
+
+
+def mean_waits(graph: Graph, mapping: Map, signals: Iterable[dict]) -> dict[tuple[int, int], float]:
+    """The mean seconds, by edge and next edge, that signals hold a vehicle which comes at any time: the least of the
+    lanes of a movement; an hour where it is never green."""
+    signals = list(signals)
+    lit = {command["node"] for command in signals}
+    at_signals = (turn for turn in mapping.turns if mapping.links[turn.link].end in lit)
+    waits = {edges_of(graph, mapping, turn.link, turn.next): NEVER for turn in at_signals}
+    for command in signals:
+        cycle = sum(duration for duration, _ in command["phases"])
+        for way, green in greens(graph, mapping, command):
+            wait = sum(red * (red + 1) / 2 for red in reds(green, cycle)) / cycle
+            waits[way] = min(waits.get(way, NEVER), wait)
+    return waits
+
+
+def greens(graph: Graph, mapping: Map, command: dict) -> Iterator[tuple[tuple[int, int], int]]:
+    """For each link and next link that a signal ever lets go its movement's edges,
+    and its green seconds as bits of a number."""
+    shown: dict[tuple[int, int], int] = defaultdict(int)
+    clock = 0
+    for duration, turns in command["phases"]:
+        for link, _, following in turns:
+            shown[link, following] |= ((1 << duration) - 1) << clock
+        clock += duration
+    for (link, following), green in shown.items():
+        yield edges_of(graph, mapping, link, following), green
+
+
+def edges_of(graph: Graph, mapping: Map, link: int, following: int) -> tuple[int, int]:
+    """The numbers of the edges of two links."""
+    return graph.number[mapping.links[link].edge], graph.number[mapping.links[following].edge]
+
+
+def reds(green: int, cycle: int) -> list[int]:
+    """The lengths of the reds round a cycle, in seconds; green: bits, second 0 the lowest."""
+    runs = [len(red) for red in "".join("1" if green >> at & 1 else "0" for at in range(cycle)).split("1")]
+    if len(runs) > 1:
+        runs[0] += runs.pop()
+    return [run for run in runs if run]
+
+
+def capacities(graph: Graph, mapping: Map, signals: Iterable[dict]) -> list[float]:
+    """Vehicles an hour that each movement lets pass: of each lane the saturation flow, times its share of green."""
+    found: dict[tuple[int, int], float] = defaultdict(float)
+    for command in signals:
+        cycle = sum(duration for duration, _ in command["phases"])
+        for duration, turns in command["phases"]:
+            for link, _, following in turns:
+                found[edges_of(graph, mapping, link, following)] += SATURATION * duration / cycle
+    return [max(LEAST_CAPACITY, found.get(way, SATURATION)) for way in graph.movements]

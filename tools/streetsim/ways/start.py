@@ -1,0 +1,75 @@
+"""First ways without a simulation: shortest paths by free flow, waits at signals, and delays by the volumes so far."""
+import random
+from collections import defaultdict
+from collections.abc import Callable, Iterable, Sequence
+from itertools import pairwise
+
+from streetsim.base.files import Fault
+from streetsim.ways.costs import Costs, flat_costs
+from streetsim.ways.graph import Graph
+from streetsim.ways.router import Found, Wish
+from streetsim.ways.trips import Trip
+
+PARTS = 5  # of the trips, each of which sees the delays that those before it make
+# The delay is so much of the free seconds, times the load to that power (as of the Bureau of Public Roads).
+STEEPNESS, POWER = 0.5, 4
+MOST_DELAY = 300.0  # seconds
+LEAST_HOURS = 0.25  # over which volumes are taken to be spread
+
+Searching = Callable[[Sequence[Wish], Costs], Iterable[Found]]
+
+
+def first_ways(
+    graph: Graph, trips: Sequence[Trip], free: Sequence[float], capacity: Sequence[float], seed: int, search: Searching
+) -> list[Trip]:
+    """Gives each trip that has no way its first one; gives those for which there is none. free: seconds, capacity:
+    vehicles an hour, of each movement; trips: by departure."""
+    wanting = [at for at, trip in enumerate(trips) if not trip.path]
+    random.Random(f"start {seed}").shuffle(wanting)
+    hours = max(LEAST_HOURS, (trips[-1].depart - trips[0].depart) / 3600)
+    given, volume, lost = volumes(graph, trips), [0] * len(graph.movements), []
+    for part in range(PARTS):
+        mine = wanting[part::PARTS]
+        hourly = [
+            (count + (own * PARTS / part if part else 0.0)) / hours for count, own in zip(given, volume, strict=True)
+        ]
+        seconds = delayed(graph, free, [flow / most for flow, most in zip(hourly, capacity, strict=True)])
+        wishes = [Wish(at, trips[at].origin, trips[at].target, trips[at].depart, ()) for at in mine]
+        for found in search(wishes, flat_costs(graph, seconds)):
+            trip = trips[found.trip]
+            trip.path = found.path
+            if not found.path:
+                lost.append(trip)
+            for way in pairwise(found.path):
+                volume[graph.movement_of[way]] += 1
+    return lost
+
+
+def volumes(graph: Graph, trips: Iterable[Trip]) -> list[int]:
+    """How many trips have each movement on their ways. What is no movement of the graph (a change between lanes that an
+    import adds) is left out."""
+    found = [0] * len(graph.movements)
+    for way in (way for trip in trips for way in pairwise(trip.path)):
+        if way in graph.movement_of:
+            found[graph.movement_of[way]] += 1
+    return found
+
+
+def no_way(graph: Graph, trip: Trip) -> Fault:
+    """The Fault of a trip for which there is no way."""
+    return Fault(f"trip {trip.name!r}: no way from {graph.edges[trip.origin]} to {graph.edges[trip.target]}")
+
+
+def delayed(graph: Graph, free: Sequence[float], loads: Sequence[float]) -> list[float]:
+    """Seconds of movements under loads (volume over capacity): each has its own delay, or the mean of those of its edge
+    that are used where that is more."""
+    delays = [min(MOST_DELAY, STEEPNESS * seconds * load**POWER) for seconds, load in zip(free, loads, strict=True)]
+    of_edge = defaultdict(list)
+    for (edge, _), delay, load in zip(graph.movements, delays, loads, strict=True):
+        if load:
+            of_edge[edge].append(delay)
+    means = {edge: sum(values) / len(values) for edge, values in of_edge.items()}
+    return [
+        seconds + max(delay, means.get(edge, 0.0))
+        for (edge, _), seconds, delay in zip(graph.movements, free, delays, strict=True)
+    ]

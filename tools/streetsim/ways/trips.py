@@ -1,0 +1,199 @@
+"""Trips of SUMO's files: where each begins and ends, when, and the way that it has; and routes written back."""
+from collections.abc import Iterable, Sequence
+from dataclasses import dataclass
+from itertools import pairwise
+from typing import Any
+from xml.etree import ElementTree
+from xml.sax.saxutils import quoteattr
+
+from streetsim.base import limits
+from streetsim.base.files import Fault, FilePath, elements, filled, optional, told, whole_file
+from streetsim.base.report import Report
+from streetsim.sumo.demand import NOT_DRIVEN, READ, Demand, Vehicle
+from streetsim.sumo.net import SumoNet
+from streetsim.sumo.network import Options
+from streetsim.sumo.types import DEFAULT, TAGS, Types
+from streetsim.ways.graph import Graph
+from streetsim.ways.router import Path
+
+ENDS = {"from", "to", "fromTaz", "toTaz", "departLane", "departSpeed", "departPos", "arrivalPos", "arrivalSpeed"}
+PERSONS = ("person", "personFlow")
+DRIVEN = ("personTrip", "trip")  # of a person who may take a car; who rides does so in a vehicle that the files have
+BY_STOPS = (
+    "drives from stop to stop without from and to, as buses and taxis do that are sent on their way while SUMO runs; "
+    "streetsim has no stops: take it out, or give it from and to"
+)
+
+
+@dataclass(slots=True)
+class Trip:
+    """A trip between two edges by number. path: empty where it has none yet;
+    entry: when it came on the road in the last run."""
+
+    name: str
+    depart: float  # seconds
+    origin: int
+    target: int
+    type: str
+    path: Path
+    entry: float
+    changes: bool = True  # whether it may take another way; not where its way leads back to the edge where it begins
+    route: str = ""  # the name of the route that it was given
+
+
+class TripDemand(Demand):
+    """The vehicles of files of trips, flows and routes. One without a route has the edges where it
+    begins and ends alone."""
+
+    def __init__(self, net: SumoNet, types: Types, seed: int, report: Report) -> None:
+        super().__init__(net, types, seed, report)
+        self.without: set[str] = set()  # vehicles without a route
+        self.told_types: list[str] = []  # vehicle types as they stand in the files
+
+    def read(self, path: FilePath) -> None:
+        """Adds what a file of trips, flows or routes has; Fault where persons drive in it."""
+        readers = {
+            "route": self.read_route,
+            "vehicle": self.read_vehicle,
+            "flow": self.read_flow,
+            "trip": self.read_vehicle,
+        }
+        readers["routeDistribution"] = self.read_mix
+        for element in elements(path, ["routes", "trips", "additional", "add"]):
+            if element.tag in PERSONS and any(element.find(name) is not None for name in DRIVEN):
+                raise Fault(
+                    f"{told(path, element)}: persons are not routed here; take them out, or compute their cars' "
+                    "trips with duarouter"
+                )
+            if element.tag in TAGS:
+                self.told_types.append(ElementTree.tostring(element, encoding="unicode").strip())
+                self.types.read(path, element)
+            elif element.tag in readers:
+                readers[element.tag](path, element)
+            elif element.tag in NOT_DRIVEN:
+                self.report.skipped[f"{NOT_DRIVEN[element.tag]}, which streetsim does not have"] += 1
+            else:
+                self.report.ignored[f"<{element.tag}> of route files"] += 1
+
+    def add(self, path: FilePath, element: ElementTree.Element, departures: Sequence[tuple[str, float]]) -> None:
+        """Adds vehicles of an element, (name, departure), with a route or with the edges where they begin and end;
+        Fault where there are more than a run has calls for."""
+        count = len(self.vehicles) + len(departures)
+        if 2 * count >= limits.CALLS:
+            most = limits.CALLS // 2
+            raise Fault(f"{path}: {count:,} trips, and a run has calls for fewer than {most:,}, as each takes two")
+        if element.get("route") is not None or any(
+            element.find(name) is not None for name in ("route", "routeDistribution")
+        ):
+            super().add(path, element, departures)
+            return
+        ends = self.ends(path, element)
+        self.report.ignored["stops"] += sum(1 for _ in element.iter("stop"))
+        for name in set(element.keys()) - READ - ENDS:
+            self.report.ignored[f"{name} of {element.tag}s"] += 1
+        kind: Any = optional(path, element, "type", filled, None)  # none until `finish` where the file has none
+        for name, depart in departures:
+            self.vehicles.append(Vehicle(name, depart, ends, kind))
+            self.without.add(name)
+
+    def ends(self, path: FilePath, element: ElementTree.Element) -> tuple[str, str]:
+        """The edges where a trip begins and ends; Fault where it has none, or they are not the network's."""
+        if element.get("via"):
+            raise Fault(f"{told(path, element)}: via is not routed here; compute this route with duarouter")
+        if element.get("from") is None or element.get("to") is None:
+            if element.find("stop") is not None and not element.get("fromTaz"):
+                raise Fault(f"{told(path, element)}: {BY_STOPS}")
+            taz = (
+                " (fromTaz and toTaz name districts: let od2trips or duarouter choose edges)"
+                if element.get("fromTaz")
+                else ""
+            )
+            raise Fault(f"{told(path, element)}: a trip needs from and to{taz}")
+        ends = element.get("from", ""), element.get("to", "")
+        if unknown := [name for name in ends if name not in self.net.edges and name not in self.net.dropped]:
+            raise Fault(f"{told(path, element)}: the network has no edge {unknown[0]!r}")
+        return ends
+
+
+@dataclass(slots=True)
+class Trips:
+    """All trips by departure, and the vehicle types of their files."""
+
+    all: list[Trip]
+    types: list[str]
+
+
+def read_trips(
+    paths: Iterable[str], net: SumoNet, graph: Graph, types: Types, options: Options, report: Report
+) -> Trips:
+    """The trips of files, by departure. Those that can not drive are counted in the report, by reason; Fault where none
+    is left."""
+    demand = TripDemand(net, types, options.seed, report)
+    for path in paths:
+        demand.read(path)
+    found = []
+    for one in demand.finish(options.end):
+        if why := reason_against(one, net, options.begin):
+            report.skipped[why] += 1
+            continue
+        way = () if one.name in demand.without else tuple(graph.number[name] for name in one.edges)
+        ends = graph.number[one.edges[0]], graph.number[one.edges[-1]]
+        back = ends[0] == ends[1] and len(way) > 1
+        found.append(Trip(one.name, one.depart, *ends, one.type, way, one.depart, not back, one.route))
+    if not found:
+        why = "".join(f"; {count:,} left out: {reason}" for reason, count in sorted(report.skipped.items()))
+        raise Fault(f"{', '.join(paths)}: no trip that can drive{why}")
+    return Trips(found, demand.told_types)
+
+
+def connected(trips: Sequence[Trip], net: SumoNet, graph: Graph, ignore: bool, report: Report) -> list[Trip]:
+    """The trips but for those whose routes have two edges without a connection, which are counted in the report.
+    They are refused where the network has none for any class, unless these are to be left out (ignore)."""
+    found = []
+    for trip in trips:
+        ways = [way for way in pairwise(trip.path) if way not in graph.movement_of]
+        if not ways:
+            found.append(trip)
+            continue
+        source, target = graph.names(next((way for way in ways if graph.names(way) not in net.closed_ways), ways[0]))
+        if (source, target) in net.closed_ways:
+            report.skipped["two edges of the route have no connection for the classes"] += 1
+        elif ignore:
+            report.skipped["two edges of the route have no connection"] += 1
+        else:
+            raise Fault(
+                f"trip {trip.name!r}: the network has no connection from edge {source!r} to edge {target!r}, "
+                "which follow each other in its route (--anew forgets routes, "
+                "--ignore-route-errors leaves such trips out)"
+            )
+    if not found:
+        raise Fault(f"none of {len(trips):,} trips has a route whose edges are connected")
+    return found
+
+
+def reason_against(vehicle: Vehicle, net: SumoNet, begin: int) -> str | None:
+    """Why a vehicle can not drive; none where it can."""
+    if any(edge in net.dropped for edge in vehicle.edges):
+        return "an edge of the trip has no lane for the classes"
+    if vehicle.depart < begin:
+        return "departs before the begin"
+    return f"departs after {limits.CLOCK:,} s" if vehicle.depart > limits.CLOCK else None
+
+
+def vehicles_of(trips: Iterable[Trip], graph: Graph) -> list[Vehicle]:
+    """The trips as vehicles of an import."""
+    return [Vehicle(trip.name, trip.depart, graph.names(trip.path), trip.type) for trip in trips]
+
+
+def write_routes(path: str, trips: Trips, graph: Graph) -> None:
+    """A file of routes, as SUMO and streetsim-import take it."""
+    with whole_file(path) as file:
+        file.write("<routes>\n" + "".join(f"    {one}\n" for one in trips.types))
+        for trip in trips.all:
+            kind = f" type={quoteattr(trip.type)}" if trip.type != DEFAULT else ""
+            edges = quoteattr(" ".join(graph.names(trip.path)))
+            file.write(
+                f'    <vehicle id={quoteattr(trip.name)} depart="{trip.depart:.2f}"{kind} departLane="best">'
+                f"<route edges={edges}/></vehicle>\n"
+            )
+        file.write("</routes>\n")

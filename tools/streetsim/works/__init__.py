@@ -1,0 +1,1 @@
+"""Road works: stretches of lanes that are closed for a time."""

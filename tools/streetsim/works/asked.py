@@ -1,0 +1,97 @@
+"""Works as they are asked for: LANE:METRES-METRES:S-S."""
+import math
+import re
+from collections.abc import Iterable, Iterator
+from dataclasses import dataclass
+
+from streetsim.base.files import Fault
+from streetsim.base.report import some
+from streetsim.base.words import listed, whole_seconds
+from streetsim.model.mapping import Map
+
+FORM = re.compile(r"(.+):(\d+)-(\d+):([\d:.]+)-([\d:.]+)")
+HOURS = re.compile(r"(\d{1,2}):([0-5]\d)")
+
+
+@dataclass(slots=True, frozen=True)
+class Works:
+    """What one --close asks for."""
+
+    text: str  # as it was asked for
+    lane: str  # SUMO's name
+    begin: int  # metres
+    end: int
+    first: int  # second
+    last: int
+
+
+@dataclass(slots=True)
+class Site:
+    """Works on a link of a map."""
+
+    works: Works
+    link: int
+    lane: int
+    cells: tuple[int, int]  # the first and the last
+
+
+def all_works(texts: Iterable[str], mapping: Map, start: int, until: int | None) -> list[Works]:
+    """The works of texts that may each name several, with commas between; Fault where one is over at the start, or
+    begins at the end (none: it is not known) or after it."""
+    works = [works_of(one, mapping) for text in texts for one in listed(text)]
+    if over := [one.text for one in works if one.last <= start]:
+        raise Fault(f"--close {over[0]!r}: ends at the start, {start} s, or earlier")
+    if late := [one.text for one in works if until is not None and one.first >= until]:
+        raise Fault(f"--close {late[0]!r}: begins at the end, {until} s, or later")
+    return works
+
+
+def works_of(text: str, mapping: Map) -> Works:
+    """The works that LANE:METRES-METRES:S-S asks for; Fault where the text is none, or the map has no such lane or
+    place."""
+    found = FORM.fullmatch(text)
+    clocks = [second for clock in found.groups()[3:] if (second := clock_of(clock)) is not None] if found else []
+    if not found or len(clocks) < 2 or int(found[2]) >= int(found[3]) or clocks[0] >= clocks[1]:
+        raise Fault(f"--close {text!r}: expected LANE:METRES-METRES:S-S, whole numbers that rise")
+    place = mapping.place_of(found[1])
+    if place is None:
+        lanes = [
+            mapping.lane_name(link, lane) for link, lane in mapping.lanes() if mapping.links[link].edge == found[1]
+        ]
+        raise Fault(f"--close {text!r}: the map has no lane {found[1]!r}{f', but {some(lanes)}' if lanes else ''}")
+    metres = mapping.links[place[0]].metres
+    if int(found[3]) > math.ceil(metres):
+        raise Fault(f"--close {text!r}: the lane ends at {metres:g} m")
+    return Works(text, found[1], int(found[2]), int(found[3]), *clocks)
+
+
+def clock_of(text: str) -> int | None:
+    """The second of a time: seconds, 07:00 or 07:00:00; none where it is no time or no whole second."""
+    if found := HOURS.fullmatch(text):
+        return 3600 * int(found[1]) + 60 * int(found[2])
+    return whole_seconds(text)
+
+
+def sites_of(works: Iterable[Works], mapping: Map) -> list[Site]:
+    """Works on the cells of a map that has their lanes."""
+    places = {mapping.lane_name(*place): place for place in mapping.lanes()}
+    found = []
+    for one in works:
+        link, lane = places[one.lane]
+        found.append(Site(one, link, lane, mapping.links[link].closed_between(one.begin, one.end)))
+    return found
+
+
+def really_closed(sites: Iterable[Site], mapping: Map) -> Iterator[str]:
+    """Says where other metres are closed than were asked for, by more than a cell."""
+    for site in sites:
+        link, works = mapping.links[site.link], site.works
+        size = link.metres / link.cells
+        begin, end = site.cells[0] * size, (site.cells[1] + 1) * size
+        if begin - works.begin > size:
+            why = f"the first {begin:.0f} m of a lane with one beside it stay open, as turns lead there"
+        elif abs(begin - works.begin) > size or abs(end - works.end) > size:
+            why = f"cells are {size:.1f} m long"
+        else:
+            continue
+        yield f"works on {works.lane} close {begin:.0f} to {end:.0f} m of {works.begin} to {works.end} m: {why}"

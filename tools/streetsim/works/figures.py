@@ -1,0 +1,83 @@
+"""The table of works: what each place let pass in each period, and what stood before it."""
+from bisect import bisect_left, bisect_right
+from collections.abc import Iterator, Sequence
+from dataclasses import dataclass
+from statistics import fmean
+
+from streetsim.model.mapping import Map
+from streetsim.works.watched import Queue, Watched
+
+QUARTER = 900  # seconds in which capacity is counted
+MINUTE = 60
+
+
+@dataclass(slots=True, frozen=True)
+class Period:
+    """Seconds of a row of works.csv."""
+
+    begin: int
+    end: int
+
+    def has(self, clock: int) -> bool:
+        """Whether a look at a clock is of it: the steps before it are."""
+        return self.begin < clock <= self.end
+
+
+def periods_of(begin: int, end: int, start: int, seconds: int) -> Iterator[Period]:
+    """The periods of a run that works, from begin to end, are in, as far as they last; start: of the run; seconds: of a
+    period."""
+    clock = begin
+    while clock < end:
+        following = min(end, start + ((clock - start) // seconds + 1) * seconds)
+        yield Period(clock, following)
+        clock = following
+
+
+def rows(watched: Sequence[Watched], mapping: Map, start: int, seconds: int) -> Iterator[tuple[object, ...]]:
+    """The rows of works.csv, as far as works were looked at: one for each place and each period that it is closed in.
+    start: the clock at which the run begins; seconds: of a period."""
+    for one in watched:
+        link, (begin, end) = mapping.links[one.closure.link], one.closure.metres(mapping)
+        name = link.edge, link.lanes[one.closure.lane], f"{begin:.1f}", f"{end:.1f}"
+        last = min(one.closure.end, one.last or one.closure.begin)
+        for period in periods_of(one.closure.begin, last, start, seconds):
+            yield period.begin, period.end, *name, *seen_in(one, period)
+
+
+def seen_in(watched: Watched, period: Period) -> tuple[object, ...]:
+    """The numbers of a row of works.csv for a period, from vehicles on; empty where there is no such number."""
+    delays = [one.delay for one in watched.passed if period.has(one.clock)]
+    queues = [one for one in watched.queues if period.has(one.clock)]
+    capacity = capacity_of(watched, period)
+    stood = max((one.seconds for one in watched.stands if period.has(one.clock)), default=0)
+    return (
+        len(delays),
+        "" if capacity is None else capacity,
+        f"{fmean(delays):.1f}" if delays else "",
+        f"{max(delays):.1f}" if delays else "",
+        *(f"{length_at(queues, share):.1f}" for share in (0.5, 0.95, 1.0)),
+        stood,
+    )
+
+
+def capacity_of(watched: Watched, period: Period) -> int | None:
+    """Vehicles an hour of the worst quarter hour that ends in a period and in which somebody always stood before the
+    works; none where there is none."""
+    clocks = [one.clock for one in watched.passed]
+    empty = [one.clock for one in watched.queues if not one.metres]
+    counts = []
+    for end in range(period.begin + MINUTE, period.end + 1, MINUTE):
+        begin = end - QUARTER
+        if begin >= watched.closure.begin and bisect_right(empty, begin) == bisect_right(empty, end):
+            counts.append(bisect_right(clocks, end) - bisect_right(clocks, begin))
+    return min(counts) * 3600 // QUARTER if counts else None
+
+
+def length_at(queues: Sequence[Queue], share: float) -> float:
+    """The length, in metres, that a queue did not pass in a share of the time; 0 where nobody looked."""
+    ordered = sorted(queues, key=lambda one: one.metres)
+    total, sums = 0, []
+    for one in ordered:
+        total += one.seconds
+        sums.append(total)
+    return ordered[min(len(sums) - 1, bisect_left(sums, share * total))].metres if ordered else 0.0

@@ -1,0 +1,74 @@
+"""Merging by turns on all links of two lanes that have works, by the commands of a run, a script or a page."""
+from collections.abc import Mapping
+from dataclasses import dataclass, field
+
+from streetsim.base.client import Lane
+from streetsim.model.runs import Command
+from streetsim.works.merging import EVERY, Cells, Merging, Seen, Side, no_cells
+
+CLOSING = ("close", "reopen")
+
+
+@dataclass(slots=True)
+class Closed:
+    """A link of two lanes with works. closed: cells that others closed, by lane; due: the clock at which its lanes are
+    to be looked at next."""
+
+    merging: Merging
+    closed: Cells = field(default_factory=no_cells)
+    due: int = 0
+
+
+class Merges:
+    """Who drives the simulator sends what `before` says ahead of each close and reopen, tells `done` of it, and at each
+    clock that `next` names what stands on the lanes of `due`."""
+
+    def __init__(self, cells: Mapping[int, int]) -> None:
+        """cells: of each link of two lanes on which vehicles are to merge; others are left alone."""
+        self.cells = cells
+        self.links: dict[int, Closed] = {}
+
+    def before(self, command: Command) -> list[Command]:
+        """What goes before a command of others, so that nothing of its own is in the way."""
+        closed = self.links.get(command["link"]) if command["cmd"] in CLOSING else None
+        return [change.on(command["link"]) for change in closed.merging.end()] if closed else []
+
+    def done(self, clock: int, command: Command) -> None:
+        """Notes a command of others that was done at a clock."""
+        if command["cmd"] not in CLOSING or command["link"] not in self.cells:
+            return
+        link: int = command["link"]
+        closed = self.links.setdefault(link, Closed(Merging(self.cells[link])))
+        cells = set(range(command["first"], command["last"] + 1))
+        of_lane = closed.closed[command["lane"]]
+        if command["cmd"] == "close":
+            of_lane |= cells
+        else:
+            of_lane -= cells
+        closed.due = clock + EVERY
+        if not any(closed.closed):
+            del self.links[link]
+
+    def end(self) -> list[Command]:
+        """What to send so that nothing is closed but what others closed, until it is told again."""
+        return [change.on(link) for link, one in self.links.items() for change in one.merging.end()]
+
+    def next(self) -> int | None:
+        """The clock at which lanes are to be looked at next; none where no such link has works."""
+        return min((one.due for one in self.links.values()), default=None)
+
+    def due(self, clock: int) -> list[int]:
+        """The links whose lanes are to be looked at now."""
+        return [link for link, one in self.links.items() if one.due <= clock]
+
+    def told(self, clock: int, link: int, lanes: tuple[Lane, Lane]) -> list[Command]:
+        """What to send before the next step, by what stands at a clock on both lanes of a link that is due."""
+        one = self.links[link]
+        changes = one.merging.told(clock, [side_of(lane) for lane in lanes])
+        one.due = clock + one.merging.seconds()
+        return [change.on(link) for change in changes]
+
+
+def side_of(lane: Lane) -> Side:
+    """A lane's reply, as `Merging` takes it."""
+    return Side([Seen(*entry) for entry in lane.cells], lane.closed)

@@ -1,0 +1,94 @@
+"""How far the queue before works reaches, over the links upstream."""
+from collections import defaultdict
+from collections.abc import Collection, Iterable, Mapping
+from dataclasses import dataclass, field
+
+from streetsim.base.client import Lane
+from streetsim.model.mapping import Map, Place
+
+APART = 10  # cells: further up nobody belongs to the queue
+
+
+@dataclass(slots=True, frozen=True)
+class Streets:
+    """What lies upstream of each link. scale: metres of a cell; before: by link those with a turn to it, and the lanes
+    from which it leads."""
+
+    cells: tuple[int, ...]
+    scale: tuple[float, ...]
+    before: Mapping[int, Mapping[int, frozenset[int]]]
+
+
+def streets_of(mapping: Map) -> Streets:
+    """What lies upstream of each link of a map."""
+    lanes: defaultdict[tuple[int, int], set[int]] = defaultdict(set)
+    for turn in mapping.turns:
+        lanes[turn.next, turn.link].add(turn.lane)
+    before: defaultdict[int, dict[int, frozenset[int]]] = defaultdict(dict)
+    for (link, feeder), found in lanes.items():
+        before[link][feeder] = frozenset(found)
+    scale = tuple(link.metres / link.cells for link in mapping.links)
+    return Streets(tuple(link.cells for link in mapping.links), scale, before)
+
+
+@dataclass(slots=True)
+class Reach:
+    """A queue: from the works to the rear of the last who stands."""
+
+    metres: float = 0.0
+    vehicles: int = 0  # that stand in it
+    full: list[int] = field(default_factory=list)  # links near whose begin it came
+
+
+@dataclass(slots=True, frozen=True)
+class Piece:
+    """A link that the queue may reach, from a cell upstream. last: where the last stands so far, in cells of this link;
+    behind: metres from its cell `end` to the works."""
+
+    link: int
+    lanes: Collection[int]
+    end: int
+    last: int
+    behind: float
+
+
+def reach_of(lanes: Mapping[Place, Lane], streets: Streets, link: int, first: int) -> Reach:
+    """The queue before works that begin in a cell of a link: all who stand, each at most APART cells behind the one
+    before it, on lanes from which one comes there; lanes: what was seen, of the link and of those upstream."""
+    found, known = Reach(), {link}
+    pieces = [Piece(link, range(len(lanes)), first, first, 0.0)]
+    while pieces:
+        piece = pieces.pop()
+        last = along(piece, lanes, streets.scale[piece.link], found)
+        if last > APART:
+            continue
+        found.full.append(piece.link)
+        behind = piece.behind + piece.end * streets.scale[piece.link]
+        for feeder, leading in streets.before.get(piece.link, {}).items():
+            if feeder not in known:
+                known.add(feeder)
+                cells = streets.cells[feeder]
+                pieces.append(Piece(feeder, leading, cells, cells + last, behind))
+    return found
+
+
+def along(piece: Piece, lanes: Mapping[Place, Lane], scale: float, found: Reach) -> int:
+    """Adds who stands on a link to a queue that is found so far; gives the cell of the last one; scale: metres of a
+    cell."""
+    last = piece.last
+    for cell, speed, size in vehicles_of(piece, lanes):
+        if last - cell > APART:
+            break
+        if speed == 0:
+            last = cell
+            found.vehicles += 1
+            rear = max(0, cell - size + 1)
+            found.metres = max(found.metres, piece.behind + (piece.end - rear) * scale)
+    return last
+
+
+def vehicles_of(piece: Piece, lanes: Mapping[Place, Lane]) -> Iterable[tuple[int, int, int]]:
+    """(cell, speed, size) of those on a piece before its end, the one with the greatest cell first."""
+    seen = [lanes[piece.link, lane].cells for lane in piece.lanes if (piece.link, lane) in lanes]
+    found = [(cell, speed, size[0] if size else 1) for cells in seen for _, cell, speed, *size in cells]
+    return sorted((one for one in found if one[0] < piece.end), reverse=True)

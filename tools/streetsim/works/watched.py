@@ -1,0 +1,167 @@
+"""What is seen before the works of a run: who passes, how long they take, how far the queue reaches, who stands."""
+from collections.abc import Callable, Iterable, Iterator, Mapping, Sequence
+from dataclasses import dataclass, field
+
+from streetsim.base.client import Lane
+from streetsim.model.mapping import Map, Place
+from streetsim.works.closures import Closure
+from streetsim.works.queues import Reach, Streets, reach_of
+
+LONG = 120  # seconds in one cell, after which a run is doubted
+MOST_LINKS = 12  # upstream, that are looked at for one place
+
+Bound = Callable[[int, int], bool]  # whether a car, by its number, has a link in its plan
+
+
+@dataclass(slots=True, frozen=True)
+class Sight:
+    """A vehicle before the works: the seconds to them, were it alone, and the link where it is."""
+
+    free: float
+    link: int
+
+
+@dataclass(slots=True)
+class Coming:
+    """A vehicle on its way to the works: when it was first seen, and the seconds from there, were it alone."""
+
+    since: int
+    free: float
+    link: int  # where it was last seen
+
+
+@dataclass(slots=True, frozen=True)
+class Passed:
+    """One who came past the works' begin: when that was seen, and its seconds beyond those of one alone."""
+
+    clock: int
+    delay: float  # seconds
+
+
+@dataclass(slots=True, frozen=True)
+class Queue:
+    """How far the queue before the works reached at a look."""
+
+    clock: int
+    seconds: int  # since the look before
+    metres: float
+
+
+@dataclass(slots=True, frozen=True)
+class Stand:
+    """Who stood longest at a look."""
+
+    clock: int
+    seconds: int  # of who stands longest in its cell
+
+
+@dataclass(slots=True)
+class Watched:
+    """One place of works."""
+
+    closure: Closure
+    streets: Streets
+    pace: Sequence[float]  # seconds a cell on each link, alone on the road
+    coming: dict[int, Coming] = field(default_factory=dict)  # by car
+    beyond: set[int] | None = None  # cars on the link past the works' begin; none before the first look
+    standing: dict[tuple[int, int, int], int] = field(default_factory=dict)  # car, lane, cell: since
+    passed: list[Passed] = field(default_factory=list)
+    queues: list[Queue] = field(default_factory=list)
+    stands: list[Stand] = field(default_factory=list)
+    long: set[int] = field(default_factory=set)  # cars that stood for longer than LONG
+    left: int | None = None  # the clock at which the queue first left the network
+    last: int | None = None  # look
+
+    def further(self, lanes: Mapping[Place, Lane]) -> list[int]:
+        """The links upstream whose lanes are to be looked at too, by what was seen of the others."""
+        known = {link for link, _ in lanes}
+        reach = reach_of(lanes, self.streets, self.closure.link, self.closure.first)
+        feeders = [feeder for link in reach.full for feeder in self.streets.before.get(link, ())]
+        room = MOST_LINKS + 1 - len(known)
+        return [one for one in dict.fromkeys(feeders) if one not in known][:room] if reach.vehicles else []
+
+    def look(self, clock: int, lanes: Mapping[Place, Lane], bound: Bound) -> None:
+        """Notes what stands on the lanes of the link and of those upstream that the queue reaches."""
+        self.note_passing(clock, lanes, bound)
+        self.note_standing(clock, lanes)
+        self.note_queue(clock, reach_of(lanes, self.streets, self.closure.link, self.closure.first))
+        self.last = clock
+
+    def note_passing(self, clock: int, lanes: Mapping[Place, Lane], bound: Bound) -> None:
+        """Notes who has passed the works' begin since the look before, and who is on the way to it."""
+        before, beyond = self.sights(lanes)
+        looked = {link for link, _ in lanes}
+        gone = [car for car, one in self.coming.items() if car not in before and one.link in looked]
+        for car in gone:
+            one = self.coming.pop(car)
+            self.passed.append(Passed(clock, max(0.0, clock - one.since - one.free)))
+        if self.beyond is not None:  # who was never seen before them has come between two looks
+            self.passed += [Passed(clock, 0.0) for _ in beyond - self.beyond - set(gone)]
+        self.beyond = beyond
+        for car, sight in before.items():
+            if car in self.coming:
+                self.coming[car].link = sight.link
+            elif sight.link == self.closure.link or bound(car, self.closure.link):
+                self.coming[car] = Coming(clock, sight.free, sight.link)
+
+    def sights(self, lanes: Mapping[Place, Lane]) -> tuple[dict[int, Sight], set[int]]:
+        """Those before the works, by car, and the cars on the link past their begin."""
+        link, first = self.closure.link, self.closure.first
+        to_works = first * self.pace[link]
+        before: dict[int, Sight] = {}
+        beyond: set[int] = set()
+        for (other, _), lane in lanes.items():
+            cells, pace = self.streets.cells[other], self.pace[other]
+            if other != link:
+                before.update((car, Sight((cells - cell) * pace + to_works, other)) for car, cell, *_ in lane.cells)
+                before.update((car, Sight(to_works, other)) for car, *_ in lane.buffer)
+                continue
+            before.update((car, Sight((first - cell) * pace, link)) for car, cell, *_ in lane.cells if cell < first)
+            beyond.update(car for car, cell, *_ in lane.cells if cell >= first)
+            beyond.update(car for car, *_ in lane.buffer)
+        return before, beyond
+
+    def note_standing(self, clock: int, lanes: Mapping[Place, Lane]) -> None:
+        """Notes who stands before the works, on their link, and since when."""
+        link, first = self.closure.link, self.closure.first
+        now = [
+            (car, lane, cell)
+            for (other, lane), reply in lanes.items()
+            for car, cell, speed, *_ in reply.cells
+            if other == link and cell < first and speed == 0
+        ]
+        self.standing = {key: self.standing.get(key, clock) for key in now}
+        self.stands.append(Stand(clock, max((clock - since for since in self.standing.values()), default=0)))
+        self.long.update(car for (car, *_), since in self.standing.items() if clock - since > LONG)
+
+    def note_queue(self, clock: int, reach: Reach) -> None:
+        """Notes how far the queue reaches, and whether it leaves the network."""
+        seconds = clock - (self.closure.begin if self.last is None else self.last)
+        self.queues.append(Queue(clock, seconds, reach.metres))
+        if reach.vehicles and self.left is None and any(link not in self.streets.before for link in reach.full):
+            self.left = clock
+
+
+def in_runs(told: Sequence[Sequence[str]]) -> Iterator[str]:
+    """What was seen before works by several runs, the texts of each: in how many, in the words of the first one."""
+    doubted = [one for one in told if one]
+    if doubted:
+        where = f"in {len(doubted):,} of {len(told):,} runs " if len(told) > 1 else ""
+        yield f"{where}{'; '.join(doubted[0])}"
+
+
+def doubts_of(watched: Iterable[Watched], mapping: Map) -> Iterator[str]:
+    """What speaks against a run, by what was seen before its works."""
+    for one in watched:
+        name = mapping.lane_name(one.closure.link, one.closure.lane)
+        if one.long:
+            longest = max(stand.seconds for stand in one.stands)
+            yield (
+                f"before the works on {name} {len(one.long):,} stood for more than {LONG} s in one cell, "
+                f"one for {longest:,} s: they found no gap"
+            )
+        if one.left is not None:
+            yield (
+                f"the queue before the works on {name} left the network at {one.left:,} s: "
+                "who waits beyond is in no queue or delay"
+            )

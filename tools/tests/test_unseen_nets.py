@@ -1,0 +1,66 @@
+"""The maker of networks and demands: by a kind and a seed the same files, of the kind that was asked for."""
+import subprocess
+import sys
+import unittest
+import xml.etree.ElementTree as ElementTree
+from pathlib import Path
+
+from support import TOOLS, Case, needs_sumo, needs_sumo_tools
+
+BENCH = TOOLS.parent / "bench"
+
+
+@needs_sumo
+@needs_sumo_tools
+class Nets(Case):
+    def made(self, *words, status=0):
+        """What the maker says."""
+        command = [sys.executable, str(BENCH / "unseen_nets"), *map(str, words)]
+        done = subprocess.run(command, capture_output=True, text=True, check=False)
+        self.assertEqual(done.returncode, status, done.stderr)
+        return done.stdout + done.stderr
+
+    def folder_of(self, work, kind, *words):
+        told = self.made(7, "--work", work, "--kinds", kind, *words)
+        return Path(told.partition(": ")[0])
+
+    def test_a_seed_gives_the_same_files_again(self):
+        """But for the times and the folders that SUMO notes in comments."""
+        for kind in ("street", "nema-cross"):
+            one, other = (self.folder_of(self.folder / name, kind, "--level", 0.3) for name in "ab")
+            for name in ("net.net.xml", "demand.rou.xml"):
+                first, second = (ElementTree.canonicalize(from_file=str(at / name)) for at in (one, other))
+                self.assertEqual(first, second, name)
+
+    def test_a_level_has_its_share_of_vehicles(self):
+        few, many = (self.folder_of(self.folder, "street", "--level", level) for level in (0.2, 0.6))
+        counts = [len(list(ElementTree.parse(at / "demand.rou.xml").iter("vehicle"))) for at in (few, many)]
+        self.assertAlmostEqual(counts[1] / counts[0], 3, places=1)
+        exact = self.folder_of(self.folder, "street", "--vehicles", 50)
+        self.assertEqual(len(list(ElementTree.parse(exact / "demand.rou.xml").iter("vehicle"))), 50)
+
+    def test_kinds_are_what_they_are_called(self):
+        states = {"stops": "s", "all-way": "w", "priority": "m", "equal": "="}
+        for kind, state in states.items():
+            root = ElementTree.parse(self.folder_of(self.folder, kind, "--vehicles", 20) / "net.net.xml").getroot()
+            found = {one.get("state") for one in root.iter("connection")}
+            self.assertIn(state, found, kind)
+        root = ElementTree.parse(self.folder_of(self.folder, "nema-cross", "--vehicles", 20) / "net.net.xml").getroot()
+        self.assertEqual([one.get("type") for one in root.iter("tlLogic")], ["NEMA"])
+
+    def test_buses_stop_on_their_ways(self):
+        folder = self.folder_of(self.folder, "bus-arterial", "--vehicles", 200)
+        stops = {one.get("id") for one in ElementTree.parse(folder / "stops.add.xml").iter("busStop")}
+        lines = list(ElementTree.parse(folder / "buses.rou.xml").iter("flow"))
+        halts = [one.get("busStop") for line in lines for one in line.iter("stop")]
+        self.assertTrue(lines and halts)
+        self.assertLessEqual(set(halts), stops)
+
+    def test_what_is_asked_wrongly_ends_in_one_line(self):
+        told = self.made(7, "--work", self.folder, "--kinds", "villages", status=1)
+        self.assertRegex(told, r"^no kind is called villages: street, .*\n$")
+        self.assertIn("a seed and --work FOLDER are needed", self.made("--work", self.folder, status=2))
+
+
+if __name__ == "__main__":
+    unittest.main()

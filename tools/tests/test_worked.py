@@ -1,0 +1,313 @@
+"""What a run tells of its works: who passed, how far the queue reached, who stood; by hand, and beside looks at all."""
+import csv
+import json
+import unittest
+
+from support import PROGRAM, Case, needs_simulator
+from test_pictures import needs_matplotlib
+from test_works import fan, flows
+from streetsim.base.client import Client, Lane
+from streetsim.model.mapping import Map, MapLink, MapTurn
+from streetsim.model.runs import Line, Run
+from streetsim.run.record import Recorder
+from streetsim.run.settings import Settings
+from streetsim.works.asked import clock_of, sites_of, really_closed, works_of
+from streetsim.works.closures import Closure, closures_of, link_seconds
+from streetsim.works.crowding import beyond_joint, crowded
+from streetsim.works.figures import capacity_of, length_at, periods_of, rows, Period
+from streetsim.works.movements import lost_movements, told_of, waiting
+from streetsim.works.queues import reach_of, streets_of
+from streetsim.works.watched import Passed, Queue, Watched, doubts_of
+
+
+def link(edge, lanes=2, cells=40, begin=0, end=1):
+    return MapLink(edge, tuple(range(lanes)), begin, end, cells, 2, cells * 7.5, ((0, 0), (cells * 7.5, 0)))
+
+
+def mapped(*links, turns=()):
+    """A map of links in a row."""
+    nodes = [[f"N{at}", 100 * at, 0, 1] for at in range(len(links) + 1)]
+    return Map(nodes=nodes, links=list(links), turns=list(turns), signals=[], cars=[], options={}, warnings=[])
+
+
+def turn(link, lane, following, added=False):
+    return MapTurn(link, lane, following, lane, None, 0, added)
+
+
+TWO = mapped(
+    link("z"), link("a", begin=1, end=2), turns=[turn(0, 0, 1), turn(0, 1, 1)]
+)  # fmt: skip
+
+
+def lane(*cells):
+    """A lane with (car, cell, speed, ..)."""
+    return Lane(tuple(cells), (), (), ())
+
+
+def lanes(**places):
+    """By z0, z1, a0, a1."""
+    return {("za".index(name[0]), int(name[1])): lane(*cells) for name, cells in places.items()}
+
+
+class Queues(unittest.TestCase):
+    def reach(self, **places):
+        found = reach_of(lanes(**{**{name: () for name in ("z0", "z1", "a0", "a1")}, **places}), streets_of(TWO), 1, 30)
+        return found.metres, found.vehicles, found.full
+
+    def test_up_to_the_rear_of_the_last_who_stands(self):
+        self.assertEqual(self.reach(), (0.0, 0, []))
+        self.assertEqual(self.reach(a0=[(1, 29, 0)]), (7.5, 1, []))
+        self.assertEqual(self.reach(a0=[(1, 29, 0)], a1=[(2, 22, 0, 3), (3, 10, 1)]), (75.0, 2, []), "a truck beside")
+        self.assertEqual(self.reach(a0=[(1, 31, 0), (2, 20, 0)]), (75.0, 1, []), "who is past them is not of it")
+
+    def test_each_at_most_ten_cells_behind_the_one_before(self):
+        self.assertEqual(self.reach(a0=[(1, 25, 0), (2, 15, 0), (3, 4, 0)]), (15 * 7.5, 2, []))
+        self.assertEqual(self.reach(a0=[(1, 25, 0), (2, 15, 1), (3, 6, 0)])[0], 5 * 7.5, "who drives is no link")
+
+    def test_it_goes_on_upstream(self):
+        near = [(car, 29 - 3 * car, 0) for car in range(9)]
+        self.assertEqual(self.reach(a0=near), (26 * 7.5 - 7.5, 9, [1]))
+        self.assertEqual(self.reach(a0=near, z1=[(90, 36, 0)])[:2], (30 * 7.5 + 4 * 7.5, 10))
+        self.assertEqual(self.reach(a0=near, z1=[(90, 30, 0)])[:2], (26 * 7.5 - 7.5, 9), "too far behind the last")
+
+
+class Seen(unittest.TestCase):
+    """Works in cells 30 to 39 of lane 0 of a; a vehicle alone takes half a second a cell."""
+
+    def watched(self):
+        return Watched(Closure(1, 0, 30, 39, 100, 1900), streets_of(TWO), [0.5, 0.5])
+
+    def test_who_passes_and_how_late(self):
+        one = self.watched()
+        looks = [
+            (105, dict(a0=[(1, 20, 2)], a1=[(2, 33, 2)])), (110, dict(a0=[(1, 28, 0)], a1=[(3, 10, 2)])),
+            (115, dict(a0=[(1, 28, 0)], a1=[(3, 34, 2)])), (135, dict(a0=[], a1=[(1, 35, 2), (4, 31, 2)])),
+        ]  # fmt: skip
+        for clock, seen in looks:
+            one.look(clock, lanes(**{"a0": (), "a1": (), **seen}), lambda car, link: True)
+        # 2 was past them at the first look; 3 was seen in cell 10, ten seconds from them; 4 came between two looks.
+        self.assertEqual(one.passed, [Passed(115, 0.0), Passed(135, 25.0), Passed(135, 0.0)])
+        self.assertEqual([stand.seconds for stand in one.stands], [0, 0, 5, 0])
+
+    def test_links_upstream_are_looked_at_where_the_queue_comes_near_them(self):
+        one = self.watched()
+        near = [(car, 29 - 3 * car, 0) for car in range(9)]
+        self.assertEqual(one.further(lanes(a0=(), a1=())), [])
+        self.assertEqual(one.further(lanes(a0=near, a1=())), [0])
+        self.assertEqual(one.further(lanes(a0=near, a1=(), z0=(), z1=())), [])
+        one.look(110, lanes(a0=near, a1=(), z0=[(50, 39, 0)], z1=[(51, 38, 0)]), lambda car, link: car != 51)
+        self.assertEqual((one.coming[50].free, 51 in one.coming), (0.5 + 15, False))
+        self.assertEqual(one.left, None)
+        full = [(car, 38 - 3 * car, 0) for car in range(13)]
+        one.look(115, lanes(a0=near, a1=(), z0=full, z1=()), lambda car, link: True)
+        self.assertEqual(one.left, 115)
+        [told] = doubts_of([one], TWO)
+        self.assertIn("the queue before the works on a_0 left the network at 115 s", told)
+
+    def test_who_stands_for_two_minutes_is_a_doubt(self):
+        one = self.watched()
+        for clock in range(105, 231, 5):
+            one.look(clock, lanes(a0=[(1, 29, 0)], a1=()), lambda car, link: True)
+        [told] = doubts_of([one], TWO)
+        self.assertIn("before the works on a_0 1 stood for more than 120 s in one cell, one for 125 s", told)
+
+    def test_rows(self):
+        one = self.watched()
+        for clock in range(105, 1901, 5):
+            one.look(clock, lanes(a0=[(1, 29, 0)] if clock <= 1100 else [], a1=()), lambda car, link: True)
+            one.passed.append(Passed(clock, 4.0 if clock < 1000 else 6.0))
+        found = [dict(zip(("begin", "end"), row[:2])) | {"rest": row[2:]} for row in rows([one], TWO, 0, 900)]
+        self.assertEqual([(row["begin"], row["end"]) for row in found], [(100, 900), (900, 1800), (1800, 1900)])
+        edge, number, begin, end, vehicles, capacity, mean, most, *queues, stood = found[1]["rest"]
+        self.assertEqual((edge, number, begin, end), ("a", 0, "225.0", "300.0"))
+        # One each 5 s, and the one who stood until second 1,100.
+        self.assertEqual((vehicles, capacity), (181, 720))
+        self.assertEqual((queues, stood), (["0.0", "7.5", "7.5"], 995))
+
+    def test_periods(self):
+        found = [(one.begin, one.end) for one in periods_of(100, 2000, 50, 900)]
+        self.assertEqual(found, [(100, 950), (950, 1850), (1850, 2000)])
+
+    def test_lengths_are_shares_of_time(self):
+        queues = [Queue(5, 5, 10.0), Queue(10, 5, 30.0), Queue(20, 10, 20.0)]
+        self.assertEqual([length_at(queues, share) for share in (0.25, 0.5, 0.75, 0.95, 1.0)], [10, 20, 20, 30, 30])
+
+    def test_capacity_is_that_of_quarters_with_a_queue(self):
+        one = self.watched()
+        self.assertIsNone(capacity_of(one, Period(100, 900)))
+        one.passed = [Passed(clock, 0.0) for clock in range(101, 1900, 2)]
+        one.queues = [Queue(clock, 5, 0.0 if clock == 500 else 9.0) for clock in range(105, 1901, 5)]
+        self.assertIsNone(capacity_of(one, Period(100, 1300)), "a queue since 500 alone")
+        self.assertEqual(capacity_of(one, Period(1300, 1900)), 1800)
+
+
+class Asked(unittest.TestCase):
+    def test_times(self):
+        times = {"07:00": 25200, "7:30": 27000, "07:00:00": 25200, "90": 90, "07:60": None, "x": None}
+        self.assertEqual({text: clock_of(text) for text in times}, times)
+        works = works_of("a_0:10-20:07:00-07:30:30", TWO)
+        self.assertEqual((works.first, works.last), (25200, 27030))
+
+    def test_what_is_really_closed(self):
+        works = [works_of(text, TWO) for text in ("a_0:0-200:0-9", "a_0:60-120:0-9")]
+        told = list(really_closed(sites_of(works, TWO), TWO))
+        why = "the first 30 m of a lane with one beside it stay open, as turns lead there"
+        self.assertEqual(told, [f"works on a_0 close 30 to 202 m of 0 to 200 m: {why}"])
+
+    def test_closures(self):
+        told, place = ((10, "close", 0), (20, "close", 1), (30, "reopen", 0)), {"lane": 0, "first": 1, "last": 5}
+        timed = [(clock, Line(0, "", {"cmd": cmd, "link": at, **place})) for clock, cmd, at in told]
+        run = Run("x", Line(1, "", {}), timed=timed)
+        self.assertEqual(closures_of(run, 100), [Closure(0, 0, 1, 5, 10, 30), Closure(1, 0, 1, 5, 20, 100)])
+        self.assertEqual([link_seconds(closures_of(run, 100), clock) for clock in (0, 25, 50)], [100, 80, 50])
+
+
+def run_of(plans, turns=(), first=()):
+    load = {"cmd": "load", "turns": [list(one) for one in turns], "dawdle": 0}
+    enters = [Line(at, "", {"cmd": "enter", "plan": plan, "lane": 0, "depart": at}) for at, plan in enumerate(plans)]
+    return Run("x", Line(1, json.dumps(load), load), first=list(first), enters=enters)
+
+
+class Movements(unittest.TestCase):
+    """Of a two lanes lead on: both straight to b, the left one alone to c; the import added the right one."""
+
+    MAP = mapped(
+        link("a"), link("b"), link("c"),
+        turns=[turn(0, 0, 1), turn(0, 1, 1), turn(0, 1, 2), turn(0, 0, 2, added=True)],
+    )  # fmt: skip
+    TURNS = [(0, 0, 1, 0), (0, 1, 1, 1), (0, 1, 2, 0), (0, 0, 2, 0)]
+
+    def lost(self, first, last, lane=1):
+        run = run_of([[0, 1], [0, 2], [0, 2]], self.TURNS)
+        return run, lost_movements(run, self.MAP, [Closure(0, lane, first, last, 0, 900)])
+
+    def test_who_loses_the_only_lane(self):
+        run, lost = self.lost(20, 39)
+        [told] = told_of(lost, self.MAP, False)
+        self.assertEqual(
+            told,
+            "works on a_1 close the only lane from which 2 vehicles turn to c while they last: these are led from a_0 "
+            "(--lost wait: they wait until the works end)",
+        )
+        self.assertEqual(self.lost(20, 30)[1], [], "they come back to the lane behind the works")
+        self.assertEqual(self.lost(20, 39, lane=0)[1], [], "the other lane leads there too")
+
+    def test_who_waits(self):
+        run, lost = self.lost(20, 39)
+        signal = {"cmd": "signal", "node": 1, "offset": 0, "phases": [[30, [[0, 0, 1], [0, 0, 2], [0, 1, 2]]]]}
+        run.first = [Line(2, json.dumps(signal), signal)]
+        made = waiting(run, lost)
+        self.assertEqual(made.load.command["turns"], [[0, 0, 1, 0], [0, 1, 1, 1], [0, 1, 2, 0]])
+        self.assertEqual(json.loads(made.first[0].text)["phases"], [[30, [[0, 0, 1], [0, 1, 2]]]])
+        self.assertIn("these wait until the works end", *told_of(lost, self.MAP, True))
+
+
+class Crowding(unittest.TestCase):
+    def told(self, mapping, hourly):
+        run = run_of([[0]] * (hourly // 4))
+        for line in run.enters:
+            line.command["depart"] = line.command["depart"] * 3600 // hourly
+        closures = [Closure(0, 0, 20, 30, 0, 900)]
+        return list(crowded(run, mapping, closures)), beyond_joint(run, mapping, closures)
+
+    def test_more_come_than_pass(self):
+        self.assertEqual(self.told(mapped(link("a")), 1500), ([], []))
+        told, doubted = self.told(mapped(link("a")), 2000)
+        self.assertEqual(doubted, [])
+        self.assertIn("edge a: some 2,000 vehicles an hour come to works that leave 1 of 2 lanes", told[0])
+        self.assertTrue(told[0].endswith("a queue grows before them"))
+        told, doubted = self.told(mapped(link("a"), link("a", 1)), 2000)
+        self.assertEqual(told, doubted)
+
+
+@needs_simulator
+class Written(Case):
+    """A street of two joint lanes to which 1,700 vehicles an hour come, with 50 m of one closed for 400 s."""
+
+    def setUp(self):
+        super().setUp()
+        self.write("x.net.xml", fan(2))
+        self.write("x.rou.xml", flows(2, 850))
+        words = [self.folder / "x.net.xml", "--routes", self.folder / "x.rou.xml", "--joint", "a"]
+        self.tool("import", *words, "-o", self.folder / "run.jsonl", "--map", self.folder / "map.json")
+        self.works = "a_0:150-200:100-500"
+
+    def run_with(self, *words):
+        out = self.folder / "out"
+        files = [self.folder / "run.jsonl", "--map", self.folder / "map.json", "--out", out, "--program", PROGRAM]
+        told = self.tool("run", *files, "--until", 600, "--close", self.works, *words)
+        return out, told[0].splitlines()[-1]
+
+    @needs_matplotlib
+    def test_tables_and_picture(self):
+        out, _ = self.run_with("--sumo-output", "fcd", "--junctions", 300)
+        with open(out / "works.csv", encoding="utf-8") as file:
+            [row] = csv.DictReader(file)
+        self.assertEqual((row["begin"], row["end"], row["edge"], row["lane"]), ("100", "500", "a", "0"))
+        self.assertAlmostEqual(int(row["vehicles"]) * 3600 / 400, 1600, delta=160)
+        with open(out / "queues.csv", encoding="utf-8") as file:
+            queues = [line for line in csv.DictReader(file) if line["before"] == "works"]
+        self.assertEqual({(line["edge"], line["lane"]) for line in queues}, {("a", "0")})
+        self.assertAlmostEqual(max(float(line["metres"]) for line in queues), float(row["queue_max_m"]), delta=40)
+        pictures = []
+        for name in ("one.png", "two.png"):
+            self.tool("plot", "works", out, "-o", self.folder / name)
+            pictures.append((self.folder / name).read_bytes())
+        self.assertEqual(*pictures)
+        self.assertTrue(pictures[0].startswith(b"\x89PNG") and len(pictures[0]) < 110_000)
+
+    def test_without_merging_it_is_doubted(self):
+        """Who stands first waits for a gap; with turns nobody stands for a minute."""
+        out, told = self.run_with("--rescue", 0)
+        self.assertNotIn("stood for more", told)
+        with open(out / "works.csv", encoding="utf-8") as file:
+            self.assertLess(max(int(row["longest_stand_s"]) for row in csv.DictReader(file)), 60)
+        self.assertIn("before the works on a_0", self.run_with("--rescue", 0, "--merge", "none")[1])
+
+    def test_studies(self):
+        text = 'run = "run.jsonl"\nmap = "map.json"\nuntil = 700\nseeds = "1-2"\n[variant.turns]\n'
+        text += f'close = ["{self.works}"]\n'
+        text += f'[variant.gaps]\nclose = ["{self.works}"]\nmerge = "none"\n'
+        words = [self.write("study.toml", text), "--out", self.folder / "out", "--program", PROGRAM]
+        told = self.tool("study", *words)[0].splitlines()[-1]
+        self.assertRegex(told, "^not to be trusted: .*gaps: in [12] of 2 runs before the works on a_0 ")
+        self.assertNotIn("turns: in", told)
+        with open(self.folder / "out/differences.csv", encoding="utf-8") as file:
+            turns, gaps = (float(row["mean_trip_s"]) for row in csv.DictReader(file))
+        self.assertLess(turns, gaps)
+
+
+@needs_simulator
+class Beside(unittest.TestCase):
+    def test_queue_beside_looks_in_every_second(self):
+        """Over two links: 2,400 vehicles an hour come to one open lane. Means and greatest within 15 m or 5 %."""
+        load = {"cmd": "load", "nodes": [[0, 1, 4], [1, 1, 4], [2, 1, 4]], "turns": [[0, 0, 1, 0], [0, 1, 1, 1]]}
+        load |= {"links": [[0, 0, 1, 2, 100, 2], [1, 1, 2, 2, 60, 2]], "zone": 0, "dawdle": 170, "change": 1000}
+        load["seed"] = 5
+        enters = [{"cmd": "enter", "plan": [0, 1], "lane": at % 2, "depart": at * 3 // 2} for at in range(600)]
+        lines = [Line(at, json.dumps(one), one) for at, one in enumerate([load, *enters], 1)]
+        close = {"cmd": "close", "link": 1, "lane": 0, "first": 20, "last": 30}
+        run = Run("x", lines[0], enters=lines[1:], needed=[one["depart"] for one in enters])
+        run.timed = [(20, Line(0, json.dumps(close), close))]
+        mapping = mapped(link("z", cells=100), link("a", cells=60, begin=1, end=2), turns=TWO.turns)
+        streets, exact = streets_of(mapping), []
+
+        class Looking(Recorder):
+            def look(self, clock):
+                if clock > 20:
+                    exact.append(reach_of(self.lanes([(0, 0), (0, 1), (1, 0), (1, 1)]), streets, 1, 20).metres)
+                super().look(clock)
+
+            def advance(self, clock, target):
+                return super().advance(clock, clock + 1)
+
+        with Client(PROGRAM) as sim:
+            [watched] = Looking(sim, run, mapping, Settings(900, 0, rescue=0), None, lambda *_: None).record().works
+        self.assertGreater(max(exact), 20 * 7.5 + 100, "it reached the link upstream")
+        seen = sum(one.metres * one.seconds for one in watched.queues) / sum(one.seconds for one in watched.queues)
+        for here, there in ((seen, sum(exact) / len(exact)), (max(one.metres for one in watched.queues), max(exact))):
+            self.assertLess(abs(here - there), max(15.0, 0.05 * there))
+
+
+if __name__ == "__main__":
+    unittest.main()
