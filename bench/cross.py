@@ -17,8 +17,8 @@ from shared import TOP, run
 
 sys.path.insert(0, str(TOP / "tools/tests"))
 from crosses import LAST, a_green, cases, demand  # noqa: E402
-from streetsim.run.compare import read_tripinfo, trips_of  # noqa: E402
-from streetsim.run.folder import read_folder  # noqa: E402
+from streetsim.model.folder import read_folder  # noqa: E402
+from streetsim.results.compare import read_tripinfo, trips_of  # noqa: E402
 
 
 def in_sumo(net, routes, folder):

@@ -21,8 +21,9 @@ import time
 from pathlib import Path
 
 from shared import TOP
-from streetsim.run import running
-from streetsim.sumo import importing
+from streetsim.cli import import_ as importing, run as running
+from streetsim.outputs import folder as making
+from streetsim.run.record import Recorder
 
 SIDE = 30
 # Vehicles of each hour, of 1,000.
@@ -112,7 +113,7 @@ def megabytes(who):
     return resource.getrusage(who).ru_maxrss / 1024
 
 
-class Counted(running.Recorder):
+class Counted(Recorder):
     """Says how many calls the run took."""
 
     def record(self):
@@ -148,7 +149,7 @@ def main():
         begin = spent(resource.RUSAGE_SELF)
         importing.main([str(network), "--routes", str(routes), "-o", str(run), "--map", str(mapped)])
         print(f"import: {spent(resource.RUSAGE_SELF) - begin:.1f} s of processor time", flush=True)
-    running.Recorder = Counted
+    making.Recorder = Counted
     begin, here, there = time.monotonic(), spent(resource.RUSAGE_SELF), spent(resource.RUSAGE_CHILDREN)
     arguments = [
         run, "--map", mapped, "--until", words.until or 86_400, "--program", words.program, "--out", folder / "out",

@@ -16,7 +16,7 @@ from collections import Counter
 from pathlib import Path
 
 import shared  # noqa: F401  # which finds the tools
-from streetsim.run.folder import read_folder
+from streetsim.model.folder import read_folder
 
 
 def in_sumo(path):

@@ -26,14 +26,15 @@ from selenium import webdriver
 from streetsim.live.bridge import Bridge
 from streetsim.live.engine import Engine
 from streetsim.live.page import own_lines, page_of
-from streetsim.run.mapping import Map, MapLink, read_map
-from streetsim.run.runs import Run, read_run
+from streetsim.model.mapping import Map, MapLink, read_map
+from streetsim.model.runs import Run, read_run
 
 VEHICLES, SPACING, SIDE = 10_000, 750, 32
 # Pixels a metre of each view; none is the whole network.
 VIEWS = {"whole": None, "0.25 pixels a metre": 0.25, "2 pixels a metre": 2.0, "most lanes": "most"}
 VIEW = """
-const [scale] = arguments, lanes = () => scene.links.filter(isInView).reduce((sum, link) => sum + link.lanes, 0);
+const [scale] = arguments, shown = () => scene.links.filter(link => scene.isInView(link));
+const lanes = () => shown().reduce((sum, link) => sum + link.lanes, 0);
 scene.moved = false; scene.fit();
 const middle = session.data.nodes[Math.floor(session.data.nodes.length / 2)];
 if (scale) { scene.moved = true; [scene.x, scene.y, scene.scale] = [middle.x, middle.y, scale === "most" ? 2 : scale]; }
@@ -88,12 +89,13 @@ def browser() -> Iterator[webdriver.Chrome]:
 @contextmanager
 def served(run: Run, mapping: Map, program: str) -> Iterator[str]:
     """The address of a page that the bridge serves."""
-    engine = Engine(program, own_lines(run))
-    with Bridge(engine, page_of(run, mapping)) as bridge:
+    engines = [Engine(program, own_lines(run)) for _ in range(2)]
+    with Bridge(engines, page_of(run, mapping)) as bridge:
         threading.Thread(target=bridge.serve_forever, daemon=True).start()
         yield bridge.address
         bridge.shutdown()
-    engine.close()
+    for engine in engines:
+        engine.close()
 
 
 def opened(page: webdriver.Chrome, address: str, begin: int) -> None:

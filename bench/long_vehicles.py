@@ -14,8 +14,8 @@ from statistics import fmean
 
 import shared
 from shared import SAMPLES, TOP, run
-from streetsim.run.compare import counts_of, geh, read_edgedata, read_tripinfo, trips_of
-from streetsim.run.folder import read_folder
+from streetsim.model.folder import read_folder
+from streetsim.results.compare import counts_of, geh, read_edgedata, read_tripinfo, trips_of
 
 PLAIN, LIT = "priority", "traffic_light"
 NODES = ("a", -800, 0, PLAIN), ("b", 0, 0, LIT), ("c", 400, 0, PLAIN), ("d", 0, -400, PLAIN), ("e", 0, 400, PLAIN)

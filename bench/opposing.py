@@ -14,8 +14,8 @@ from pathlib import Path
 
 import shared
 from shared import TOP, run
-from streetsim.run.compare import read_tripinfo, trips_of
-from streetsim.run.folder import read_folder
+from streetsim.model.folder import read_folder
+from streetsim.results.compare import read_tripinfo, trips_of
 
 FLOWS = (200, 400, 600, 800)  # vehicles an hour of the main street
 KINDS = {"both sides, none left": ("sn", 0.0), "one side, 20 % left": ("s", 0.2), "both sides, 20 % left": ("sn", 0.2)}

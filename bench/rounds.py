@@ -13,8 +13,9 @@ from pathlib import Path
 from statistics import fmean
 
 import shared
-from streetsim.run import rounds, running
-from streetsim.run.folder import read_folder
+from streetsim.cli import run as running
+from streetsim.model.folder import read_folder
+from streetsim.run import rounds
 
 # Rounds, and seconds between their polls.
 CASES = [(0, 10), (1, 10), (2, 10), (3, 10), (2, 30), (2, 120), (2, 300), (2, 600), (2, 1800)]

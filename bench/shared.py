@@ -57,7 +57,7 @@ def numbers(seeds):
 
 def spread(values):
     """A mean and half the width of its 95 % interval, in whole numbers."""
-    from streetsim.run.tables import interval
+    from streetsim.base.seeds import interval
 
     mean, half = interval(values)
     return f"{mean:,.0f}" + (f" ± {half:,.0f}" if half is not None else "")

@@ -11,11 +11,11 @@ import time
 from pathlib import Path
 
 import shared
-from streetsim.client import Client
-from streetsim.files import Fault
-from streetsim.sumo.importing import convert
+from streetsim.base.client import Client
+from streetsim.base.files import Fault
+from streetsim.base.report import Report
+from streetsim.importing.convert import convert
 from streetsim.sumo.network import Options
-from streetsim.sumo.report import Report
 
 
 def timed(times, call):

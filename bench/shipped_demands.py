@@ -15,7 +15,7 @@ from pathlib import Path
 
 import shared
 from shared import SUMO_HOME, TOP
-from streetsim.files import Fault
+from streetsim.base.files import Fault
 from streetsim.sumo.configuration import files_named, read_configuration
 
 GAMES = Path(SUMO_HOME) / "tools/game"

@@ -1,7 +1,14 @@
 #!/usr/bin/python3
 """Road works on edges of the sample grid, town and Acosta, in SUMO and in streetsim: what they add to the mean trip.
 
-Usage: bench/works.py PROGRAM --work FOLDER [--seeds 1-2] [--only NAME,..] [--edges EDGE,..] [--sides sumo,here]
+Usage: bench/works.py PROGRAM --work FOLDER [--seeds 1-2] [--only NAME,..] [--edges EDGE,..] [--sides sumo,here] \
+[--merge none]
+       bench/works.py PROGRAM --work FOLDER --street
+       bench/works.py PROGRAM --work FOLDER --drawn SEED
+
+--street: one lane of a street of two is closed for an hour, at 800 to 1,600 vehicles an hour and four places; and what
+passes at 2,400. --drawn: works on streets and towns that unseen_nets makes from a seed, and what they add to the trips
+of those who pass their edge meanwhile; nobody is teleported in SUMO.
 
 Of each network and number of lanes the edges of 120 m and more are put in order by the vehicles that pass them, and of
 so many equal parts of these (of the busier half, where there are several lanes) the middle one is taken; lane, length
@@ -22,6 +29,7 @@ from pathlib import Path
 from statistics import fmean
 
 from shared import SAMPLES, SHIPPED, TOP, numbers, run, teleports_of
+from works_street import drawn_rows, street_rows
 
 ACOSTA = SHIPPED / "acosta"
 UNTIL, BEGIN, LEAST = 7200, 600, 120.0
@@ -110,12 +118,12 @@ def sumo_trip(name, works, seed, folder):
     return mean_trip(wished(routes), arrivals), teleports_of(told)
 
 
-def here_trip(name, works, closing, seeds, folder, program):
+def here_trip(name, works, closing, seeds, folder, program, merge):
     """The mean trips here, and the rescues, of each seed; the lane of the works is joint also without them."""
     words = [f"{name}.jsonl", "--map", f"{name}.map.json", "--until", UNTIL, "--every", 0, "--jobs", 1]
     words += ["--seeds", seeds, "--out", "here", "--program", program]
     if closing:
-        words += [f"--close={works.closing()}"]
+        words += [f"--close={works.closing()}", "--merge", merge]
     elif works.lanes > 1:
         words += [f"--joint={works.edge}_{works.lane}"]
     run([TOP / "tools/streetsim-run", *words], folder)
@@ -143,10 +151,19 @@ def main():
     words.add_argument("--seeds", default="1-2")
     words.add_argument("--only", default=",".join(NETWORKS))
     words.add_argument("--edges", help="of the networks' edges with works, these alone")
+    words.add_argument("--street", action="store_true", help="the table of one street of two lanes")
+    words.add_argument("--drawn", type=int, metavar="SEED", help="the table of streets and towns from a seed")
+    words.add_argument("--merge", choices=["turns", "none"], default="turns", help="before works, of these networks")
     words.add_argument("--sides", default="sumo,here", help="whose cells the rows have")
     args = words.parse_args()
     args.work.mkdir(parents=True, exist_ok=True)
     folder, program = args.work.resolve(), Path(args.program).resolve()
+    if args.street or args.drawn is not None:
+        seeds = numbers(args.seeds)
+        rows = street_rows(folder, program, seeds) if args.street else drawn_rows(args.drawn, folder, program, seeds)
+        for row in rows:
+            print(row, flush=True)
+        return
     print("| Edge (lanes) | works | SUMO, s | more | teleports | here, s | more | rescues |")
     print("|---|---|---|---|---|---|---|---|", flush=True)
     for name in args.only.split(","):
@@ -168,7 +185,12 @@ def main():
                 )
             if "here" in args.sides:
                 cells.append(
-                    told(*(here_trip(name, works, closing, args.seeds, folder, program) for closing in (False, True)))
+                    told(
+                        *(
+                            here_trip(name, works, closing, args.seeds, folder, program, args.merge)
+                            for closing in (False, True)
+                        )
+                    )
                 )
             stretch = f"lane {works.lane}, {works.end - works.begin} m, {works.seconds // 60} min"
             print(f"| {name} {works.edge} ({works.lanes}) | {stretch} | {' | '.join(cells)} |", flush=True)

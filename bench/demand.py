@@ -1,0 +1,227 @@
+#!/usr/bin/python3
+"""A known demand, forgotten but for some turning counts, found again by streetsim-demand and by SUMO's routeSampler.
+
+Usage: bench/demand.py PROGRAM --work FOLDER [--unseen KIND-SEED,..] [--only NAME,..] [--period 3600] [--most 40000]
+    [--level 0.7] [--counted 1] [--sides here,there]
+
+The demand of a network is run in streetsim with a seed of its own, and all turns are counted by period, exactly. Of
+40 % of the junctions the counts are kept, each with an error of 5 % (normal, standard deviation); which junctions, and
+the errors, are drawn by --counted. streetsim-demand gets these counts, at most three runs and nothing of the demand;
+routeSampler (--optimize full, seed 1) gets the same counts and the candidate routes that streetsim-demand found. Both
+demands are then run in streetsim with a seed that neither saw, and GEH is of hourly volumes: of the counts that were
+used, and of all turns of the junctions that were kept back, there without an error. --unseen takes networks of
+unseen_nets, by kind and seed, beside the sample grid. What was found is kept in FOLDER and used again. It needs
+Debian's sumo, sumo-tools and python3-scipy. Prints the table of tools/DEMAND.md.
+"""
+
+import random
+import resource
+import subprocess
+from collections import defaultdict
+from dataclasses import dataclass, replace
+from pathlib import Path
+
+from shared import SAMPLES, SUMO_HOME, TOP, parser_of, run, with_sumo, work_of
+
+from streetsim.base.report import Report
+from streetsim.counts.judging import judged
+from streetsim.counts.passing import Places
+from streetsim.counts.reading import read_counts
+from streetsim.counts.running import passed, ran
+from streetsim.counts.values import Count
+from streetsim.routes.loading import read_town
+from streetsim.routes.watching import Ground
+from streetsim.sessions.prepared import digest_of
+from streetsim.sumo.network import Options
+from streetsim.ways.costs import flat_costs
+from streetsim.ways.empty import times_without_routes
+from streetsim.ways.trips import connected, read_trips
+
+HOUR, SHARE, ERROR = 3600, 0.4, 0.05
+TRUE_SEED, JUDGE_SEED = 11, 101
+HEAD = (
+    "| Demand | used: GEH below 5 by hour | by period | total | junctions kept back: by hour | by period | total "
+    "| processor, s |"
+)
+
+
+@dataclass(frozen=True)
+class Network:
+    name: str
+    net: Path
+    routes: list[Path]
+    additional: list[Path]
+
+
+class Case:
+    """A network with its true counts, used and kept back."""
+
+    def __init__(self, network, program, folder, args):
+        self.network, self.program, self.folder, self.args = network, program, folder, args
+        folder.mkdir(parents=True, exist_ok=True)
+        self.options = Options()
+        self.town = self.read()
+        free, _ = times_without_routes(self.town.net, self.town.graph, self.options)
+        self.costs = flat_costs(self.town.graph, list(free))
+
+    def read(self):
+        return read_town(str(self.network.net), [str(one) for one in self.network.additional], self.options, Report())
+
+    def passed(self, routes, counts, seed):
+        """How many pass each count in a run of some routes, and how many vehicles there are."""
+        town = self.read()
+        trips = read_trips([str(one) for one in routes], town.net, town.graph, town.types, self.options, Report())
+        all_ = connected(trips.all, town.net, town.graph, True, Report())
+        ground = Ground(self.program, digest_of(self.program), town.graph, 300, 2 * HOUR + 7200, 2)
+        done = ran(ground, town.loaded(all_), self.costs, seed)
+        places = Places(counts, town.graph)
+        return passed(places, [trip.path for trip in all_], [""] * len(all_), done.left), len(all_), done.rescues
+
+    def turns(self):
+        """All turns of junctions where there is a choice, by junction."""
+        graph, found = self.town.graph, defaultdict(list)
+        for at, (edge, following) in enumerate(graph.movements):
+            if following >= 0 and not graph.turns_back[at]:
+                found[self.town.net.edges[graph.edges[edge]].end].append((graph.edges[edge], graph.edges[following]))
+        return {junction: some for junction, some in sorted(found.items()) if len(some) > 2}
+
+    def counted(self):
+        """Counts of the junctions that are used, with errors, and of the others without."""
+        turns, draws = self.turns(), random.Random(f"counted {self.args.counted} {self.network.name}")
+        used = set(draws.sample(sorted(turns), max(1, round(SHARE * len(turns)))))
+        periods = [(begin, begin + self.args.period) for begin in range(0, HOUR, self.args.period)]
+        counts = [
+            (junction in used, Count(*period, edges, 0.0, ""))
+            for junction, some in turns.items() for edges in some for period in periods
+        ]  # fmt: skip
+        path = self.folder / "true.csv"
+        if not path.exists():
+            values, vehicles, rescues = self.passed(self.network.routes, [count for _, count in counts], TRUE_SEED)
+            path.write_text("\n".join(map(str, (vehicles, rescues, *values))) + "\n")
+        self.vehicles, self.rescues, *values = map(int, path.read_text().split())
+        true = [(own, replace(count, vehicles=value)) for (own, count), value in zip(counts, values, strict=True)]
+        wrong = [with_error(count, draws) for own, count in true if own]
+        return wrong, [count for own, count in true if not own], len(used), len(turns)
+
+
+def with_error(count, draws):
+    return replace(count, vehicles=max(0, round(count.vehicles * (1 + draws.gauss(0, ERROR)))))
+
+
+def write_csv(path, counts):
+    rows = [f"{one.begin},{one.end},{one.edges[0]},{one.edges[1]},{one.vehicles:g}" for one in counts]
+    path.write_text("\n".join(["begin,end,from,to,vehicles", *rows]) + "\n")
+
+
+def write_xml(path, counts):
+    """As routeSampler takes them."""
+    of_period = defaultdict(list)
+    for one in counts:
+        of_period[one.begin, one.end].append(one)
+    parts = ["<data>"]
+    for (begin, end), some in sorted(of_period.items()):
+        parts.append(f'<interval id="c" begin="{begin}" end="{end}">')
+        parts += [f'<edgeRelation from="{one.edges[0]}" to="{one.edges[1]}" count="{one.vehicles:g}"/>' for one in some]
+        parts.append("</interval>")
+    path.write_text("\n".join([*parts, "</data>"]))
+
+
+def timed(words, folder, log):
+    """Runs a command; gives its processor seconds, with all children."""
+    before = resource.getrusage(resource.RUSAGE_CHILDREN)
+    words = [str(word) for word in words]
+    done = subprocess.run(words, cwd=folder, env=with_sumo(), capture_output=True, text=True, check=False)
+    after = resource.getrusage(resource.RUSAGE_CHILDREN)
+    (folder / log).write_text(done.stdout + done.stderr)
+    if done.returncode not in (0, 1):
+        raise SystemExit(f"{' '.join(words)}\n{done.stdout}{done.stderr}")
+    return after.ru_utime + after.ru_stime - before.ru_utime - before.ru_stime
+
+
+def kept(path, make):
+    """What a file has, made first where it is not there."""
+    if not path.exists():
+        path.write_text(f"{make():.1f}\n")
+    return float(path.read_text())
+
+
+def fitted_here(case, wrong):
+    write_csv(case.folder / "counts.csv", wrong)
+    words = [TOP / "tools/streetsim-demand", case.network.net, *case.network.additional, "--counts", "counts.csv"]
+    words += ["--ends", "all", "--most", case.args.most, "--runs", 3, "--program", case.program]
+    words += ["-o", "here.rou.xml", "--out", "here"]
+    return kept(case.folder / "here.seconds", lambda: timed(words, case.folder, "here.log"))
+
+
+def fitted_there(case, wrong):
+    write_xml(case.folder / "counts.xml", wrong)
+    words = ["/usr/bin/python3", f"{SUMO_HOME}/tools/routeSampler.py", "-r", "here/candidates.rou.xml"]
+    words += ["-t", "counts.xml", "--optimize", "full", "-s", 1, "-o", "there.rou.xml"]
+    return kept(case.folder / "there.seconds", lambda: timed(words, case.folder, "there.log"))
+
+
+def shares(counts, values):
+    """GEH below 5 by hour and by period, in percent; the mean GEH by hour; the total's difference in percent; and how
+    many there are by hour."""
+    fit = judged(counts, values)
+    hourly = 100 * sum(one.geh < 5 for one in fit.hourly) / len(fit.hourly)
+    each = 100 * sum(one.geh < 5 for one in fit.each) / len(fit.each)
+    mean = sum(one.geh for one in fit.hourly) / len(fit.hourly)
+    total = 100 * (sum(values) / sum(one.vehicles for one in counts) - 1)
+    return hourly, each, mean, total, len(fit.hourly)
+
+
+SIDES = ("`streetsim-demand`", fitted_here, "here"), ("routeSampler", fitted_there, "there")
+
+
+def row(case):
+    wrong, back, used, all_ = case.counted()
+    yield f"| {case.network.name} ({case.vehicles:,} vehicles; {used} of {all_} junctions counted) | | | | | | | |"
+    for label, make, routes in SIDES:
+        if routes not in case.args.sides.split(","):
+            continue
+        seconds = make(case, wrong)
+        path = case.folder / f"{routes}.values"
+        if not path.exists():
+            values, vehicles, rescues = case.passed([case.folder / f"{routes}.rou.xml"], [*wrong, *back], JUDGE_SEED)
+            path.write_text("\n".join(map(str, (vehicles, rescues, *values))) + "\n")
+        vehicles, rescues, *values = map(int, path.read_text().split())
+        parts = shares(wrong, values[: len(wrong)]), shares(back, values[len(wrong) :])
+        cells = [
+            f"{hourly:.0f} % of {count} (mean GEH {mean:.1f}) | {each:.0f} % | {total:+.1f} %"
+            for hourly, each, mean, total, count in parts
+        ]
+        yield f"| {label}, {vehicles:,} vehicles, {rescues} rescues | {cells[0]} | {cells[1]} | {seconds:.0f} |"
+
+
+def networks(args, work):
+    found = [Network("sample grid", SAMPLES / "grid.net.xml.gz", [SAMPLES / "grid.rou.xml.gz"], [])]
+    for text in filter(None, args.unseen.split(",")):
+        from unseen_nets import make
+
+        kind, _, seed = text.rpartition("-")
+        made = make(kind, int(seed), work, level=args.level)
+        found.append(Network(made.name, made.net, made.routes, made.additional))
+    return [one for one in found if not args.only or one.name in args.only.split(",")]
+
+
+def main():
+    made = parser_of(__doc__)
+    made.add_argument("--work", required=True)
+    made.add_argument("--unseen", default="")
+    made.add_argument("--only", default="")
+    made.add_argument("--level", type=float, default=0.7)
+    made.add_argument("--period", type=int, default=3600)
+    made.add_argument("--most", type=int, default=40_000)
+    made.add_argument("--counted", type=int, default=1)
+    made.add_argument("--sides", default="here,there")
+    args = made.parse_args()
+    work = work_of(args)
+    print(HEAD, "|---|---|---|---|---|---|---|---|", sep="\n")
+    for network in networks(args, work):
+        for line in row(Case(network, args.program, work / f"case-{network.name.replace(' ', '-')}", args)):
+            print(line, flush=True)
+
+
+if __name__ == "__main__":
+    main()

@@ -1,0 +1,262 @@
+"""Works on one lane of streets: trips, flows and stands here and in SUMO."""
+
+import csv
+import random
+import xml.etree.ElementTree as ElementTree
+from collections import Counter
+from dataclasses import dataclass
+from pathlib import Path
+from statistics import fmean
+
+from shared import TOP, run
+from unseen_nets import Made, make
+from unseen_nets.making import read_net
+
+PASSES = 1600  # vehicles an hour of an open lane
+FREE = 20  # metres of a lane before and behind drawn works
+
+
+@dataclass(frozen=True)
+class Stretch:
+    """Works on a lane."""
+
+    edge: str
+    lane: int
+    begin: int  # metres
+    end: int
+    first: int  # seconds
+    last: int
+
+    def closing(self) -> str:
+        return f"{self.edge}_{self.lane}:{self.begin}-{self.end}:{self.first}-{self.last}"
+
+    def obstacle(self) -> str:
+        """A vehicle of SUMO that is as long as the works and stands there."""
+        return (
+            f'<routes><vType id="works" length="{self.end - self.begin - 1}" minGap="0"/>'
+            f'<vehicle id="works" type="works" depart="{self.first}" departLane="{self.lane}" departPos="{self.end}" '
+            f'departSpeed="0" insertionChecks="none"><route edges="{self.edge}"/><stop lane="{self.edge}_{self.lane}" '
+            f'startPos="{self.end - 5}" endPos="{self.end}" until="{self.last}"/></vehicle></routes>'
+        )
+
+
+@dataclass(frozen=True)
+class Case:
+    """A network with its demand in a folder of its own."""
+
+    folder: Path
+    net: Path
+    routes: tuple[Path, ...]
+    additional: tuple[Path, ...]
+    until: int
+
+
+@dataclass(frozen=True)
+class Seen:
+    """What a run gave. trips: (wished departure, arrival or the end), by name."""
+
+    trips: dict[str, tuple[float, float]]
+    stood: int = 0  # seconds, the longest in one cell before works
+    doubt: str = ""
+
+
+def in_sumo(case: Case, works: Stretch | None, seed: int, label: str) -> Seen:
+    """A run of SUMO, kept by its label; nobody is teleported."""
+    trips = case.folder / f"sumo-{label}-{seed}.xml"
+    if not trips.exists():
+        routes = list(case.routes)
+        if works:
+            obstacle = case.folder / f"works-{label}.rou.xml"
+            obstacle.write_text(works.obstacle(), encoding="utf-8")
+            routes.append(obstacle)
+        words = ["nice", "-n", 10, "sumo", "-n", case.net, "-r", ",".join(map(str, routes)), "--end", case.until]
+        words += ["-a", ",".join(map(str, case.additional))] if case.additional else []
+        words += ["--seed", seed, "--no-step-log", "--no-warnings", "--time-to-teleport", -1]
+        words += ["--collision.action", "none"]  # else works that begin where somebody drives may be taken out
+        run([*words, "--tripinfo-output", "half.xml"], case.folder)
+        (case.folder / "half.xml").replace(trips)
+    found = {}
+    for one in ElementTree.parse(trips).iter("tripinfo"):
+        found[one.get("id")] = float(one.get("depart")) - float(one.get("departDelay")), float(one.get("arrival"))
+    found.pop("works", None)
+    return Seen(found)
+
+
+def here(case: Case, works: Stretch | None, seed: int, label: str, program: str, joint: str) -> Seen:
+    """A run of streetsim; joint: the lane of works, which is joint without them too."""
+    stem, out = case.folder / "run", case.folder / f"here-{label}-{seed}"
+    if not stem.with_suffix(".jsonl").exists():
+        words = [case.net, *case.additional, "--routes", *case.routes, "-o", "run.jsonl", "--map", "run.map.json"]
+        run([TOP / "tools/streetsim-import", *words], case.folder)
+    words = ["run.jsonl", "--map", "run.map.json", "--until", case.until, "--every", 0, "--rescue", 0, "--out", out]
+    words += ["--program", program]
+    if works:
+        words.append(f"--close={works.closing()}")
+    elif joint:
+        words.append(f"--joint={joint}")
+    words += ["--seeds", f"{seed}-{seed}"]
+    told = run(["nice", "-n", 10, TOP / "tools/streetsim-run", *words], case.folder)
+    out = out / f"seed-{seed}"
+    with open(out / "trips.csv", encoding="utf-8") as file:
+        rows = list(csv.DictReader(file))
+    trips = {row["id"]: (float(row["depart"]), float(row["arrival"] or case.until)) for row in rows}
+    stood = 0
+    if works:
+        with open(out / "works.csv", encoding="utf-8") as file:
+            stood = max((int(row["longest_stand_s"]) for row in csv.DictReader(file)), default=0)
+    doubt = next((line for line in told.splitlines() if "not to be trusted: " in line), "").partition("trusted: ")[2]
+    return Seen(trips, stood, doubt)
+
+
+def mean_trip(seen: Seen, first: float, last: float, until: float, names: set[str] | None = None) -> float:
+    """Of those who wish to depart between two seconds; who has not arrived counts until the end."""
+    some = [(depart, end) for name, (depart, end) in seen.trips.items() if names is None or name in names]
+    return fmean(min(end, until) - depart for depart, end in some if first <= depart < last)
+
+
+def flow(seen: Seen, first: float, last: float) -> float:
+    """Arrivals an hour between two seconds."""
+    return sum(first <= end < last for _, end in seen.trips.values()) * 3600 / (last - first)
+
+
+# ---- the street of the table: two edges of 800 m
+
+FLOWS, FULL = (800, 1000, 1200, 1400, 1600), 2400
+PLACES = (50, 200, 400, 600)
+BEGIN, END, UNTIL, WORKS = 1800, 5400, 9000, 200
+
+
+def plain_street(folder: Path, hourly: int) -> Case:
+    """Two edges of two lanes at 50 km/h, 7,200 s of vehicles."""
+    own = folder / f"street-{hourly}"
+    own.mkdir(parents=True, exist_ok=True)
+    if not (own / "net.net.xml").exists():
+        nodes = "".join(f'<node id="{name}" x="{x}" y="0"/>' for name, x in (("a", 0), ("b", 800), ("c", 1600)))
+        edges = "".join(
+            f'<edge id="{name}" from="{begin}" to="{end}" numLanes="2" speed="13.89"/>'
+            for name, begin, end in (("in", "a", "b"), ("out", "b", "c"))
+        )
+        (own / "plain.nodes.xml").write_text(f"<nodes>{nodes}</nodes>", encoding="utf-8")
+        (own / "plain.edges.xml").write_text(f"<edges>{edges}</edges>", encoding="utf-8")
+        run("netconvert -n plain.nodes.xml -e plain.edges.xml -o net.net.xml".split(), own)
+        each = f'begin="0" end="7200" vehsPerHour="{hourly}" departLane="best" departSpeed="max"'
+        text = f'<routes><flow id="f" {each}><route edges="in out"/></flow></routes>'
+        (own / "demand.rou.xml").write_text(text, encoding="utf-8")
+    return Case(own, own / "net.net.xml", (own / "demand.rou.xml",), (), UNTIL)
+
+
+def street_rows(folder: Path, program: str, seeds: range):
+    """The table of the street, row by row."""
+    yield "| vehicles an hour | works at, m | SUMO, mean trip, s | here | | longest trip, SUMO, here | longest stand |"
+    yield "|---|---|---|---|---|---|---|"
+    for hourly in FLOWS:
+        case = plain_street(folder, hourly)
+        for place in PLACES:
+            yield street_row(case, hourly, place, program, seeds)
+    yield "| vehicles an hour | works at, m | pass here an hour |"
+    yield "|---|---|---|"
+    case = plain_street(folder, FULL)
+    for place in PLACES:
+        works = Stretch("out", 0, place, min(800, place + WORKS), BEGIN, END)
+        flows = [flow(here(case, works, seed, f"{place}", program, ""), BEGIN + 900, END) for seed in seeds]
+        yield f"| {FULL:,} | {place} | {fmean(flows):,.0f} |"
+
+
+def street_row(case: Case, hourly: int, place: int, program: str, seeds: range) -> str:
+    works = Stretch("out", 0, place, min(799, place + WORKS), BEGIN, END)
+    theirs = [in_sumo(case, works, seed, f"{place}") for seed in seeds]
+    ours = [here(case, works, seed, f"{place}", program, "") for seed in seeds]
+    there, own = (fmean(mean_trip(one, BEGIN - 100, END, UNTIL) for one in some) for some in (theirs, ours))
+    longest = (max(max(end - depart for depart, end in one.trips.values()) for one in some) for some in (theirs, ours))
+    more = 100 * (own / there - 1)
+    stood = max(one.stood for one in ours)
+    most = ", ".join(f"{one:.0f}" for one in longest)
+    return f"| {hourly:,} | {place} | {there:.1f} | {own:.1f} | {more:+.1f} % | {most} | {stood} |"
+
+
+# ---- streets and towns from a seed
+
+DRAWN = ("street", "street", "street", "street", "street", "arterial", "town", "turn-lanes")
+FIRST, LAST, OVER = 600, 3000, 7200
+LEAST, FEW = (150, 100), 200  # metres of an edge with works, the first where there is one; vehicles that pass it
+
+
+@dataclass(frozen=True)
+class Drawn:
+    """Works on a made network, and the share of what the open lanes pass that comes to them."""
+
+    made: Made
+    works: Stretch
+    lanes: int
+    share: float
+
+    def case(self) -> Case:
+        return Case(self.made.folder, self.made.net, tuple(self.made.routes), tuple(self.made.additional), OVER)
+
+    def passing(self) -> set[str]:
+        """The vehicles whose way has the edge."""
+        found = set()
+        for one in ElementTree.parse(self.made.folder / "demand.rou.xml").iter("vehicle"):
+            if self.works.edge in one.find("route").get("edges").split():
+                found.add(one.get("id"))
+        return found
+
+
+def drawn(seed: int, number: int, work: Path) -> Drawn:
+    """A network of a kind, and works on one lane of an edge of two or more lanes that many pass."""
+    kind, draws = DRAWN[number], random.Random(f"works {seed} {number}")
+    made = make(kind, seed + number, work, 0.7)
+    net = read_net(made.net)
+    through = Counter(edge for way in ways(made) for edge in way)
+    able = next(filter(None, (edges_for(net, through, least) for least in LEAST)))
+    able.sort(key=lambda edge: (-through[edge.getID()], edge.getID()))
+    edge = able[draws.randrange(max(1, len(able) // 3))]
+    length = min(draws.choice((50, 100, 200)), int(edge.getLength()) - 2 * FREE - 21)
+    begin = draws.randrange(FREE + 20, int(edge.getLength()) - FREE - length + 1)
+    lanes = edge.getLaneNumber()
+    wanted = draws.uniform(0.5, 0.95) * PASSES * (lanes - 1)
+    if through[edge.getID()] > wanted:
+        made = make(kind, seed + number, work, vehicles=round(made.vehicles * wanted / through[edge.getID()]))
+        through = Counter(edge for way in ways(made) for edge in way)
+    works = Stretch(edge.getID(), draws.randrange(lanes), begin, begin + length, FIRST, LAST)
+    return Drawn(made, works, lanes, through[edge.getID()] / (PASSES * (lanes - 1)))
+
+
+def edges_for(net, through: Counter, least: int) -> list:
+    """The edges of sumolib's network that may have works."""
+    able = [edge for edge in net.getEdges() if edge.getLaneNumber() >= 2 and edge.getLength() >= least]
+    return [edge for edge in able if through[edge.getID()] >= FEW]
+
+
+def ways(made: Made) -> list[list[str]]:
+    from unseen_nets.demand import ways_of
+
+    return ways_of(made.folder / "demand.rou.xml")
+
+
+def drawn_rows(seed: int, folder: Path, program: str, seeds: range):
+    """A row for each of the networks of a seed: seconds that works add for those who pass their edge meanwhile."""
+    yield "| Network | works | of what the open lanes pass | SUMO adds, s | here | longest stand | |"
+    yield "|---|---|---|---|---|---|---|"
+    for number in range(len(DRAWN)):
+        yield drawn_row(drawn(seed, number, folder), program, seeds)
+
+
+def drawn_row(one: Drawn, program: str, seeds: range) -> str:
+    case, names, works = one.case(), one.passing(), one.works
+    joint = f"{works.edge}_{works.lane}"
+    added = []
+    runs = []
+    for side in (in_sumo, lambda *asked: here(*asked, program, joint)):
+        with_works = [side(case, works, seed, "works") for seed in seeds]
+        without = [side(case, None, seed, "none") for seed in seeds]
+        means = (fmean(mean_trip(seen, FIRST, LAST, OVER, names) for seen in some) for some in (with_works, without))
+        first, second = means
+        added.append(first - second)
+        runs.append(with_works)
+    stood = max(seen.stood for seen in runs[1])
+    doubt = next((seen.doubt for seen in runs[1] if seen.doubt), "")
+    what = f"{works.edge} ({one.lanes} lanes), lane {works.lane}, {works.end - works.begin} m"
+    name = f"{one.made.name}, {', '.join(f'{key} {value}' for key, value in one.made.drawn.items())}"
+    cells = f"{100 * one.share:.0f} % | {added[0]:+.1f} | {added[1]:+.1f} | {stood} s | {doubt}"
+    return f"| {name} | {what} | {cells} |"
