@@ -1,7 +1,7 @@
 """Where runs are done: in processes of this machine, or by a cluster of dask.distributed.
 
-concurrent.futures is all that is used of either. A process of the pool is given its sessions once,
-and what a run then needs is its signals and its seed; on a cluster each run has its session too.
+A process of the pool is given its sessions once, and what a run then needs is its signals and its seed; on a cluster
+each run has its session too.
 """
 from __future__ import annotations
 
@@ -24,7 +24,7 @@ from streetsim.model.sources import digest_of
 
 PATIENCE = 10  # seconds for a cluster to answer
 TRIES = 3  # to make its workers ready
-Executor = Any  # of concurrent.futures, or a client of dask.distributed
+Executor = Any  # of concurrent.futures, or Workers
 Cluster = Any  # such a client
 Function = Callable[..., Any]
 HOST = re.compile(r"(\w+://)?.+:\d+")
@@ -42,6 +42,18 @@ class Held(Protocol):
     @property
     def digest(self) -> str | None:
         """Of the program's file."""
+
+
+class Workers:
+    """The workers of a cluster. dask's own executor takes a result for an exception where its worker dies while it is
+    fetched; its futures do not."""
+
+    def __init__(self, client: Cluster) -> None:
+        self.client = client
+
+    def submit(self, function: Function, *arguments: Any) -> Any:
+        """Begins a task; two with the same arguments are two."""
+        return self.client.submit(function, *arguments, pure=False)
 
 
 class Machines:
@@ -149,7 +161,7 @@ def cluster_of(address: str, sessions: Sequence[Held]) -> Iterator[Machines]:
         prepare(client, address, sessions)
         # Each task has its session by value, so that no worker needs what one that died had: a study
         # once waited for ever then.
-        yield Machines(client.get_executor(pure=False), sessions)
+        yield Machines(Workers(client), sessions)
 
 
 def prepare(client: Cluster, address: str, sessions: Sequence[Held]) -> None:
