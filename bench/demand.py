@@ -11,7 +11,7 @@ routeSampler (--optimize full, seed 1) gets the same counts and the candidate ro
 demands are then run in streetsim with a seed that neither saw, and GEH is of hourly volumes: of the counts that were
 used, and of all turns of the junctions that were kept back, there without an error. --unseen takes networks of
 unseen_nets, by kind and seed, beside the sample grid. What was found is kept in FOLDER and used again. It needs
-Debian's sumo, sumo-tools and python3-scipy. Prints the table of tools/DEMAND.md.
+Debian's sumo, sumo-tools and python3-scipy. Prints the table of tools/COUNTS.md.
 """
 
 import random

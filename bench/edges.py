@@ -1,6 +1,6 @@
 #!/usr/bin/python3
 """Prints the edges on which the vehicles of a run spend more seconds, and fewer, than in SUMO, \
-for the causes in tools/README.md.
+for the causes in tools/CLOSENESS.md.
 
 Usage: bench/edges.py RUN COUNTS.xml [--most 6]
 

@@ -1,5 +1,5 @@
 #!/usr/bin/python3
-"""Prints how many vehicles pass, in SUMO and here, where some of them are long, as tools/README.md has it.
+"""Prints how many vehicles pass, in SUMO and here, where some of them are long, as tools/CLOSENESS.md has it.
 
 Usage: bench/long_vehicles.py PROGRAM --work FOLDER
 

@@ -1,7 +1,7 @@
 #!/usr/bin/python3
 """Runs the walks of the pages of tools/ and says where a command prints other lines than the page shows.
 
-Usage: bench/walks.py PROGRAM --work FOLDER [--only README,SIGNALS,ROUTES,DEMAND]
+Usage: bench/walks.py PROGRAM --work FOLDER [--only README,WORKS,SIGNALS,ROUTES,COUNTS]
 
 The commands of a page's sections are run in one folder, in the page's order and with the tools as they are here; \
 of the text that
@@ -19,10 +19,11 @@ import shared
 from shared import CORRIDOR, SAMPLES, TOP
 
 SECTIONS = {  # of pages: the headings of their walks
-    "README": ("A walk of ten minutes", "Road works"),
+    "README": ("A walk of ten minutes",),
+    "WORKS": ("A walk of two minutes",),
     "SIGNALS": ("A walk of two minutes", "A study"),
     "ROUTES": ("A walk of two minutes",),
-    "DEMAND": ("A walk of five commands",),
+    "COUNTS": ("A walk of five commands",),
 }
 INSTALLING = "mkdir "  # a block with it is left out: the tools are run as they are here, in the folder of this call
 

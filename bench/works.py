@@ -14,7 +14,7 @@ Of each network and number of lanes the edges of 120 m and more are put in order
 so many equal parts of these (of the busier half, where there are several lanes) the middle one is taken; lane, length
 and time of the works go round with the rows. In SUMO the works are a vehicle as long as they, which stands there. A
 trip lasts from the wished departure to the arrival or the end. It needs Debian's sumo and sumo-tools. What SUMO wrote
-is kept in FOLDER and used again. Prints the table of tools/README.md.
+is kept in FOLDER and used again. Prints the table of tools/WORKS.md.
 """
 
 import argparse

@@ -151,7 +151,7 @@ class Part(Calls[Scenario]):
         self.scenario, self.name = scenario, type(self).__name__.lower()
 
     def advice(self, called: str) -> str:
-        return ADVICE.get(called, "streetsim has nothing for it; see tools/README.md")
+        return ADVICE.get(called, "streetsim has nothing for it; see tools/PYTHON.md")
 
 
 class Simulation(Part, SimulationCalls[Scenario]):

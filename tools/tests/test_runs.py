@@ -134,10 +134,10 @@ class Tables(Runs):
         self.assertEqual([row[0] for row in self.table("seeds.csv")], ["1", "2", "3"])
         self.assertTrue((self.folder / "out/seed-3/trips.csv").exists())
 
-    def test_the_readme_names_what_a_run_writes(self):
+    def test_the_page_names_what_a_run_writes(self):
         self.given(enter([0, 1]), cars=["v"])
         self.run_tool("--until", 60, "--seeds", "1-1", "--junctions", 60)
-        text = (TOOLS / "README.md").read_text(encoding="utf-8")
+        text = (TOOLS / "OUTPUTS.md").read_text(encoding="utf-8")
         told = text.partition("## What a run writes\n")[2].partition("**SUMO's own files.**")[0]
         written = {path.name for path in (self.folder / "out").rglob("*") if path.is_file()}
         self.assertEqual([name for name in sorted(written) if f"`{name}`" not in told], [])

@@ -26,7 +26,7 @@ CROWDING_BESIDE = 2.0  # the same where links of an edge lead to a common one an
 
 @dataclass(frozen=True, slots=True)
 class Options:
-    """What an import can be told; the values are explained in tools/README.md."""
+    """What an import can be told; the values are explained in tools/CLOSENESS.md."""
 
     classes: tuple[str, ...] = ("passenger",)
     strict_turns: bool = False

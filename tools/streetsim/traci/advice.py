@@ -20,7 +20,7 @@ RAILWAYS = "there are no railways; lights follow their programs and the script"
 STOPS = "there are no stops; hold vehicles by a signal, close the lane by lane.setDisallowed, or leave the stop out"
 TYPES = "types are those of the files; write another vType there"
 WINDOW = "there is no window; streetsim-live and streetsim-plot show runs"
-NOTHING = "streetsim has nothing for it; see tools/README.md"
+NOTHING = "streetsim has nothing for it; see tools/PYTHON.md"
 
 # The first that is found in 'domain.call' counts; a whole domain is 'domain.'.
 SENTENCES = {
