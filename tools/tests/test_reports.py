@@ -126,7 +126,7 @@ class Pages(Given):
             "nothing speaks against this run",
             "mean control delay of a junction, s 92.0 31.0 -61.0 ± 12.7",  # changes of -60 and -62, quantile 12.706
             "B 92.0 31.0 -61.0 ± 12.7 F to C",
-            "B: a to b 92.0 31.0",
+            "from the west to the east B: a to b 92.0 31.0",
             "Junction B: 31.0 s C , 40 vehicles an hour, signals",
             "program SHA-256 abc",
             "0:00:00 to 0:30:00, seeds 1, 2, dawdle 170",

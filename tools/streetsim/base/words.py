@@ -87,6 +87,16 @@ def add_run(made: argparse.ArgumentParser) -> None:
     made.add_argument("--map", required=True, help="its map of names (.json)")
 
 
+def add_names(made: argparse.ArgumentParser) -> None:
+    """The word that gives names of one's own."""
+    made.add_argument(
+        "--names",
+        metavar="FILE",
+        help="names of one's own (.csv with the columns id, of an edge, junction or light, and name), which go before "
+        "those of the map",
+    )
+
+
 def add_jobs(made: argparse.ArgumentParser) -> None:
     """The word that says how many runs go side by side."""
     made.add_argument(

@@ -4,9 +4,10 @@ import os
 import shutil
 
 from streetsim.base.files import Fault, place_of
-from streetsim.base.words import Parser
+from streetsim.base.words import Parser, add_names
 from streetsim.gis.exporting import features, told, write_package, write_text
 from streetsim.gis.places import places_of
+from streetsim.model.names import read_own
 from streetsim.results.reading import read_any
 
 
@@ -20,6 +21,7 @@ def parser() -> Parser:
     made.add_argument("run", metavar="RUN", help="a folder that streetsim-run wrote, or one with seeds")
     made.add_argument("-o", "--output", required=True, help="the file (.geojson, .gpkg)")
     made.add_argument("--projection", help="of a network that tells none: EPSG:25832, '+proj=utm +zone=32', ..")
+    add_names(made)
     return made
 
 
@@ -33,6 +35,8 @@ def main(arguments: list[str]) -> int:
     place_of(words.output)
     runs = read_any(words.run)
     mapping = runs.first.mapping
+    if words.names:
+        read_own(words.names, mapping)
     found = list(features(runs, places_of(mapping.location, words.projection, runs.first.path)))
     text = json.dumps({"type": "FeatureCollection", "features": found}, separators=(",", ":"))
     (write_package if ending == ".gpkg" else write_text)(words.output, text)

@@ -7,7 +7,7 @@ from streetsim.base import limits
 from streetsim.base.files import Fault, place_of, refuse_equal
 from streetsim.base.progress import Slow
 from streetsim.base.report import COLUMNS, Report
-from streetsim.base.words import FALSE, Parser, files_of, listed, time_within, within
+from streetsim.base.words import FALSE, Parser, add_names, files_of, listed, time_within, within
 from streetsim.importing.convert import read_and_converted, write_run
 from streetsim.model.sources import Sources
 from streetsim.model.tables import write_table
@@ -45,6 +45,7 @@ def parser() -> argparse.ArgumentParser:
     )
     made.add_argument("-o", "--output", required=True, help="the run: lines of JSON (.jsonl, .jsonl.gz)")
     made.add_argument("--map", required=True, help="the map of names to write (.json)")
+    add_names(made)
     made.add_argument("--warnings", metavar="FILE", help="a table of all that is said, with all names (.csv)")
     made.add_argument("--strict", action="store_true", help="end with status 1 where vehicles were skipped")
     add_options(made)
@@ -177,12 +178,12 @@ def main(arguments: list[str]) -> int:
     words.additional, words.routes, words.trips = map(files_of, (words.additional, words.routes, words.trips))
     sources = Sources(words.net, words.additional, words.routes, words.trips)
     outputs = {"-o": words.output, "--map": words.map, **({"--warnings": words.warnings} if words.warnings else {})}
-    refuse_equal(outputs, sources.paths())
+    refuse_equal(outputs, [*sources.paths(), *([words.names] if words.names else [])])
     place_of(words.output), place_of(words.map)
     report, options = Report(), options_of(words)
     with Slow(f"importing {words.net}"):
         made = read_and_converted(sources, options, report, told)
-    mapping = write_run(words.output, words.map, made, report, sources)
+    mapping = write_run(words.output, words.map, made, report, sources, words.names)
     if words.warnings:
         write_table(words.warnings, COLUMNS, report.rows())
     print(*report.lines(), sep="\n", end="\n" if any(report.lines()) else "", file=sys.stderr)

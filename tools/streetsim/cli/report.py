@@ -6,8 +6,9 @@ from html import escape
 
 from streetsim.base import limits
 from streetsim.base.files import Fault, place_of, whole_file
-from streetsim.base.words import Parser, listed, time_within
+from streetsim.base.words import Parser, add_names, listed, time_within
 from streetsim.model.folder import Folder
+from streetsim.model.names import read_own
 from streetsim.reports import writing
 from streetsim.results.reading import Runs, read_runs
 from streetsim.results.series import way_back
@@ -30,6 +31,7 @@ def parser() -> Parser:
     made.add_argument(
         "--begin", type=time_within(0, limits.CLOCK), metavar="S", help="the interval shown (default: the busiest)"
     )
+    add_names(made)
     made.add_argument("--corridor", default="", metavar="EDGES", help="a path to draw, of a run with --every 1 (to 5)")
     for name, default in PICTURE.items():
         made.add_argument(
@@ -52,6 +54,9 @@ def main(arguments: list[str]) -> int:
             raise Fault(f"--{name} is of the corridor's picture: give --corridor too")
     place_of(words.output)
     all_runs = [read_runs(path) for path in words.runs]
+    if words.names:
+        for runs in all_runs:
+            read_own(words.names, runs.first.mapping)
     if len(all_runs) == 2 and all_runs[0].name == all_runs[1].name:
         for runs, path in zip(all_runs, words.runs, strict=True):
             runs.name = path

@@ -8,6 +8,7 @@ from collections.abc import Iterator
 from streetsim.base.files import Fault, Json, whole_file, whole_path
 from streetsim.gis.places import Places
 from streetsim.model.mapping import Map
+from streetsim.model.names import Names
 from streetsim.results.reading import Row, Runs
 from streetsim.results.values import Traffic, Values, intervals_of, values_of
 
@@ -30,15 +31,18 @@ def told(path: str, runs: Runs, found: list) -> str:
 def features(runs: Runs, places: Places) -> Iterator[dict]:
     """Each edge and junction in each interval, as GeoJSON's features."""
     mapping = runs.first.mapping
+    names = Names(mapping)
     lines = {edge: places(mapping.links[links[len(links) // 2]].shape) for edge, links in mapping.links_of.items()}
     points = {name: places([(x, y)])[0] for name, x, y, _ in mapping.nodes}
     content: Json
     for begin, end in intervals_of(runs):
         for edge, values in values_of(runs, begin, end).items():
-            content = {"begin": begin, "end": end, **of_edge(mapping, edge), **of_values(values)}
+            own = of_edge(mapping, edge) | named("street", names.street(edge), names)
+            content = {"begin": begin, "end": end, **own, **of_values(values)}
             yield feature(EDGE, "LineString", lines[edge], content)
         for (name,), row in sorted(runs.rows.get(("junctions", begin, end), {}).items()):
-            content = {"begin": begin, "end": end, "name": name, "control": row.control}
+            content = {"begin": begin, "end": end, "name": name, **named("called", names.junction(name), names)}
+            content["control"] = row.control
             content["vehicles_per_hour"] = round(row.values["vehicles_per_hour"], 1)
             yield feature(JUNCTION, "Point", points[name], {**content, **of_row(row)})
 
@@ -57,6 +61,11 @@ def of_edge(mapping: Map, edge: str) -> dict:
     links = [mapping.links[link] for link in mapping.links_of[edge]]
     ends = {"from": mapping.nodes[links[0].begin][0], "to": mapping.nodes[links[0].end][0]}
     return {"name": edge, **ends, "lanes": sum(len(link.lanes) for link in links), "metres": round(links[0].metres, 1)}
+
+
+def named(property_: str, name: str, names: Names) -> dict:
+    """A property with a name, where the map has names at all."""
+    return {property_: name or None} if names else {}
 
 
 def of_values(values: Values) -> dict:

@@ -6,6 +6,7 @@ from streetsim.base.files import whole_file
 from streetsim.base.report import Report
 from streetsim.importing.vehicles import vehicles_with_ways
 from streetsim.model.mapping import Map
+from streetsim.model.names import read_own
 from streetsim.model.sources import Sources
 from streetsim.sumo.additional import read_additional
 from streetsim.sumo.configuration import tell_options
@@ -35,9 +36,14 @@ def read_and_converted(sources: Sources, options: Options, report: Report, told:
     return convert(sources.net, sources.additional, [], options, report, sources.trips)
 
 
-def write_run(output: str, map_output: str, made: Made, report: Report, sources: Sources | None = None) -> Map:
-    """Writes what `converted` made: the run and its map, which keeps the sources. Gives the map."""
+def write_run(
+    output: str, map_output: str, made: Made, report: Report, sources: Sources | None = None, names: str | None = None
+) -> Map:
+    """Writes what `converted` made: the run and its map, which keeps the sources and has the names of a file. Gives the
+    map."""
     lines, mapping = run_and_map(made, report)
+    if names:
+        read_own(names, mapping)
     mapping.sources = sources.written(map_output, lines) if sources else {}
     with whole_file(output) as run, whole_file(map_output) as mapped:
         run.writelines(line + "\n" for line in lines)

@@ -8,6 +8,7 @@ from streetsim.junctions.measures import Measures
 from streetsim.junctions.passages import Passages
 from streetsim.junctions.rows import Tables
 from streetsim.junctions.sampling import Sampled, moments
+from streetsim.model.names import Names
 from streetsim.run.records import Recorded, Records
 from streetsim.run.watching import watch, windows
 
@@ -40,7 +41,7 @@ def write_junctions(made: Recorded, interval: int) -> tuple[list[str], list[str]
     tables = Tables(approaches)
     for begin in range(start, until, interval):
         tables.add(measures.interval(begin, min(begin + interval, until)))
-    tables.write(made.folder)
+    tables.write(made.folder, Names(made.mapping))
     told = (
         []
         if exact

@@ -4,7 +4,7 @@ from collections.abc import Collection, Mapping, Sequence
 
 from streetsim.junctions.layout import Approach
 from streetsim.junctions.measures import Interval, Totals, together
-from streetsim.model import tables
+from streetsim.model.names import Names, write_named
 from streetsim.model.service import fills, level, percentile
 from streetsim.model.tables import APPROACHES, JUNCTIONS, MOVEMENTS, Entry
 
@@ -72,11 +72,11 @@ class Tables:
         rows = ([row[place] for place in at] for row in self.approaches)
         return {edge for edge, queue, metres in rows if fills(float(queue), float(metres))}
 
-    def write(self, folder: str) -> None:
+    def write(self, folder: str, names: Names) -> None:
         """Writes the three tables into a folder."""
-        tables.write_table(f"{folder}/movements.csv", MOVEMENTS, self.movements)
-        tables.write_table(f"{folder}/approaches.csv", APPROACHES, self.approaches)
-        tables.write_table(f"{folder}/junctions.csv", JUNCTIONS, self.junctions)
+        write_named(f"{folder}/movements.csv", MOVEMENTS, self.movements, names)
+        write_named(f"{folder}/approaches.csv", APPROACHES, self.approaches, names)
+        write_named(f"{folder}/junctions.csv", JUNCTIONS, self.junctions, names)
 
 
 def told(lost: Totals, interval: Interval) -> tuple:

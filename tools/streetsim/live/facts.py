@@ -12,8 +12,9 @@ Area = list[list[float]]
 
 
 def streets_and_areas(mapping: Map, map_path: FilePath) -> tuple[dict[str, str], dict[str, Area]]:
-    """The names of edges and the areas of junctions that the imported network has, where it is still there."""
-    names: dict[str, str] = {}
+    """The names of edges that the map has, or the imported network where it is still there, and the areas of junctions
+    that this one has."""
+    names: dict[str, str] = dict(mapping.names.get("edges", {}))
     areas: dict[str, Area] = {}
     if not mapping.sources:
         return names, areas
@@ -22,11 +23,11 @@ def streets_and_areas(mapping: Map, map_path: FilePath) -> tuple[dict[str, str],
         for element in elements(path, ["net"]):
             own, name, shape = element.get("id", ""), element.get("name", ""), element.get("shape", "")
             if element.tag == "edge" and name:
-                names[own] = name
+                names.setdefault(own, name)
             elif element.tag == "junction" and shape and not own.startswith(":"):
                 areas[own] = points_of(shape.split())
     except (Fault, ValueError):
-        return {}, {}
+        return names, {}
     return names, areas
 
 

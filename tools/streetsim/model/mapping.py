@@ -81,6 +81,8 @@ class Map:
     actuated: list[str] = field(default_factory=list)  # lights that SUMO times by detectors
     rings: list[str] = field(default_factory=list)  # edges of roundabouts
     programs: list[Json] = field(default_factory=list)  # of actuated lights, as sumo.programs.kept_programs
+    # Of edges and junctions that have one: {"edges": {id: name}, "junctions": {id: name}}; model.names tells them.
+    names: Json = field(default_factory=dict)
 
     def __post_init__(self) -> None:
         for number, link in enumerate(self.links):
@@ -117,6 +119,7 @@ class Map:
             "actuated": self.actuated,
             **({"rings": self.rings} if self.rings else {}),
             **({"programs": self.programs} if self.programs else {}),
+            **({"names": self.names} if self.names else {}),
         }
 
 
@@ -135,6 +138,7 @@ def map_from(path: FilePath, value: Json) -> Map:
         more["told"] = value.get("told", [])
         more |= {"location": value.get("location", {}), "actuated": value.get("actuated", [])}
         more |= {"rings": value.get("rings", []), "programs": value.get("programs", [])}
+        more |= {"names": value.get("names", {})}
         more |= {key: value[key] for key in KEYS if key not in ("links", "turns")}
         return Map(links=links, turns=turns, **more)
     except (KeyError, TypeError, ValueError) as fault:

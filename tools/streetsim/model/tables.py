@@ -50,10 +50,11 @@ def write_table(path: FilePath, header: Sequence[str], rows: Iterable[Iterable[o
 
 
 def read_table(path: FilePath, header: Sequence[str]) -> list[dict[str, str]]:
-    """The rows of a table, as texts by column; Fault where it has other columns, or a text where a number belongs."""
+    """The rows of a table, as texts by column; Fault where it has other columns, but for names beside ids, or a text
+    where a number belongs."""
     with reading(path), open_text(path) as file:
         rows = csv.DictReader(file)
-        if tuple(rows.fieldnames or ()) != header:
+        if tuple(name for name in rows.fieldnames or () if name in header or not name.endswith("_name")) != header:
             raise Fault(f"{path}: expected the columns {', '.join(header)}")
         found = []
         for row in rows:

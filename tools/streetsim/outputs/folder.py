@@ -18,6 +18,7 @@ from streetsim.junctions.reporting import write_junctions
 from streetsim.model import tables, trust
 from streetsim.model.folder import NAME
 from streetsim.model.mapping import Map, Place
+from streetsim.model.names import Names, write_named
 from streetsim.model.runs import Line, Run
 from streetsim.model.sources import digest_of
 from streetsim.model.tables import Entry, write_table
@@ -120,20 +121,21 @@ def lit_lines(sent: Iterable[tuple[int, Line]], mapping: Map) -> Iterator[tuple[
 def write_tables(made: Recorded, trips: Sequence[Entry]) -> None:
     """The tables that each run has."""
     folder, records, mapping = made.folder, made.records, made.mapping
-    write_table(f"{folder}/counts.csv", tables.COUNTS, rows.counts(records, mapping))
+    names = Names(mapping)
+    write_named(f"{folder}/counts.csv", tables.COUNTS, rows.counts(records, mapping), names)
     write_table(f"{folder}/trips.csv", tables.TRIPS, trips)
-    write_table(f"{folder}/edges.csv", tables.EDGES, rows.edges(records, mapping))
+    write_named(f"{folder}/edges.csv", tables.EDGES, rows.edges(records, mapping), names)
     write_table(f"{folder}/detectors.csv", tables.LOOPS, rows.loop_rows(records, mapping.detectors))
     areas = rows.area_rows(records, mapping.detectors, made.settings.until)
     write_table(f"{folder}/areas.csv", tables.AREAS, areas)
-    write_table(f"{folder}/queues.csv", tables.QUEUES, rows.queues(records, mapping))
+    write_named(f"{folder}/queues.csv", tables.QUEUES, rows.queues(records, mapping), names)
     write_table(f"{folder}/summary.csv", tables.SUMMARY, rows.summary(records))
     write_table(f"{folder}/warnings.csv", COLUMNS, mapping.told)
     if records.phases:
         write_table(f"{folder}/{tables.PHASES_FILE}", tables.PHASES, records.phases)
     if records.works:
         of_works = figures.rows(records.works, mapping, made.run.start(), made.settings.period)
-        write_table(f"{folder}/{tables.WORKS_FILE}", tables.WORKS, of_works)
+        write_named(f"{folder}/{tables.WORKS_FILE}", tables.WORKS, of_works, names)
 
 
 def write_sumo_outputs(made: Recorded, kinds: Iterable[str], trips: Iterable[Entry]) -> None:

@@ -5,6 +5,7 @@ from math import ceil
 
 from streetsim.base.files import Fault
 from streetsim.model.folder import Folder
+from streetsim.model.names import Names
 from streetsim.pictures.drawing import Axes, Figure, Pyplot
 
 MOST = 6  # lights in one picture
@@ -17,8 +18,11 @@ def draw_greens(pyplot: Pyplot, folder: Folder, lights: Sequence[str]) -> Figure
     """A panel for each of some lights, of all the first where none is named: how long each of its greens lasted."""
     rows = of_lights(folder, lights)
     figure, panels = pyplot.subplots(len(rows), figsize=(10, 1 + 2.6 * len(rows)), squeeze=False, sharex=True)
+    names, mapping = Names(folder.mapping), folder.mapping
+    places = {light: mapping.nodes[node][0] for light, node in mapping.signals}
     for (light, own), (axes,) in zip(rows.items(), panels, strict=True):
-        draw_light(axes, light, own)
+        called = names.junction(places.get(light, ""))
+        draw_light(axes, f"{light}, {called}" if called else light, own)
     axes.set_xlabel("time (min)")
     figure.subplots_adjust(hspace=0.35)
     return figure

@@ -4,6 +4,7 @@ from pathlib import Path
 
 from streetsim.base.files import Json
 from streetsim.model.folder import Folder
+from streetsim.model.names import Names
 
 PLACE = Path(__file__).resolve().parents[1] / "pictures"
 MOST_BYTES = 100_000_000  # of the packed data; browsers are slow with more
@@ -12,8 +13,12 @@ MOST_BYTES = 100_000_000  # of the packed data; browsers are slow with more
 def data_of(folder: Folder, first: int, last: int) -> Json:
     """What the page plays of a run from a first to a last second: links, signal plans with the links that may go, and
     the polls."""
+    names = Names(folder.mapping)
     links = [
-        {"name": link.edge, "points": link.shape, "lanes": len(link.lanes), "cells": link.cells, "end": link.end}
+        {
+            "name": names.street(link.edge) or link.edge, "points": link.shape, "lanes": len(link.lanes),
+            "cells": link.cells, "end": link.end,
+        }
         for link in folder.mapping.links
     ]
     signals = [
@@ -29,7 +34,11 @@ def data_of(folder: Folder, first: int, last: int) -> Json:
     return {
         "name": os.path.basename(os.path.normpath(folder.path)),
         "links": links,
-        "junctions": [[name, x, y] for node, (name, x, y, _) in enumerate(folder.mapping.nodes) if node in lit],
+        "junctions": [
+            [names.junction(name) or name, x, y]
+            for node, (name, x, y, _) in enumerate(folder.mapping.nodes)
+            if node in lit
+        ],
         "signals": signals,
         "every": folder.every,
         "frames": [poll for poll in folder.polls() if first <= poll["clock"] <= last],

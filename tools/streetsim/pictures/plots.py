@@ -6,6 +6,7 @@ from math import inf
 from streetsim.base import limits
 from streetsim.base.files import Fault
 from streetsim.model.folder import Folder
+from streetsim.model.names import Names
 from streetsim.pictures import ring
 from streetsim.pictures.drawing import Axes, Figure, Pyplot
 from streetsim.results import series
@@ -79,7 +80,10 @@ def draw_way(axes: Axes, folder: Folder, way: Corridor) -> None:
     for at, (place, begin, end) in enumerate(series.reds(folder, edges, first, last)):
         named = "red" if at == 0 else None
         axes.plot((begin, end), (place, place), color="black", linewidth=4, solid_capstyle="butt", label=named)
-    title = f"From {edges[0]} to {edges[-1]}: each line is a vehicle"
+    streets = Names(folder.mapping)
+    begin_of, end_of = (streets.street(edge) or edge for edge in (edges[0], edges[-1]))
+    where = f"Along {begin_of}" if begin_of == end_of else f"From {begin_of} to {end_of}"
+    title = f"{where}: each line is a vehicle"
     band = series.green_band(folder, edges, first)
     title += f"; green band {band[0]} of {band[1]} s" if band else ""
     axes.set(xlim=(first, last), ylim=(0, length * 1.01), title=title)

@@ -2,6 +2,7 @@
 from typing import Any
 
 from streetsim.model.folder import Folder
+from streetsim.model.names import Names
 from streetsim.pictures.drawing import Figure, Pyplot
 from streetsim.results.works import Place, places_of
 
@@ -23,7 +24,7 @@ def draw_works(pyplot: Pyplot, folder: Folder) -> Figure:
 
 def draw_place(axes: Any, folder: Folder, place: Place) -> Any:
     """Draws one place of works; gives the image, for a bar of colours."""
-    every, room = folder.every, place.room
+    every, room, names = folder.every, place.room, Names(folder.mapping)
     columns, rows = max(1, (place.end - place.begin) // every), int(room // BIN) + 1
     grid = [[0] * columns for _ in range(rows)]
     for clock, metres in place.standing:
@@ -39,12 +40,13 @@ def draw_place(axes: Any, folder: Folder, place: Place) -> Any:
         if piece.far < room:
             axes.axhline(piece.far, color="#225588", linewidth=0.8, linestyle="--")
             name = folder.mapping.links[piece.link].edge
-            text = f" begin of {name}"
+            text = f" begin of {f'{names.street(name)} {name}'.lstrip()}"
             axes.annotate(text, (place.begin / 60, piece.far), fontsize=8, va="bottom", backgroundcolor="#ffffffcc")
     begin, end = place.metres
     passed = f"{place.vehicles:,} vehicles passed"
     hourly = f", {float(place.capacity):,.0f} an hour in the worst quarter hour with a queue" if place.capacity else ""
-    axes.set_title(f"Works on {place.edge}_{place.lane}, {begin:.0f} to {end:.0f} m: {passed}{hourly}", fontsize=9)
+    where = f"{names.street(place.edge)} {place.edge}_{place.lane}".lstrip()
+    axes.set_title(f"Works on {where}, {begin:.0f} to {end:.0f} m: {passed}{hourly}", fontsize=9)
     axes.set(ylabel="metres before them", ylim=(0, room))
     axes.grid(False)
     return image

@@ -6,6 +6,7 @@ from pathlib import Path
 
 from streetsim.base.limits import GAP_METRES
 from streetsim.base.seeds import interval
+from streetsim.model.names import Names
 from streetsim.model.service import COLOURS, LIGHT, STOP_LOSS
 from streetsim.reports.comparing import Difference, by_seed, paired, total_delay
 from streetsim.reports.drawing import anchor, letter_mark, map_picture, queue_picture
@@ -133,12 +134,13 @@ def mean_told(values: Iterable[float]) -> str:
 
 def map_section(runs: Runs, interval_of: tuple[int, int]) -> str:
     """The map of a run in an interval, by level of service, with its legend."""
+    names = runs.names
     approaches = {
-        row.key[1]: (row.letter(), f"{row.key[1]}: {row.delay:.1f} s, {row.letter()}")
+        row.key[1]: (row.letter(), f"{row.key[1]} {names.approach(row.key[1])}: {row.delay:.1f} s, {row.letter()}")
         for row in runs.rows["approaches", *interval_of].values()
     }
     junctions = {
-        row.key[0]: (row.letter(), f"{row.key[0]}: {row.delay:.1f} s, {row.letter()}")
+        row.key[0]: (row.letter(), f"{names.junction_told(row.key[0])}: {row.delay:.1f} s, {row.letter()}")
         for row in runs.rows["junctions", *interval_of].values()
     }
     legend = " ".join(letter_mark(letter) for letter in COLOURS)
@@ -148,13 +150,13 @@ def map_section(runs: Runs, interval_of: tuple[int, int]) -> str:
 
 def junction_letters(runs: Runs) -> str:
     """The letter of each junction in each interval."""
-    intervals = runs.intervals()
+    intervals, called = runs.intervals(), runs.names
     names = sorted({key[0] for (table_, *_), rows in runs.rows.items() if table_ == "junctions" for key in rows})
     rows = []
     for name in names:
         found = [runs.rows.get(("junctions", *one), {}).get((name,)) for one in intervals]
         cells = [f"{row.delay:.0f} s {letter_mark(row.letter())}" if row else "" for row in found]
-        rows.append([f'<a href="#{anchor(name)}">{escape(name)}</a>', *cells])
+        rows.append([f'<a href="#{anchor(name)}">{escape(title_of(name, called))}</a>', *cells])
     return table(["junction", *(f"{clock(begin)} to {clock(end)}" for begin, end in intervals)], rows)
 
 
@@ -163,29 +165,36 @@ def junction_section(runs: Runs, name: str, interval_of: tuple[int, int]) -> str
     junction = runs.rows["junctions", *interval_of][name,]
     movements = [row for row in runs.rows["movements", *interval_of].values() if row.key[0] == name]
     approaches = [row for row in runs.rows["approaches", *interval_of].values() if row.key[0] == name]
+    called = runs.names
     head = [
-        "approach", "to", "", "veh/h", "delay, s", "LOS", "v/c", "stopped, s", "stops", "queue 50 %, m", "95 %",
-        "greatest",
+        "movement", "from and to edge", "", "veh/h", "delay, s", "LOS", "v/c", "stopped, s", "stops", "queue 50 %, m",
+        "95 %", "greatest",
     ]
     head[-1] += " of room"
-    rows = [movement_row(row) for row in sorted(movements, key=lambda row: row.key)]
+    rows = [movement_row(row, called) for row in sorted(movements, key=lambda row: row.key)]
     values = junction.values
     queues = [
         (
-            row.key[1], row.values["queue_50_m"], row.values["queue_95_m"], row.values["queue_max_m"],
+            called.approach(row.key[1]), row.values["queue_50_m"], row.values["queue_95_m"], row.values["queue_max_m"],
             row.values["storage_m"],
         )
         for row in sorted(approaches, key=lambda row: row.key)
     ]
     return (
-        f'<section><h3 id="{anchor(name)}">Junction {escape(name)}: {junction.delay:.1f} s '
+        f'<section><h3 id="{anchor(name)}">{escape(title_of(name, called))}: {junction.delay:.1f} s '
         f'{letter_mark(junction.letter())}, {values["vehicles_per_hour"]:.0f} vehicles an hour, '
         f'{escape(junction.control)}</h3>'
         f"{table(head, rows, names=3)}{queue_picture(queues)}</section>"
     )
 
 
-def movement_row(row: Row) -> list[str]:
+def title_of(name: str, names: Names) -> str:
+    """A junction's title, with its id."""
+    called = names.junction(name)
+    return f"{called} (junction {name})" if called else f"Junction {name}"
+
+
+def movement_row(row: Row, names: Names) -> list[str]:
     """The cells of a movement in its junction's table."""
     values = row.values
     stops = f"{values['stops_per_vehicle']:.2f}" if "stops_per_vehicle" in values else ""
@@ -195,7 +204,7 @@ def movement_row(row: Row) -> list[str]:
         f"{values['queue_max_m']:.0f} of {values['storage_m']:.0f}",
     ]
     return [
-        *(escape(part) for part in (row.key[1], row.key[2], row.movement)),
+        *(escape(part) for part in (names.movement(*row.key[1:]), " to ".join(row.key[1:]), row.movement)),
         *(f"{values['vehicles_per_hour']:.0f}", f"{row.delay:.1f}", letter_mark(row.letter()), f"{values['v_c']:.2f}"),
         *(f"{values['stopped_delay_s']:.1f}", stops, *queues),
     ]
@@ -209,7 +218,7 @@ def before_and_after(before: Runs, after: Runs, interval_of: tuple[int, int]) ->
     parts = [difference_table(lines)]
     for name, title in (("junctions", "Junctions"), ("movements", "Movements")):
         rows = [side.rows.get((name, *interval_of), {}) for side in (before, after)]
-        parts.append(f"<h3>{title}: control delay, s</h3>" + difference_rows(*rows))
+        parts.append(f"<h3>{title}: control delay, s</h3>" + difference_rows(rows[0], rows[1], after.names))
     count = len(before.folders.keys() & after.folders.keys())
     said = (
         "Differences are of the same seeds" if count > 1 else "One seed alone tells nothing of chance: use --seeds 1-5"
@@ -223,7 +232,7 @@ def difference_table(lines: Iterable[tuple[str, Difference | None]]) -> str:
     return table(["", "before", "after", "change, 95 % interval"], rows)
 
 
-def difference_rows(before: Rows, after: Rows) -> str:
+def difference_rows(before: Rows, after: Rows, names: Names) -> str:
     """The table of control delays of what both runs have, before and after."""
     rows = []
     for key in sorted(before.keys() & after.keys()):
@@ -232,8 +241,10 @@ def difference_rows(before: Rows, after: Rows) -> str:
         if one:
             letters = f"{letter_mark(first.letter())} to {letter_mark(second.letter())}"
             name = f"{key[0]}: {' to '.join(key[1:])}" if len(key) > 1 else key[0]
-            rows.append([escape(name), f"{one.before:.1f}", f"{one.after:.1f}", change_told(one), letters])
-    return table(["", "before", "after", "change", "LOS"], rows)
+            called = names.movement(*key[1:]) if len(key) > 1 else names.junction(key[0])
+            numbers = f"{one.before:.1f}", f"{one.after:.1f}"
+            rows.append([escape(called), escape(name), *numbers, change_told(one), letters])
+    return table(["", "", "before", "after", "change", "LOS"], rows, names=2)
 
 
 def change_told(one: Difference) -> str:

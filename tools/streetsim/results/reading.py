@@ -9,6 +9,7 @@ from typing import Any
 from streetsim.base.files import Fault
 from streetsim.base.report import some
 from streetsim.model.folder import NAME, Folder, read_folder, seeds_in
+from streetsim.model.names import Names
 from streetsim.model.service import level
 from streetsim.model.tables import APPROACHES, JUNCTIONS, MOVEMENTS, SEEDS, read_table
 
@@ -55,6 +56,11 @@ class Runs:
     def first(self) -> Folder:
         """The folder of the first seed."""
         return next(iter(self.folders.values()))
+
+    @property
+    def names(self) -> Names:
+        """The names of its map."""
+        return Names(self.first.mapping)
 
     def mean_trips(self) -> dict[int, float]:
         """By seed the mean trip of those who arrived, seconds; without seeds in which nobody did."""

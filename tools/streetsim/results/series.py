@@ -8,6 +8,7 @@ from streetsim.base import limits
 from streetsim.base.files import Fault
 from streetsim.model import tables
 from streetsim.model.folder import Folder
+from streetsim.model.names import Names
 from streetsim.model.runs import Command
 
 Spot = tuple[float, float]  # second and metres
@@ -109,8 +110,18 @@ def junctions_along(folder: Folder, edges: Sequence[str]) -> list[tuple[float, s
     """(metres from the path's begin, name) of the junctions within a path."""
     placed, _ = stretches(folder, edges)
     firsts = [links[0] for links in folder.links_along(edges)]
-    ends = [(sum(placed[link][:2]), folder.mapping.nodes[folder.mapping.links[link].end][0]) for link in firsts]
+    names = Names(folder.mapping)
+    nodes = [folder.mapping.nodes[folder.mapping.links[link].end][0] for link in firsts]
+    ends = [(sum(placed[link][:2]), crossed(names, node, edges)) for link, node in zip(firsts, nodes, strict=True)]
     return ends[:-1] or ends
+
+
+def crossed(names: Names, junction: str, edges: Iterable[str]) -> str:
+    """A junction on a path: its own name, else the streets that it has beside the path's, else its id."""
+    if junction in names.junctions:
+        return names.junctions[junction]
+    own = {names.street(edge) for edge in edges}
+    return " / ".join(name for name in names.junction(junction).split(" / ") if name and name not in own) or junction
 
 
 def green_band(folder: Folder, edges: Sequence[str], first: int) -> tuple[int, int] | None:
@@ -165,13 +176,15 @@ def densities(folder: Folder) -> list[float]:
 
 
 def longest_queues(folder: Folder, most: int) -> tuple[list[tuple[str, dict[int, float]]], int]:
-    """The lanes with the longest queues at stop lines, the longest first: (edge_lane, {time: metres}), so many at most;
-    and how many lanes with queues there are."""
+    """The lanes with the longest queues at stop lines, the longest first: (edge_lane after its street's name,
+    {time: metres}), so many at most; and how many lanes with queues there are."""
     by_lane: defaultdict[str, dict[int, float]] = defaultdict(dict)
+    names = Names(folder.mapping)
     for row in (row for row in folder.queues() if row["before"] == tables.STOP_LINE):
         by_lane[f"{row['edge']}_{row['lane']}"][int(row["time"])] = float(row["metres"])
     ranked = sorted(by_lane.items(), key=lambda item: (-max(item[1].values()), item[0]))
-    return ranked[:most], len(ranked)
+    called = ((f"{names.street(name.rpartition('_')[0])} {name}".lstrip(), queue) for name, queue in ranked[:most])
+    return list(called), len(ranked)
 
 
 def flows(folder: Folder, edges: Sequence[str]) -> list[tuple[float, float]]:

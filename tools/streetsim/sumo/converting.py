@@ -98,6 +98,7 @@ def map_of(network: Network, lights: list[tuple[str, int]], names: list[str], re
         actuated=network.actuated,
         programs=network.programs,
         rings=network.rings,
+        names=network.names,
     )
 
 

@@ -33,6 +33,7 @@ class Edge:
     end: str
     priority: int
     lanes: list[Lane]  # those that one of the classes may use, from the right
+    street: str = ""  # its name, or that of its first lane with one
 
 
 @dataclass(slots=True)
@@ -82,6 +83,7 @@ class SumoNet:
     yields: dict[str, dict[int, set[int]]] = field(default_factory=dict)
     inner_speeds: dict[str, float] = field(default_factory=dict)  # lane inside a junction: metres a second
     location: Json = field(default_factory=dict)  # where it lies on Earth, as read_location keeps it
+    called: dict[str, str] = field(default_factory=dict)  # names of junctions that have one
 
     def yields_of(self, connection: Connection) -> set[int]:
         """The requests at its junction that a connection gives way to."""
@@ -163,9 +165,16 @@ def read_edge(path: FilePath, element: Element, net: SumoNet, classes: Collectio
             attribute(path, element, "to"),
             attribute(path, element, "priority", int) if element.get("priority") else -1,
             lanes,
+            street_of(element),
         )
     else:
         net.dropped.add(name)
+
+
+def street_of(element: Element) -> str:
+    """The name of an edge, else of its first lane that has one; empty where there is none."""
+    own = (one.get("name", "").strip() for one in (element, *element.iter("lane")))
+    return next(filter(None, own), "")
 
 
 def read_location(path: FilePath, element: Element, net: SumoNet, _classes: Collection[str]) -> None:
@@ -186,6 +195,8 @@ def read_junction(path: FilePath, element: Element, net: SumoNet, _classes: Coll
         name = attribute(path, element, "id")
         net.junctions[name] = attribute(path, element, "x", number), attribute(path, element, "y", number)
         net.types[name] = element.get("type", "priority")
+        if called := element.get("name", "").strip():
+            net.called[name] = called
         net.yields[name] = {
             attribute(path, request, "index", at_least_zero(int)): {
                 at for at, bit in enumerate(reversed(attribute(path, request, "response"))) if bit == "1"

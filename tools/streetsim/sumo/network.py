@@ -86,6 +86,7 @@ class Network:
             raise Fault(f"the network has no junction {min(ends - number.keys())!r}, where an edge begins or ends")
         self.places = [net.junctions[name] for name in self.nodes]
         self.location = net.location
+        self.names = names_of(net, edges, self.nodes)
         self.links: list[Link] = []
         self.links_of: dict[str, list[int]] = {}
         self.place_of: dict[LaneKey, tuple[int, int]] = {}  # link and lane
@@ -370,6 +371,13 @@ def may_share(right: LaneKey, left: LaneKey, following: Targets, waiting: Target
     if waiting is None or not following[right] or not following[left]:
         return True
     return bool(following[right] & following[left]) and waiting[right] == waiting[left]
+
+
+def names_of(net: SumoNet, edges: Iterable[Edge], nodes: Iterable[str]) -> Json:
+    """The names of edges and junctions that the network tells, as a map keeps them."""
+    found = {"edges": {edge.name: edge.street for edge in edges if edge.street}}
+    found["junctions"] = {name: net.called[name] for name in nodes if name in net.called}
+    return {kind: names for kind, names in found.items() if names}
 
 
 def link_of(

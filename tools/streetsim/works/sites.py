@@ -128,13 +128,14 @@ def with_joint_lanes(run: Run, mapping: Map, map_path: FilePath, names: list[str
         with Slow(f"importing {sources.net} anew"):
             report = Report()
             made = convert(sources.net, sources.additional, sources.routes, options, report, sources.trips)
-            lines, mapping = run_and_map(made, report)
+            lines, anew = run_and_map(made, report)
+            anew.names = mapping.names
     except Fault as fault:
         raise Fault(
             f"{some(names)}: nobody changes lane between the parallel links of an edge, so its lanes must be joint, "
             f"which needs the import anew: {fault}. Run streetsim-import with --joint {','.join(names)}"
         ) from None
-    return run_of_texts(run.path, lines), mapping
+    return run_of_texts(run.path, lines), anew
 
 
 def edges_of(names: Iterable[str], mapping: Map) -> set[str]:

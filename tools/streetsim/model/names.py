@@ -1,0 +1,129 @@
+"""The names that people know: of streets, junctions and movements; by direction where there is none."""
+import csv
+from collections import Counter
+from collections.abc import Callable, Iterable, Mapping, Sequence
+from math import atan2, pi
+
+from streetsim.base.files import Fault, FilePath, open_text, reading
+from streetsim.model.mapping import Map
+from streetsim.model.tables import Entry, write_table
+
+WINDS = ("east", "north-east", "north", "north-west", "west", "south-west", "south", "south-east")
+MOST_STREETS = 3  # in a junction's name
+COLUMNS = ("id", "name")  # of a file of one's own names
+EDGES, JUNCTIONS = "edges", "junctions"  # the kinds of names that a map keeps
+SUFFIX = "_name"  # of the column beside an id
+
+
+class Names:
+    """The names behind the ids of a map."""
+
+    def __init__(self, mapping: Map) -> None:
+        self.mapping = mapping
+        self.edges: Mapping[str, str] = mapping.names.get(EDGES, {})
+        self.junctions: Mapping[str, str] = mapping.names.get(JUNCTIONS, {})
+        self.made = self.of_streets() if self.edges else {}
+
+    def __bool__(self) -> bool:
+        """Whether there is any."""
+        return bool(self.edges or self.junctions)
+
+    def of_streets(self) -> dict[str, str]:
+        """The junctions that go by the streets that meet there: 'Hill Street / Market Street'."""
+        found: dict[str, Counter[str]] = {}
+        for link in self.mapping.links:
+            if name := self.edges.get(link.edge):
+                for node in {link.begin, link.end}:
+                    found.setdefault(self.mapping.nodes[node][0], Counter())[name] += 1
+        ranked = {node: sorted(names, key=lambda name: (-names[name], name)) for node, names in found.items()}
+        return {node: " / ".join(names[:MOST_STREETS]) for node, names in ranked.items()}
+
+    def street(self, edge: str) -> str:
+        """The street of an edge; empty where it has no name."""
+        return self.edges.get(edge, "")
+
+    def junction(self, name: str) -> str:
+        """What a junction is called; empty where nothing has a name."""
+        return self.junctions.get(name, "") or self.made.get(name, "")
+
+    def junction_told(self, name: str) -> str:
+        """What a junction is called, else its id."""
+        return self.junction(name) or f"Junction {name}"
+
+    def approach(self, edge: str) -> str:
+        """'Hill Street, from the north'; without a name 'from the north'."""
+        street = self.street(edge)
+        return f"{street}, {self.came(edge)}" if street else self.came(edge)
+
+    def movement(self, edge: str, to: str) -> str:
+        """'Hill Street into Market Street, from the north'; by direction where there is no name."""
+        street, following = self.street(edge), self.street(to)
+        if street and street == following:
+            return f"along {street}, {self.came(edge)} {self.goes(to)}"
+        if street:
+            return f"{street} {f'into {following}' if following else self.goes(to)}, {self.came(edge)}"
+        return f"{self.came(edge)} {f'into {following}' if following else self.goes(to)}"
+
+    def came(self, edge: str) -> str:
+        """Where one comes from who drives along an edge's end."""
+        if edge not in self.mapping.links_of:
+            return ""
+        *_, before, end = self.shape(edge)
+        return f"from the {wind(end, before)}"
+
+    def goes(self, edge: str) -> str:
+        """Where one goes to who drives along an edge's begin."""
+        if edge not in self.mapping.links_of:
+            return ""
+        begin, after, *_ = self.shape(edge)
+        return f"to the {wind(begin, after)}"
+
+    def shape(self, edge: str) -> Sequence[Sequence[float]]:
+        links = self.mapping.links_of[edge]
+        return self.mapping.links[links[len(links) // 2]].shape
+
+    def columns(self) -> dict[str, Callable[[str], str]]:
+        """For each column of ids what its column of names has."""
+        return {"edge": self.street, "approach": self.street, "to": self.street, "junction": self.junction}
+
+
+def wind(begin: Sequence[float], end: Sequence[float]) -> str:
+    """The direction from one point to another, y to the north."""
+    turn = atan2(end[1] - begin[1], end[0] - begin[0]) / (2 * pi)
+    return WINDS[round(turn * len(WINDS)) % len(WINDS)]
+
+
+def write_named(path: FilePath, header: Sequence[str], rows: Iterable[Entry], names: Names) -> None:
+    """Writes a table as CSV; where the map has names, a column of names stands beside each one of ids."""
+    columns = {header.index(name): called for name, called in names.columns().items() if name in header and names}
+    head = [text for at, name in enumerate(header) for text in ([name, name + SUFFIX] if at in columns else [name])]
+    named = ([one for at, own in enumerate(row) for one in beside(columns.get(at), own)] for row in rows)
+    write_table(path, head, named)
+
+
+def beside(called: Callable[[str], str] | None, cell: object) -> list[object]:
+    """A cell, and the name that it goes by where its column is one of ids."""
+    return [cell] if called is None else [cell, called(str(cell))]
+
+
+def read_own(path: FilePath, mapping: Map) -> None:
+    """Gives a map names of one's own, of a CSV with the columns id (of an edge or a junction) and name; Fault where an
+    id is unknown."""
+    edges, junctions = dict(mapping.names.get(EDGES, {})), dict(mapping.names.get(JUNCTIONS, {}))
+    nodes = {name for name, *_ in mapping.nodes} | {light for light, _ in mapping.signals}
+    lights = {light: mapping.nodes[node][0] for light, node in mapping.signals}
+    with reading(path), open_text(path) as file:
+        rows = csv.DictReader(file)
+        if tuple(rows.fieldnames or ()) != COLUMNS:
+            raise Fault(f"{path}: expected the columns {', '.join(COLUMNS)}")
+        for row in rows:
+            own, name = row["id"], (row["name"] or "").strip()
+            if own not in mapping.links_of and own not in nodes:
+                raise Fault(f"{path}: line {rows.line_num}: the map has no edge or junction {own!r}")
+            if own in mapping.links_of:
+                edges[own] = name
+            if own in nodes:
+                junctions[lights.get(own, own)] = name
+    found = {EDGES: {own: name for own, name in edges.items() if name}}
+    found[JUNCTIONS] = {own: name for own, name in junctions.items() if name}
+    mapping.names = {kind: names for kind, names in found.items() if names}

@@ -1,0 +1,138 @@
+"""Names that people know: of a network's streets and of a file of one's own, in the map, tables, page and export."""
+import csv
+import json
+import unittest
+
+from support import DATA, PROGRAM, Case, needs_simulator
+from streetsim.live.facts import streets_and_areas
+from streetsim.model.mapping import read_map
+from streetsim.model.names import Names, wind
+
+# A cross, y to the north: Hill Street from the north to the south, Market Street to the east, no name to the west.
+EDGES = (
+    ("n", "N", "M", "0,200 0,5", 'name="Hill Street"', ""),
+    ("s", "M", "S", "0,-5 0,-200", "", 'name="Hill Street"'),
+    ("e", "M", "E", "5,0 200,0", 'name="Market Street"', ""),
+    ("w", "M", "W", "-5,0 -200,0", "", ""),
+    ("i", "W", "M", "-200,-3 -5,-3", "", ""),
+)
+NODES = {"N": (0, 200), "S": (0, -200), "E": (200, 0), "W": (-200, 0), "M": (0, 0)}
+
+
+def cross():
+    """The network, by hand."""
+    parts = ['<net version="1.9">']
+    for name, begin, end, shape, own, of_lane in EDGES:
+        lane = f'<lane id="{name}_0" index="0" speed="13.9" length="195" shape="{shape}" {of_lane}/>'
+        parts.append(f'<edge id="{name}" from="{begin}" to="{end}" priority="1" {own}>{lane}</edge>')
+    for name, (x, y) in NODES.items():
+        parts.append(f'<junction id="{name}" type="priority" x="{x}" y="{y}"/>')
+    for source, targets in {"n": "sew", "i": "es"}.items():
+        parts += [f'<connection from="{source}" to="{to}" fromLane="0" toLane="0" state="M"/>' for to in targets]
+    return "".join([*parts, "</net>"])
+
+
+ROUTES = '<routes><flow id="f" begin="0" end="300" number="20"><route edges="n e"/></flow></routes>'
+
+
+class Crossing(Case):
+    def imported(self, *words):
+        network, routes = self.write("x.net.xml", cross()), self.write("x.rou.xml", ROUTES)
+        run, mapped = self.folder / "x.jsonl", self.folder / "x.map.json"
+        self.tool("import", network, "--routes", routes, "-o", run, "--map", mapped, *words)
+        return run, mapped
+
+    def names(self, *words):
+        return Names(read_map(self.imported(*words)[1]))
+
+
+class Told(Crossing):
+    def test_movements(self):
+        names = self.names()
+        for edge, to, told in (
+            ("n", "e", "Hill Street into Market Street, from the north"),
+            ("n", "s", "along Hill Street, from the north to the south"),
+            ("n", "w", "Hill Street to the west, from the north"),
+            ("i", "e", "from the west into Market Street"),
+            ("i", "w", "from the west to the west"),
+        ):
+            self.assertEqual(names.movement(edge, to), told)
+        self.assertEqual((names.approach("n"), names.approach("i")), ("Hill Street, from the north", "from the west"))
+        self.assertEqual(names.junction("M"), "Hill Street / Market Street")
+        self.assertEqual((names.junction("W"), names.junction_told("W")), ("", "Junction W"))
+
+    def test_winds(self):
+        points = {"north": (0, 9), "south-east": (5, -5), "west": (-9, 1), "east": (9, 0)}
+        self.assertEqual({name: wind((0, 0), point) for name, point in points.items()}, {name: name for name in points})
+
+    def test_names_of_ones_own(self):
+        own = self.write("own.csv", "id,name\nM,Town Hall\nw,Quay\nn,\n")
+        names = self.names("--names", own)
+        self.assertEqual((names.junction("M"), names.street("w"), names.street("n")), ("Town Hall", "Quay", ""))
+        self.assertEqual(names.movement("i", "w"), "from the west into Quay")
+        for text, told in (("id,name\nx,Y\n", "line 2: the map has no edge or junction 'x'"), ("a,b\n", "id, name")):
+            said = self.tool(
+                "import", self.folder / "x.net.xml", "-o", self.folder / "y", "--map", self.folder / "z", "--names",
+                self.write("bad.csv", text), status=2,
+            )[1]
+            self.assertIn(told, said)
+
+    def test_a_map_without_names_is_as_it_was(self):
+        """That of the grid, whose edges have none; and a map of before names has none."""
+        run, mapped = self.folder / "g.jsonl", self.folder / "g.json"
+        self.tool("import", DATA / "grid.net.xml.gz", "-o", run, "--map", mapped)
+        self.assertNotIn("names", json.loads(mapped.read_text()))
+        self.assertFalse(Names(read_map(mapped)))
+
+    def test_the_live_page_has_them(self):
+        """Also when the network is no longer there."""
+        mapped = self.imported()[1]
+        (self.folder / "x.net.xml").unlink()
+        streets, _ = streets_and_areas(read_map(mapped), mapped)
+        self.assertEqual(streets, {"n": "Hill Street", "s": "Hill Street", "e": "Market Street"})
+
+
+@needs_simulator
+class Written(Crossing):
+    def setUp(self):
+        super().setUp()
+        run, mapped = self.imported()
+        self.out = self.folder / "out"
+        words = ("--until", 600, "--junctions", "--program", PROGRAM, "--out", self.out)
+        self.tool("run", run, "--map", mapped, *words)
+
+    def rows(self, name):
+        with open(self.out / name, encoding="utf-8") as file:
+            return list(csv.DictReader(file))
+
+    def test_tables(self):
+        row = self.rows("movements.csv")[0]
+        told = [row[name] for name in ("junction_name", "approach_name", "to_name", "approach")]
+        self.assertEqual(told, ["Hill Street / Market Street", "Hill Street", "Market Street", "n"])
+        self.assertEqual({row["edge_name"] for row in self.rows("edges.csv") if row["edge"] == "w"}, {""})
+        self.assertEqual(list(self.rows("counts.csv")[0])[:4], ["begin", "end", "edge", "edge_name"])
+
+    def test_the_page(self):
+        self.tool("report", self.out, "-o", self.folder / "page.html")
+        text = (self.folder / "page.html").read_text()
+        self.assertIn("Hill Street into Market Street, from the north", text)
+        self.assertIn("Hill Street / Market Street", text)
+
+
+class Exported(Crossing):
+    def test_properties(self):
+        """By the functions of the export, without pyproj."""
+        from streetsim.gis.exporting import named, of_edge
+
+        mapping = read_map(self.imported()[1])
+        names = Names(mapping)
+        self.assertEqual(of_edge(mapping, "n") | named("street", names.street("n"), names), {
+            "name": "n", "from": "N", "to": "M", "lanes": 1, "metres": 195.0, "street": "Hill Street",
+        })
+        self.assertEqual(named("street", names.street("w"), names), {"street": None})
+        mapping.names = {}
+        self.assertEqual(named("street", "", Names(mapping)), {})
+
+
+if __name__ == "__main__":
+    unittest.main()
