@@ -18,6 +18,9 @@ NAME = re.compile(r"[A-Za-z_]\w*(?:(?:::|\.)[A-Za-z_]\w*)*(?:\(\))?")
 FOREIGN = {"MSCFModel", "passingTime", "lefthand", "distributed", "comm", "tls", "listhc", "_tests"}
 # Files without names.
 PICTURES = (".png", ".gz")
+# First pages stay short: lines, and bytes, at most.
+MOST_LINES = {"tools/README.md": 320}
+MOST_BYTES = {"docs/PROOFS.md": 25_000}
 
 
 @cache
@@ -90,6 +93,21 @@ class Pages(Case):
 
     def test_names(self):
         self.assertEqual([lost for page in pages(TOP) for lost in lost_names(page, words(TOP))], [])
+
+    def test_first_pages_are_short(self):
+        for name, most in MOST_LINES.items():
+            self.assertLessEqual(len((TOP / name).read_text(encoding="utf-8").splitlines()), most, name)
+        for name, most in MOST_BYTES.items():
+            self.assertLessEqual((TOP / name).stat().st_size, most, name)
+
+    def test_edits(self):
+        """Each edit that the page of wrong bodies has in its tables is one of the gate's."""
+        edits = {path.stem for path in TOP.glob("crates/*/must-fail/*.edit")}
+        text = (TOP / "docs/WRONG_BODIES.md").read_text(encoding="utf-8")
+        section = text.partition("## The edits of the gate\n")[2].partition("\n## ")[0]
+        named = {code for line in section.splitlines() if line.startswith("| ") for code in CODE.findall(line)}
+        self.assertGreater(len(named), 20)
+        self.assertEqual(sorted(named - edits - {"once"}), [])
 
     def test_what_is_lost_is_found(self):
         links = "[a](#one-head) [b](#two) [c](page.md#one-head) [d](x.md)"
