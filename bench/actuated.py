@@ -6,7 +6,7 @@ Usage: bench/actuated.py PROGRAM --work FOLDER --seed N [--kinds NAME,..] [--lev
 Each network runs an hour of demand until all have arrived, in SUMO and here, with its actuated lights and with the \
 same programs as fixed plans (--lights listed). A trip counts from its wished departure. Greens are of those phases \
 that detectors extend, of the first hour, by light and phase: how many of them differ by less than a second on the \
-mean, and the mean difference.
+mean, and the mean difference. Those of a NEMA light are of each phase of its rings.
 """
 import csv
 import xml.etree.ElementTree as ElementTree
@@ -24,7 +24,13 @@ NEAR = 1.0  # seconds of green
 
 def sumo(made, net, folder):
     """The mean trip of those who arrived, how many did, and the greens by (light, state)."""
-    lights = {one.get("id") for one in ElementTree.parse(net).getroot().iter("tlLogic")}
+    programs = list(ElementTree.parse(net).getroot().iter("tlLogic"))
+    lights = {one.get("id") for one in programs}
+    rings = {
+        one.get("id"): [phase.get("state") for phase in one.iter("phase")]
+        for one in programs
+        if one.get("type") == "NEMA"
+    }
     events, states, trips = folder / "events.add.xml", folder / "states.xml", folder / "trips.xml"
     wanted = "".join(f'<timedEvent type="SaveTLSStates" source="{one}" dest="{states}"/>' for one in sorted(lights))
     events.write_text(f"<additional>{wanted}</additional>", encoding="utf-8")
@@ -33,22 +39,30 @@ def sumo(made, net, folder):
     shared.run([*words, "--no-step-log", "--no-warnings", "--time-to-teleport", 300], folder)
     found = ElementTree.parse(trips).getroot().iter("tripinfo")
     seconds = [float(one.get("duration")) + float(one.get("departDelay")) for one in found]
-    return fmean(seconds), len(seconds), greens_in(states)
+    return fmean(seconds), len(seconds), greens_in(states, rings)
 
 
-def greens_in(path):
-    """{(light, state): how long each lasted} of a file of SUMO's states, of the first hour."""
+def greens_in(path, rings):
+    """{(light, state): how long each lasted} of a file of SUMO's states, of the first hour; rings: the states of the
+    phases of NEMA lights, of which two are shown at once."""
     found, shown = defaultdict(list), {}
     for _, one in ElementTree.iterparse(path):
         if one.tag == "tlsState":
             light, state, time = one.get("id"), one.get("state"), float(one.get("time"))
-            before, since = shown.get(light, (None, 0.0))
-            if state != before:
-                if before is not None and time <= HOUR:
-                    found[light, before].append(time - since)
-                shown[light] = state, time
+            own = [phase for phase in rings[light] if is_green(phase, state)] if light in rings else [state]
+            for key in [key for key in shown if key[0] == light and key[1] not in own]:
+                since = shown.pop(key)
+                if time <= HOUR:
+                    found[key].append(time - since)
+            for phase in own:
+                shown.setdefault((light, phase), time)
             one.clear()
     return found
+
+
+def is_green(phase, state):
+    """Whether a phase of a ring is green in a state of its light."""
+    return all(shown == "G" for own, shown in zip(phase, state) if own == "G")
 
 
 def here(program, run, folder, lights):
@@ -62,7 +76,7 @@ def here(program, run, folder, lights):
     if (out / "phases.csv").exists():
         with open(out / "phases.csv", encoding="utf-8") as file:
             for row in csv.DictReader(file):
-                if row["ended"] in ("gap", "most") and int(row["begin"]) + int(row["seconds"]) <= HOUR:
+                if row["ended"] not in ("", "listed") and int(row["begin"]) + int(row["seconds"]) <= HOUR:
                     greens[row["light"], row["state"]].append(int(row["seconds"]))
     return fmean(seconds), len(seconds), greens, "not to be trusted" in told
 
@@ -114,4 +128,5 @@ def main():
             print(row(args.program, make(kind, args.seed, folder, level)), flush=True)
 
 
-main()
+if __name__ == "__main__":
+    main()

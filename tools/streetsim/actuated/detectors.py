@@ -37,6 +37,7 @@ class Way:
     lane: str
     target: str  # lane
     turns_back: bool = False
+    direction: str = ""  # as SUMO has it: s, l, r, ..
 
 
 @dataclass(slots=True, frozen=True)

@@ -3,35 +3,61 @@ seconds that it names itself, and each phase that begins is sent as a plan, the 
 """
 from __future__ import annotations
 
-from collections.abc import Callable, Iterable, Iterator
+from collections.abc import Callable, Iterable, Iterator, Sequence
 from dataclasses import dataclass, field
+from functools import partial
 from math import inf
 
-from streetsim.actuated.lights import Cell, Driven
+from streetsim.actuated.kept import Area, Cell
+from streetsim.actuated.lights import Driven, Light
 from streetsim.actuated.logic import Actuated
+from streetsim.actuated.nema import Nema
 from streetsim.actuated.showing import Shown, lasting
+from streetsim.actuated.showing_rings import ShownRings
 from streetsim.base import limits
-from streetsim.base.client import Rows
-from streetsim.model.mapping import Map
+from streetsim.base.client import Lane, Rows
+from streetsim.model.mapping import Map, Place
 from streetsim.model.runs import Command
 
-Read = Callable[[int], Rows]  # what a meter noted
+
+@dataclass(slots=True, frozen=True)
+class Senses:
+    """What a run answers to its lights."""
+
+    read: Callable[[int], Rows]  # what a meter noted
+    lane: Callable[[Place], Lane | None]  # what stands on a lane; none where nothing does
 
 
 @dataclass(slots=True)
 class Controller:
     """One light of a run."""
 
-    name: str
-    logic: Actuated
-    shown: Shown
+    light: Light
+    logic: Actuated | Nema
+    plans: Callable[[int], Iterator[Command]]  # of what is shown from a clock on
     meters: range  # of its detectors
     shows: list[Command] = field(default_factory=list)  # the plans that were sent last
     wraps: float = inf  # the clock by which these would begin anew
 
+    @property
+    def name(self) -> str:
+        return self.light.name
+
+    def starts(self, now: int) -> Iterator[Command]:
+        """The plans at the begin of a run."""
+        self.logic.start(now, self.light.offset)
+        yield from self.begins(now)
+
+    def looks(self, now: int, first: int, senses: Senses) -> bool:
+        """Looks at its detectors, of which the first one of all lights has a meter's number; says whether it goes on.
+        """
+        if isinstance(self.logic, Nema):
+            return self.logic.look(now, present_by(now, senses.lane, self.light.areas))
+        return self.logic.look(now, gap_by(now, senses.read, first + self.meters.start))
+
     def begins(self, now: int) -> Iterator[Command]:
         """The plans of the phase that begins now."""
-        self.shows, self.wraps = list(self.shown.plans(self.logic, now)), now + limits.PHASE_STEPS
+        self.shows, self.wraps = list(self.plans(now)), now + limits.PHASE_STEPS
         yield from self.shows
 
     def goes_on(self) -> Iterator[Command]:
@@ -47,13 +73,13 @@ class Controller:
 class Driver:
     """Those of a run."""
 
-    def __init__(self, lights: Iterable[Driven], mapping: Map) -> None:
+    def __init__(self, lights: Iterable[Light], mapping: Map) -> None:
         self.cells: list[Cell] = []
         self.controllers: list[Controller] = []
         for one in lights:
             meters = range(len(self.cells), len(self.cells) + len(one.cells))
             self.cells += one.cells
-            self.controllers.append(Controller(one.name, one.logic(), Shown(one, mapping), meters))
+            self.controllers.append(controller_of(one, mapping, meters))
         self.first = 0  # meter
 
     def meters(self, first: int) -> Iterator[Command]:
@@ -65,36 +91,38 @@ class Driver:
     def begin(self, start: int) -> Iterator[Command]:
         """The signals at the begin of a run."""
         for one in self.controllers:
-            one.logic.start(start, one.shown.light.offset)
-            yield from one.begins(start)
+            yield from one.starts(start)
 
     def due(self) -> int:
         """The next second at which a light is looked at."""
         return min((one.due() for one in self.controllers), default=limits.CLOCK)
 
-    def look(self, clock: int, read: Read) -> Iterator[Command]:
+    def look(self, clock: int, senses: Senses) -> Iterator[Command]:
         """Looks at the lights that are due, and gives what is to be sent before the next step."""
         for one in self.controllers:
-            if one.logic.due <= clock and one.logic.look(clock, gap_by(clock, read, self.first + one.meters.start)):
+            if one.logic.due <= clock and one.looks(clock, self.first, senses):
                 yield from one.begins(clock)
             elif one.wraps <= clock:
                 yield from one.goes_on()
 
     def rows(self, until: int) -> list[tuple[int, str, int, str, int, str]]:
         """The table phases.csv: each phase that was shown, with the ones that had not ended."""
-        found = []
-        for one in self.controllers:
-            logic = one.logic
-            phases = [(row.begin, row.phase, row.seconds, row.why) for row in logic.ended]
-            if logic.since < until:
-                phases.append((logic.since, logic.at, until - logic.since, ""))
-            found += [
-                (begin, one.name, at, logic.phases[at].state, seconds, why) for begin, at, seconds, why in phases
-            ]
-        return sorted(found)
+        return sorted(
+            (row.begin, one.name, row.phase, state, row.seconds, row.why)
+            for one in self.controllers
+            for row, state in one.logic.told(until)
+        )
 
 
-def gap_by(clock: int, read: Read, first: int) -> Callable[[int], float]:
+def controller_of(light: Light, mapping: Map, meters: range) -> Controller:
+    if isinstance(light, Driven):
+        logic = light.logic()
+        return Controller(light, logic, partial(Shown(light, mapping).plans, logic), meters)
+    rings = light.logic()
+    return Controller(light, rings, partial(ShownRings(light, mapping).plans, rings), meters)
+
+
+def gap_by(clock: int, read: Callable[[int], Rows], first: int) -> Callable[[int], float]:
     """The seconds since a detector last saw anybody, by its meter's rows; a first meter has the number of detector 0.
     Who passed within a second left in its middle, on the mean."""
 
@@ -107,3 +135,22 @@ def gap_by(clock: int, read: Read, first: int) -> Callable[[int], float]:
         return inf
 
     return gap
+
+
+def present_by(clock: int, lane: Callable[[Place], Lane | None], areas: Sequence[Area]) -> Callable[[int], bool]:
+    """Whether anybody is on an area, by what stands on its lane; asks once for each lane. Who has passed the stop line
+    is on it for a second more, until its rear has."""
+    known: dict[Place, Lane | None] = {}
+
+    def present(number: int) -> bool:
+        area = areas[number]
+        place = area.link, area.lane
+        if place not in known:
+            known[place] = lane(place)
+        found = known[place]
+        if found is None:
+            return False
+        leaving = area.at_end and any(ready > clock for _, _, ready, *_ in found.buffer)
+        return leaving or any(area.first <= cell <= area.last for _, cell, *_ in found.cells)
+
+    return present

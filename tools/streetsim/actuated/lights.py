@@ -6,49 +6,24 @@ from collections.abc import Iterable, Iterator, Mapping
 from dataclasses import dataclass, field
 from functools import cached_property
 from itertools import pairwise
+from math import ceil, inf
 from typing import Any
 
 from streetsim.actuated.detectors import GAP, LEAD, NO_DETECTOR, Layout, LitLane, Spot, Stretch, Way, extending, spots
+from streetsim.actuated.kept import OFF, Area, Cell, Listed, NodeOf, bounds_of, kept_of, node_of, number_of
 from streetsim.actuated.logic import Actuated, Phase
+from streetsim.actuated.rings import DrivenRings, driven_rings
 from streetsim.base import limits
-from streetsim.base.files import Fault, Json
 from streetsim.base.report import some
 from streetsim.model.detectors import E1
 from streetsim.model.mapping import Map
 from streetsim.model.runs import Run
-from streetsim.sumo.net import Connection
 
-ACTUATED = "actuated"  # the kind of a program that is driven
-LONGEST = 1_000_000  # seconds, where a green has no most
-CALLS = 1.0  # of the program, a light and second: reads of detectors and signals
+ACTUATED, NEMA = "actuated", "NEMA"  # the kinds of programs that are driven
 SHARE = 0.5  # of the program's calls, that lights may take
 NUMBERS = ("max-gap", "detector-gap", "passing-time")
 ZERO = ("detector-length", "jam-threshold")  # parameters that are driven where they are 0 or less
 UNLIKE = ("linkMaxDur", "linkMinDur", "vTypes", "coordinated")  # others that change when SUMO's phases end
-OFF = ("", "0", "false")
-
-
-class Listed(Fault):
-    """Why a light goes by its listed seconds."""
-
-
-@dataclass(frozen=True, slots=True)
-class Cell:
-    """Where a detector is placed."""
-
-    link: int
-    lane: int
-    cell: int
-
-
-@dataclass(frozen=True, slots=True)
-class NodeOf:
-    """A node with a light, and what says who gives way there."""
-
-    node: int
-    connections: tuple[Connection, ...]
-    yields: Mapping[int, frozenset[int]]  # by request: those that it gives way to
-    flows: Mapping[tuple[str, str], float]  # vehicles an hour from edge to edge
 
 
 @dataclass(frozen=True, slots=True)
@@ -62,22 +37,33 @@ class Driven:
     cells: tuple[Cell, ...]  # of its detectors
     gaps: tuple[float, ...]
     nodes: tuple[NodeOf, ...]
+    areas: tuple[Area, ...] = ()  # it has detectors, which are read
+
+    calls = 1.0  # of the program, a second: reads of detectors and signals
+
+    @property
+    def longest(self) -> float:
+        """The seconds in which it has shown all that it shows."""
+        return sum(min(phase.most, limits.PHASE_STEPS) for phase in self.phases)
 
     def logic(self) -> Actuated:
         return Actuated(self.phases, self.gaps, self.lead)
+
+
+Light = Driven | DrivenRings
 
 
 @dataclass(frozen=True)
 class Lights:
     """Those of a run."""
 
-    driven: tuple[Driven, ...] = ()
+    driven: tuple[Light, ...] = ()
     listed: Mapping[str, str] = field(default_factory=dict)  # of the others that SUMO times by detectors: why
 
     @property
     def calls(self) -> float:
         """Of the program, a second."""
-        return 1 + CALLS * len(self.driven) if self.driven else 0.0
+        return 1 + sum(one.calls for one in self.driven) if self.driven else 0.0
 
     @cached_property
     def meters(self) -> int:
@@ -86,8 +72,7 @@ class Lights:
     @cached_property
     def longest(self) -> int:
         """The seconds in which each light has shown all that it shows."""
-        most = (sum(min(phase.most, limits.PHASE_STEPS) for phase in one.phases) for one in self.driven)
-        return max(most, default=0)
+        return ceil(max((one.longest for one in self.driven), default=0.0))
 
     def going_by(self, mapping: Map) -> list[str]:
         """Those of a map that SUMO times by detectors and that go by their list here."""
@@ -107,10 +92,10 @@ LISTED = Lights()  # all go by their list
 def driven_lights(run: Run, mapping: Map, until: int, calls: int) -> Lights:
     """Those that detectors drive in a run up to a clock, those first that most vehicles pass, as far as there are
     meters, as counts have others in further runs, and calls (0: any number)."""
-    most = int(SHARE * calls / (until - run.start()) / CALLS) if calls else len(mapping.actuated)
+    spare = SHARE * calls / (until - run.start()) if calls else inf  # calls a second
     timed = {line.command["node"] for _, line in run.timed if line.command["cmd"] == "signal"}
     kept, left = {one["light"]: one for one in mapping.programs}, limits.METERS - len(mapping.detectors)
-    driven: list[Driven] = []
+    driven: list[Light] = []
     listed: dict[str, str] = {}
     use = passing(run, mapping)
     for light in sorted(mapping.actuated, key=lambda one: -use[one]):
@@ -118,21 +103,15 @@ def driven_lights(run: Run, mapping: Map, until: int, calls: int) -> Lights:
             if any(node in timed for name, node in mapping.signals if name == light):
                 raise Listed("as lines of the run change their plans")
             found = driven_of(kept_of(kept, light), mapping)
-            if len(driven) >= most:
+            if found.calls > spare:
                 raise Listed("as the program takes no more calls")
             if len(found.cells) > left:
                 raise Listed(f"as no more than {limits.METERS:,} detectors are to be had")
-            left -= len(found.cells)
+            left, spare = left - len(found.cells), spare - found.calls
             driven.append(found)
         except Listed as why:
             listed[light] = str(why)
     return Lights(tuple(driven), listed)
-
-
-def kept_of(kept: Mapping[str, Json], light: str) -> Json:
-    if light not in kept:
-        raise Listed("as their map was written by an older streetsim-import")
-    return kept[light]
 
 
 def passing(run: Run, mapping: Map) -> Counter[str]:
@@ -142,8 +121,10 @@ def passing(run: Run, mapping: Map) -> Counter[str]:
     return Counter(light_at[pair] for pair in pairs if pair in light_at)
 
 
-def driven_of(kept: Mapping[str, Any], mapping: Map) -> Driven:
+def driven_of(kept: Mapping[str, Any], mapping: Map) -> Light:
     """A light of what a map keeps of its program."""
+    if kept["kind"] == NEMA:
+        return driven_rings(kept, mapping)
     refuse_unlike(kept)
     phases = [phase_of(one) for one in kept["phases"]]
     layout = layout_of(kept)
@@ -178,21 +159,12 @@ def refuse_unlike(kept: Mapping[str, Any]) -> None:
             raise Listed(f"as {name}={value} is not driven here")
 
 
-def number_of(text: str) -> float:
-    try:
-        return float(text)
-    except ValueError:
-        raise Listed(f"as {text!r} of their parameters is no number") from None
-
-
 def phase_of(kept: list[Any]) -> Phase:
-    """A phase, of its seconds, state, least, most and next ones. Without a least a phase lasts as listed; with one and
-    no most it has none, as in SUMO."""
-    seconds, state, least, most, following = kept
-    shortest = seconds if least is None else least
-    longest = most if most is not None else seconds if least is None else LONGEST
+    """A phase, of its seconds, state, least, most and next ones."""
+    seconds, state, *_, following = kept
     step = following[0] if following and following[0] >= 0 else None
-    return Phase(state, round(seconds), round(shortest), max(round(shortest), round(longest)), next=step)
+    least, most = bounds_of(kept)
+    return Phase(state, round(seconds), round(least), round(most), next=step)
 
 
 def with_detectors(phase: Phase, detectors: Iterable[int]) -> Phase:
@@ -235,9 +207,3 @@ def own_detectors(layout: Layout, mapping: Map) -> dict[str, Cell]:
         if name in loops:
             found[lane] = Cell(loops[name].link, loops[name].lane, loops[name].first)
     return found
-
-
-def node_of(kept: Mapping[str, Any]) -> NodeOf:
-    connections = tuple(Connection(*one) for one in kept["connections"])
-    yields = {request: frozenset(foes) for request, foes in kept["yields"]}
-    return NodeOf(kept["node"], connections, yields, {(begin, end): flow for begin, end, flow in kept["flows"]})

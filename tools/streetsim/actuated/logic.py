@@ -7,7 +7,7 @@ that as the way from the detector to the stop line takes, else each second.
 """
 from __future__ import annotations
 
-from collections.abc import Callable, Sequence
+from collections.abc import Callable, Iterator, Sequence
 from dataclasses import dataclass, field
 from math import ceil
 from typing import NamedTuple
@@ -15,6 +15,7 @@ from typing import NamedTuple
 GapOf = Callable[[int], float]  # the seconds since a detector last saw anybody, 0 while somebody is on it
 GO, YELLOW = "Gg", "yY"  # letters of a state
 BY_GAP, BY_MOST, LISTED = "gap", "most", "listed"  # why a phase ended
+BY_OTHER, BY_CALL = "barrier", "call"  # those of a ring: with the other one, or after resting until somebody came
 
 
 @dataclass(slots=True, frozen=True)
@@ -85,6 +86,16 @@ class Actuated:
         self.at = (self.at + 1) % len(self.phases) if phase.next is None else phase.next
         self.since, self.due = now, now + self.phases[self.at].shortest
         return True
+
+    def state(self) -> str:
+        """What is shown."""
+        return self.phases[self.at].state
+
+    def told(self, until: int) -> Iterator[tuple[Ended, str]]:
+        """The phases so far, with their states; the one under way without a reason for its end."""
+        under_way = [Ended(self.at, self.since, until - self.since, "")] if self.since < until else []
+        for row in (*self.ended, *under_way):
+            yield row, self.phases[row.phase].state
 
     def why(self, phase: Phase, now: int) -> str:
         """Why a phase ends now."""

@@ -3,11 +3,12 @@ phase has the mean length that it had so far, as who gives way and what starts l
 Where a phase lasts longer its last second goes on."""
 from __future__ import annotations
 
-from collections.abc import Iterator, Sequence
+from collections.abc import Iterator, Mapping, Sequence
 from dataclasses import replace
 from itertools import groupby
 
-from streetsim.actuated.lights import Driven, NodeOf
+from streetsim.actuated.kept import NodeOf
+from streetsim.actuated.lights import Driven
 from streetsim.actuated.logic import Actuated
 from streetsim.base import limits
 from streetsim.base.report import Report
@@ -26,7 +27,8 @@ class Shown:
 
     def __init__(self, light: Driven, mapping: Map) -> None:
         self.light, self.limits = light, {link.edge: link.limit for link in mapping.links}
-        self.nodes = [(one, lit_node(light, one, mapping)) for one in light.nodes]
+        cycle = [(float(phase.seconds), phase.state) for phase in light.phases]
+        self.nodes = [(one, lit_node(light.name, one, mapping, light.offset, cycle)) for one in light.nodes]
         self.means = [float(phase.usual) for phase in light.phases]
         self.known = 0  # ended phases that are in the means
         self.rows: dict[tuple[int, Lengths], list[Green]] = {}
@@ -54,22 +56,27 @@ class Shown:
         """The green turns of each second of a plan with phases of some lengths."""
         pairs = zip(self.light.phases, lengths, strict=True)
         states = [phase.state for phase, length in pairs for _ in range(length)]
-        found: dict[int, Movement] = {}
-        if node.permissive is None and kept.flows and kept.yields:
-            found = movements_of(kept.connections, states, kept.yields, kept.flows, self.limits)
-            settle(list(found.values()))
-        own = replace(node, found=found)
+        own = settled(node, kept, states, self.limits)
         return green_seconds(own, states, own.told(states), 1, True)
 
 
-def lit_node(light: Driven, kept: NodeOf, mapping: Map) -> LitNode:
-    """A node as the import had it."""
+def settled(node: LitNode, kept: NodeOf, states: Sequence[str], limits_of: Mapping[str, int]) -> LitNode:
+    """A node with what is found of who gives way there in a cycle with such states."""
+    found: dict[int, Movement] = {}
+    if node.permissive is None and kept.flows and kept.yields:
+        found = movements_of(kept.connections, states, kept.yields, kept.flows, limits_of)
+        settle(list(found.values()))
+    return replace(node, found=found)
+
+
+def lit_node(light: str, kept: NodeOf, mapping: Map, offset: int, cycle: list[tuple[float, str]]) -> LitNode:
+    """A node as the import had it; cycle: seconds and states of the light's phases."""
     turns = [
         (turn.link, turn.lane, turn.next, turn) for turn in mapping.turns if mapping.links[turn.link].end == kept.node
     ]
     edges = {link: mapping.links[link].edge for link, *_ in turns}
-    program = Program(light.offset, [(float(one.seconds), one.state) for one in light.phases], "actuated")
-    return LitNode(kept.node, turns, edges, light.name, program, mapping.options.get("permissive"), Report())
+    program = Program(offset, cycle, "actuated")
+    return LitNode(kept.node, turns, edges, light, program, mapping.options.get("permissive"), Report())
 
 
 def plan_of(node: int, rows: Sequence[Green], now: int) -> Command:

@@ -4,7 +4,7 @@ from collections import defaultdict
 from collections.abc import Iterable, Mapping, Sequence
 from typing import Any
 
-from streetsim.actuated.driver import Driver
+from streetsim.actuated.driver import Driver, Senses
 from streetsim.base import limits
 from streetsim.base.client import Client, Lane, Row, Rows, line_of, read_reply
 from streetsim.base.files import Fault
@@ -36,6 +36,7 @@ class Desk:
         self.entered = self.sent = 0  # of the run's enters, of its timed lines
         # Those of a run that repeats another: it has the lines that this one sent.
         self.works, self.driver = Works([], mapping), Driver((), mapping)
+        self.senses = Senses(lambda meter: self.noted([meter])[0], lambda place: self.lanes([place]).get(place))
 
     def begin(self, asking: Asking) -> None:
         """Sends the load and what is due before the first step, and places the detectors."""
@@ -103,7 +104,7 @@ class Desk:
         self.records.clock = self.sim.advance(target - clock)
         self.records.calls += 1
         self.at_works(target)
-        self.send_at(target, list(map(own_line, self.driver.look(target, lambda meter: self.noted([meter])[0]))))
+        self.send_at(target, list(map(own_line, self.driver.look(target, self.senses))))
         return target
 
     def enter(self, last: int) -> None:

@@ -9,7 +9,7 @@ from streetsim.base.files import Fault, FilePath, Json, at_least_zero, attribute
 from streetsim.base.report import Report
 from streetsim.sumo.detectors import SumoDetector
 
-STATIC = "static"  # the kind of a signal program that is seconds alone
+STATIC, NEMA = "static", "NEMA"  # kinds of signal programs: seconds alone, and two rings of phases
 # What phases may have without more effect on actuated lights: type and targetLanes are of other kinds.
 PHASE = ("duration", "state", "minDur", "maxDur", "next", "name", "vehext", "yellow", "red", "type", "targetLanes")
 Point = tuple[float, float]
@@ -49,6 +49,7 @@ class Connection:
     state: str  # M: major, m: minor, ..
     request: int | None = None  # its place among the requests of its junction
     speed: float | None = None  # metres a second inside the junction
+    direction: str = ""  # s: straight on, l: to the left, ..
 
 
 @dataclass(slots=True)
@@ -63,6 +64,8 @@ class Program:
     following: list[tuple[int, ...]] = field(default_factory=list)  # the phases that each names as its next
     parameters: dict[str, str] = field(default_factory=dict)
     more: tuple[str, ...] = ()  # what else its phases and it have, by name
+    # Of the phases of a NEMA light: name, extension, yellow and red, in seconds.
+    timing: list[tuple[str, float, float, float]] = field(default_factory=list)
 
 
 @dataclass(slots=True)
@@ -233,6 +236,7 @@ def read_connection(path: FilePath, element: Element, net: SumoNet, classes: Col
                 state,
                 request_of(inner),
                 net.inner_speeds.get(inner),
+                element.get("dir", ""),
             )
         )
     else:
@@ -276,12 +280,22 @@ def read_program(path: FilePath, element: Element, net: SumoNet, _classes: Colle
             [next_of(path, phase) for phase in element.iter("phase")],
             {param.get("key", ""): param.get("value", "") for param in element.findall("param")},
             more_of(element),
+            [timing_of(path, phase) for phase in element.iter("phase")] if element.get("type") == NEMA else [],
         )
 
 
 def next_of(path: FilePath, phase: Element) -> tuple[int, ...]:
     """The phases that a phase names as its next."""
     return tuple(attribute(path, phase, "next", numbers)) if phase.get("next") else ()
+
+
+def timing_of(path: FilePath, phase: Element) -> tuple[str, float, float, float]:
+    """The name of a phase of a NEMA light, its extension, yellow and red; 0 s where SUMO has none."""
+    extension, yellow, red = (
+        attribute(path, phase, name, at_least_zero(seconds)) if phase.get(name) else 0.0
+        for name in ("vehext", "yellow", "red")
+    )
+    return phase.get("name", ""), extension, yellow, red
 
 
 def numbers(text: str) -> list[int]:

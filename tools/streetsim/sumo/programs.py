@@ -40,14 +40,15 @@ def kept_programs(
             "ways": [way_of(one, net) for one in own],
             "lanes": [lane_of(*key, net, before) for key in sorted({(one.source, one.source_lane) for one in own})],
             "nodes": [node_of(number, at_junction[name], net, flows, name) for number, name in junctions],
+            **({"timing": [list(one) for one in program.timing]} if program.timing else {}),
         })
     return found
 
 
 def way_of(one: Connection, net: SumoNet) -> list[Any]:
-    """Its place in a state, its lanes, and whether it turns back."""
+    """Its place in a state, its lanes, whether it turns back, and where it leads."""
     back = net.edges[one.source].begin == net.edges[one.target].end
-    return [one.index, f"{one.source}_{one.source_lane}", f"{one.target}_{one.target_lane}", back]
+    return [one.index, f"{one.source}_{one.source_lane}", f"{one.target}_{one.target_lane}", back, one.direction]
 
 
 def lanes_before(net: SumoNet) -> dict[tuple[str, int], list[Connection]]:

@@ -11,7 +11,7 @@ from streetsim.model.mapping import MapTurn
 from streetsim.model.runs import Command
 from streetsim.model.waiting import TurnKey
 from streetsim.sumo.losses import Flows
-from streetsim.sumo.net import Connection, Program, SumoNet, connections_of
+from streetsim.sumo.net import NEMA, Connection, Program, SumoNet, connections_of
 from streetsim.sumo.network import Network, Turn
 from streetsim.sumo.yielding import (
     GREEN, OPEN, STOPPED, TWO_PARTS, Movement, hidden_middle, hidden_start, movements_of, places,
@@ -25,6 +25,7 @@ DEFAULT_SHARE = 0.7  # of a permissive green that is shown, where nothing is kno
 LONGEST = 200_000  # seconds of a cycle that are read
 AFTER = 86_400  # seconds after the last departure for which a program is told that does not fit in one plan
 QUEUED = 90  # seconds of a green above 600 s in which a queue leaves
+DRIVEN = ("actuated", NEMA)  # the kinds of programs that streetsim-run drives
 GRAINS = (1, 2, 3, 5, 8, 12, 20)  # seconds to which greens are rounded: the first that gives few phases
 # Those to which the seconds left out in the middle of greens are rounded, as they are two at least.
 FINE = GRAINS[:2]
@@ -114,7 +115,7 @@ def signals(
             made += [(known[0], command) for command in signal_lines(own, network.options.begin, network.last + AFTER)]
     for light in sorted({light for light, _ in made}):
         if net.programs[light].kind != "static":
-            but = ", but where streetsim-run drives it by detectors" if net.programs[light].kind == "actuated" else ""
+            but = ", but where streetsim-run drives it by detectors" if net.programs[light].kind in DRIVEN else ""
             report.warn(f"light {light!r} is {net.programs[light].kind}: its listed durations are used{but}")
     return made
 

@@ -1,0 +1,368 @@
+"""A NEMA light, SUMO's dual ring without coordination: how long each of its phases lasts. It knows nothing of
+streetsim: it is told which of its areas have a vehicle on them.
+
+After SUMO 1.15's NEMAController: two rings of phases run side by side, and both cross a barrier together. A green lasts
+its least time, and longer by an extension since somebody was last on an area of its phase, up to its most. Which phase
+comes next is the nearest in its ring that is called, by a recall or by somebody on its areas. Who has to wait for the
+other ring stays green (transfer); where nobody else is called both rest in green.
+"""
+from __future__ import annotations
+
+from collections.abc import Callable, Iterable, Iterator, Sequence
+from dataclasses import dataclass, field
+from itertools import product
+from math import ceil
+from typing import NamedTuple
+
+from streetsim.actuated.logic import BY_CALL, BY_GAP, BY_MOST, BY_OTHER, GO, Ended
+
+PresentAt = Callable[[int], bool]  # whether anybody is on an area
+RED, YELLOW, GREEN, TRANSFER, REST = range(5)  # what a phase shows; from GREEN on it is green
+LETTERS = "GgyuOs"  # of two phases that show a signal that neither controls, the first of these is shown
+
+
+@dataclass(slots=True, frozen=True)
+class RingPhase:
+    """A phase of a ring, as its program has it; seconds."""
+
+    name: int
+    state: str
+    least: float
+    most: float
+    extension: float
+    yellow: float
+    red: float
+    areas: tuple[int, ...]
+    least_recall: bool = True
+    most_recall: bool = False
+    latching: bool = False  # a call stays until the phase is green
+
+    @property
+    def change(self) -> float:
+        return self.yellow + self.red
+
+    @property
+    def usual(self) -> float:
+        """The seconds that it is thought to last as long as nothing is known."""
+        return (self.least + self.most) / 2
+
+    def shown(self, stage: int) -> str:
+        """Its signals at a stage."""
+        if stage >= GREEN:
+            return self.state
+        return "".join("y" if one in GO else one for one in self.state) if stage == YELLOW else "r" * len(self.state)
+
+
+@dataclass(slots=True, frozen=True)
+class Rings:
+    """A program: the numbers of each ring's phases, 0 where it has none, two before the barrier and two behind it; and
+    those in which a ring waits for the other one on each side."""
+
+    phases: Sequence[RingPhase]
+    orders: tuple[tuple[int, ...], ...]
+    barriers: tuple[tuple[int, ...], ...]  # by side: a phase of each ring
+
+    def phase(self, name: int) -> RingPhase:
+        return next(one for one in self.phases if one.name == name)
+
+    def names(self, ring: int) -> list[int]:
+        return [name for name in self.orders[ring] if name]
+
+    def is_at_barrier(self, name: int) -> bool:
+        return any(name in side for side in self.barriers)
+
+
+def together(shown: Sequence[tuple[RingPhase, int]]) -> str:
+    """The signals of phases at stages: one that a phase has green first is that phase's, others have the first of some
+    letters."""
+    states, found = [phase.shown(stage) for phase, stage in shown], []
+    for at, letters in enumerate(zip(*states, strict=True)):
+        own = [letter for letter, (phase, _) in zip(letters, shown, strict=True) if phase.state[at] == "G"]
+        found.append(own[-1] if own else next((letter for letter in LETTERS if letter in letters), "r"))
+    return "".join(found)
+
+
+class Way(NamedTuple):
+    """A change from a phase of a ring to one of it, or to itself."""
+
+    target: Running
+    steps: int  # in the ring's order
+
+
+@dataclass(slots=True, eq=False)
+class Running:
+    """A phase of a ring while a run goes."""
+
+    phase: RingPhase
+    ring: int
+    side: int
+    at_barrier: bool
+    rests: bool  # it alone of its ring has a recall, or none of any ring has
+    stage: int = RED
+    since: float = 0.0  # its begin
+    end: float = 0.0  # of its green
+    lasts: float = 0.0  # seconds as far as is known
+    most: float = 0.0
+    resting: float = 0.0  # seconds that it may rest from when another one is called
+    ready: bool = False
+    called: bool = False  # somebody is on its areas
+    changing: bool = False
+    chosen: Running | None = None  # the next one, as it was decided
+    began: int = 0  # as it is told
+    ways: list[Way] = field(default_factory=list)  # the nearest first, to itself last
+
+    @property
+    def is_green(self) -> bool:
+        return self.stage >= GREEN
+
+    @property
+    def recalled(self) -> bool:
+        return self.phase.least_recall or self.phase.most_recall
+
+    def way(self, target: Running) -> Way:
+        return next(one for one in self.ways if one.target is target)
+
+
+class Nema:
+    """One light. `due` is the next second at which `look` must be called; nothing need be asked before."""
+
+    def __init__(self, rings: Rings) -> None:
+        self.rings, self.now, self.due = rings, 0, 0
+        self.ended: list[Ended] = []
+        known = [one.least_recall or one.most_recall for one in rings.phases]
+        self.all = [self.running(name, ring, any(known)) for ring in range(2) for name in rings.names(ring)]
+        self.by_ring = [[one for one in self.all if one.ring == ring] for ring in range(2)]
+        for one in self.all:
+            one.ways = self.ways(one)
+        self.active = [own[0] for own in self.by_ring]
+        self.present: PresentAt = lambda area: False
+
+    def running(self, name: int, ring: int, recalls: bool) -> Running:
+        """A phase at rest; recalls: whether any has one."""
+        phase, others = self.rings.phase(name), [self.rings.phase(one) for one in self.rings.names(ring) if one != name]
+        alone = phase.least_recall or phase.most_recall
+        alone = alone and not any(one.least_recall or one.most_recall for one in others)
+        side = self.rings.orders[ring].index(name) // 2
+        made = Running(phase, ring, side, self.rings.is_at_barrier(name), alone or not recalls)
+        made.most, made.lasts = phase.most, phase.least
+        return made
+
+    def ways(self, one: Running) -> list[Way]:
+        own = self.by_ring[one.ring]
+        place = own.index(one)
+        return [Way(own[(place + steps) % len(own)], steps) for steps in range(1, len(own) + 1)]
+
+    # What is told
+
+    def state(self) -> str:
+        """What both rings show together."""
+        return together([(one.phase, one.stage) for one in self.active])
+
+    def greens(self) -> tuple[tuple[int, bool], ...]:
+        """The phase and whether it is green, of both rings."""
+        return tuple((one.phase.name, one.is_green) for one in self.active)
+
+    def told(self, until: int) -> Iterator[tuple[Ended, str]]:
+        """The greens so far, with their signals; those under way without a reason for their end."""
+        under_way = [
+            Ended(one.phase.name, one.began, until - one.began, "")
+            for one in self.active
+            if one.is_green and one.began < until
+        ]
+        for row in (*self.ended, *under_way):
+            yield row, self.rings.phase(row.phase).state
+
+    # The clock
+
+    def start(self, now: int, _offset: int = 0) -> None:
+        """Begins with the first phase of each ring, as SUMO's does without coordination."""
+        self.now, self.due = now, now + 1
+        for own in self.by_ring:
+            self.enter(own[0])
+
+    def look(self, now: int, present: PresentAt) -> bool:
+        """A second of both rings; says whether what is green changed. Sets when to look again."""
+        self.now, self.present, before = now, present, self.greens()
+        for one in self.all:
+            if one.phase.latching and not one.called:
+                one.called = self.is_on(one)
+        for one in self.active:
+            self.update(one)
+        if any(one.ready for one in self.active):
+            self.go_on()
+        for one in self.all:
+            one.called = one.called and one.phase.latching and not one.is_green
+        self.due = now + max(1, min(map(self.wait, self.active)))
+        return self.greens() != before
+
+    def wait(self, one: Running) -> int:
+        """The seconds in which nothing can happen in a ring, whatever the other one does meanwhile."""
+        phase, left = one.phase, one.lasts - (self.now - one.since)
+        if any(other.phase.latching for other in self.all) or one.stage > GREEN:
+            return 1
+        if one.stage < GREEN:
+            changed = self.now - one.end
+            return ceil((phase.yellow if changed < phase.yellow else phase.change) - changed)
+        # Who is on an area before that does not make the green longer.
+        return ceil(left) if one.lasts >= one.most else min(ceil(left), int(left - phase.extension) + 1)
+
+    def is_on(self, one: Running) -> bool:
+        """Whether anybody is on the areas of a phase, or was where it keeps that."""
+        return one.called or any(map(self.present, one.phase.areas))
+
+    def is_called(self, one: Running) -> bool:
+        return one.recalled or self.is_on(one)
+
+    def other(self, one: Running) -> Running:
+        return self.active[not one.ring]
+
+    def update(self, one: Running) -> None:
+        """How long a phase that is shown lasts, by who is on its areas, and whether it may end."""
+        if not one.is_green:
+            one.ready = True
+            return
+        since, phase = self.now - one.since, one.phase
+        if one.stage != TRANSFER and one.lasts < one.most and self.extends(one, since):
+            one.lasts = min(max(since + phase.extension, phase.least), one.most)
+        if one.stage == REST:
+            self.rest(one, since)
+        if since >= one.lasts:
+            one.ready = True
+
+    def extends(self, one: Running, since: float) -> bool:
+        """Whether somebody is on an area who makes a green longer: not asked where nobody would."""
+        longer = max(since + one.phase.extension, one.phase.least) > one.lasts
+        return (longer or one.stage == REST) and self.is_on(one)
+
+    def rest(self, one: Running, since: float) -> None:
+        """A second of resting: it ends so long after another phase is called as its most is."""
+        most, least = one.phase.most, one.phase.least
+        others = (each for each in self.all if each.phase.name not in (one.phase.name, self.other(one).phase.name))
+        if any(map(self.is_called, others)):
+            one.resting -= 1
+            if one.resting + 1 >= most:
+                one.most = least + most
+        else:
+            one.resting = most
+            if since >= least:
+                one.since, one.most = self.now - least, least + most
+                one.lasts = least + max(0.0, one.lasts - since)
+        if one.resting < 1:
+            one.ready = True
+            if (other := self.other(one)).stage > GREEN:
+                other.ready = True
+
+    # Changes
+
+    def enter(self, one: Running) -> None:
+        """A phase becomes green."""
+        one.since, one.began, one.ready, one.chosen, one.stage = self.now, self.now, False, None, GREEN
+        if one.rests:
+            one.stage, one.resting = REST, one.phase.most
+        one.lasts = one.most if one.phase.most_recall else one.phase.least
+        self.active[one.ring] = one
+
+    def go_on(self) -> None:
+        """Goes on with the nearest pair of phases that may follow."""
+        pairs = sorted(self.pairs(), key=lambda pair: pair[0])
+        if pairs:
+            _, *following = pairs[0]
+            for one in list(self.active):
+                if one.ready:
+                    self.leave(one, following)
+
+    def leave(self, one: Running, following: Sequence[Running]) -> None:
+        """A phase that may end: yellow, red and the next one by turns, or green for longer."""
+        if (target := following[one.ring]) is one:
+            self.stay(one, following)
+            return
+        one.chosen = target
+        changed = self.now - one.end
+        if one.is_green:
+            self.ended.append(Ended(one.phase.name, one.began, self.now - one.began, self.why(one)))
+            one.end, one.stage, one.changing = self.now, YELLOW, True
+        elif changed >= one.phase.change:
+            one.ready, one.changing, one.stage = False, False, RED
+            self.enter(target)
+        elif changed >= one.phase.yellow:
+            one.stage = RED
+
+    def why(self, one: Running) -> str:
+        """Why a green ends now."""
+        if one.stage != GREEN:
+            return BY_OTHER if one.stage == TRANSFER else BY_CALL
+        return BY_MOST if one.lasts >= one.most else BY_GAP
+
+    def stay(self, one: Running, following: Sequence[Running]) -> None:
+        """It rests, or waits for the other ring at a barrier."""
+        other, phase = self.other(one), one.phase
+        one.ready = False
+        both = following[other.ring] is other and other.ready
+        if both or (other.stage == REST and other.resting >= other.phase.most):
+            one.stage, one.since, one.lasts = REST, self.now - phase.least, phase.least
+            one.resting = phase.most * one.rests
+        else:
+            one.stage = TRANSFER
+            if one.at_barrier:
+                one.lasts = other.lasts + other.since - one.since
+
+    def pairs(self) -> Iterator[tuple[float, Running, Running]]:
+        """The phases of both rings that may follow, on one side of the barrier, and how far they are."""
+        first, second = self.active
+        for one, other in product(*(self.following(active) for active in self.active)):
+            if one.target.side == other.target.side:
+                yield self.pair(one, other)
+                continue
+            found = []
+            if first.ready and (usual := self.usual_way(second, other, one)).target.side == one.target.side:
+                found.append(self.pair(one, usual))
+            if second.ready and (usual := self.usual_way(first, one, other)).target.side == other.target.side:
+                found.append(self.pair(usual, other))
+            yield from found
+
+    def pair(self, one: Way, other: Way) -> tuple[float, Running, Running]:
+        distance = (self.distance(one, other, 0) + self.distance(other, one, 1)) / 2
+        return distance, one.target, other.target
+
+    def distance(self, way: Way, beside: Way, ring: int) -> int:
+        """How far a change is; one that waits in green is as far as the other ring's."""
+        own = self.active[ring]
+        waits = way.target is own and own.side == beside.target.side and own.stage in (GREEN, TRANSFER)
+        return beside.steps if waits else way.steps
+
+    def usual_way(self, one: Running, way: Way, beside: Way) -> Way:
+        """Where a ring goes that wished for another side than the other one does: nowhere, if it may not, else to that
+        side's last phase."""
+        if not one.ready or (one.side == beside.target.side and one.is_green):
+            return one.way(one)
+        name = self.rings.barriers[beside.target.side][one.ring]
+        return one.way(next(each for each in self.by_ring[one.ring] if each.phase.name == name))
+
+    def following(self, one: Running) -> list[Way]:
+        """The changes that a ring wishes for."""
+        found: list[Way] = []
+        decided = one.chosen
+        if one.ready:
+            fitting = (way for way in one.ways if decided is None or way.target.side == decided.side)
+            found += [way for way in [next((way for way in fitting if self.may(one, way.target)), None)] if way]
+        if decided is not None and not found:
+            found.append(one.way(decided))
+        return found or [one.ways[-1]]
+
+    def may(self, one: Running, target: Running) -> bool:
+        """Whether a phase may be followed by another one, or by itself."""
+        if target is one:
+            return one.is_green
+        if not self.is_called(target):
+            return False
+        other = self.other(one)
+        if one.side != target.side:
+            return other.ready and self.left(other) == self.left(one)
+        if one.at_barrier and one.is_green:
+            beyond: Iterable[Running] = (each for each in self.by_ring[one.ring] if each.side != one.side)
+            return not any(map(self.is_called, beyond))
+        return True
+
+    def left(self, one: Running) -> float:
+        """The seconds of a change that are to come, as SUMO has them: none of one that is under way."""
+        return max(0.0, self.now - one.end - one.phase.change) if one.changing else one.phase.change

@@ -1,0 +1,145 @@
+"""The NEMA lights of a run, of what its map keeps of their programs; after the init of SUMO 1.15's NEMAController."""
+from __future__ import annotations
+
+from collections.abc import Iterable, Mapping
+from dataclasses import dataclass
+from math import ceil
+from typing import Any
+
+from streetsim.actuated.kept import OFF, Area, Cell, Listed, NodeOf, bounds_of, node_of, number_of
+from streetsim.actuated.nema import Nema, RingPhase, Rings
+from streetsim.model.detectors import E2
+from streetsim.model.mapping import Map
+
+LENGTH = 20.0  # metres of an area before the stop line
+STANDING = 1.0  # metres from the stop line to who waits first
+ALL = "1,2,3,4,5,6,7,8"  # the phases with a least recall, where none are named
+LEFT = "l"  # where a connection leads
+NEEDED = ("ring1", "ring2", "barrierPhases")
+UNLIKE = ("coordinate-mode", "vTypes")  # parameters that change when SUMO's phases end, and are not driven
+CROSSING = "crossPhaseSwitching"
+
+
+@dataclass(frozen=True, slots=True)
+class DrivenRings:
+    """A NEMA light that detectors drive."""
+
+    name: str
+    rings: Rings
+    areas: tuple[Area, ...]
+    nodes: tuple[NodeOf, ...]
+    cells: tuple[Cell, ...] = ()  # of detectors: it has areas, which are looked at
+    offset: int = 0
+
+    calls = 2.0  # of the program, a second: looks at lanes and signals
+
+    @property
+    def longest(self) -> float:
+        """The seconds in which it has shown all that it shows."""
+        return sum(one.most + one.change for one in self.rings.phases)
+
+    def logic(self) -> Nema:
+        return Nema(self.rings)
+
+
+def driven_rings(kept: Mapping[str, Any], mapping: Map) -> DrivenRings:
+    """A light of what a map keeps of its program."""
+    parameters = kept["parameters"]
+    refuse_unlike(kept)
+    orders = tuple(digits(parameters[f"ring{ring}"]) for ring in (1, 2))
+    areas = areas_of(kept, mapping)
+    number = {lane: at for at, lane in enumerate(areas)}
+    phases = phases_of(kept, number)
+    check_orders(orders, phases)
+    return DrivenRings(
+        name=kept["light"],
+        rings=Rings(phases, orders, barriers_of(parameters, orders)),
+        areas=tuple(areas.values()),
+        nodes=tuple(node_of(one) for one in kept["nodes"]),
+    )
+
+
+def refuse_unlike(kept: Mapping[str, Any]) -> None:
+    """Refuses a program of which something is not driven as in SUMO, or that SUMO does not take."""
+    parameters = kept["parameters"]
+    if "timing" not in kept:
+        raise Listed("as their map was written by an older streetsim-import")
+    if kept["more"]:
+        raise Listed(f"as {', '.join(kept['more'])} of their programs is not driven here")
+    for name, value in parameters.items():
+        if (name in UNLIKE or name.startswith(CROSSING)) and value not in OFF:
+            raise Listed(f"as {name}={value} is not driven here")
+    if missing := [name for name in NEEDED if not parameters.get(name)]:
+        raise Listed(f"as they have no {missing[0]}, which SUMO asks for")
+    if not second_barrier(parameters):
+        raise Listed("as they have no barrier2Phases, which SUMO asks for")
+
+
+def digits(text: str) -> tuple[int, ...]:
+    """The numbers of phases in a text, of one digit each, as SUMO reads them."""
+    return tuple(int(one) for one in text if one in "0123456789")
+
+
+def second_barrier(parameters: Mapping[str, str]) -> tuple[int, ...]:
+    return digits(parameters.get("coordinatePhases", parameters.get("barrier2Phases", "")))
+
+
+def check_orders(orders: Iterable[tuple[int, ...]], phases: Iterable[RingPhase]) -> None:
+    names = {one.name for one in phases}
+    for order in orders:
+        if len(order) > 4 or not any(order):
+            raise Listed("as their rings have not one to four phases")
+        if missing := [name for name in order if name and name not in names]:
+            raise Listed(f"as they have no phase {missing[0]}, which SUMO asks for")
+
+
+def barriers_of(parameters: Mapping[str, str], orders: tuple[tuple[int, ...], ...]) -> tuple[tuple[int, ...], ...]:
+    """By side of the barrier the phase of each ring in which it waits for the other one."""
+    found: list[dict[int, int]] = [{}, {}]
+    for pair in (digits(parameters["barrierPhases"]), second_barrier(parameters)):
+        if len(pair) != 2 or any(name not in order for name, order in zip(pair, orders, strict=True)):
+            raise Listed("as their barriers do not have a phase of each ring")
+        for ring, (name, order) in enumerate(zip(pair, orders, strict=True)):
+            found[ring][order.index(name) // 2] = name
+    if any(len(own) != 2 for own in found):
+        raise Listed("as both their barriers are on one side, which SUMO refuses")
+    return tuple((found[0][side], found[1][side]) for side in (0, 1))
+
+
+def phases_of(kept: Mapping[str, Any], number: Mapping[str, int]) -> list[RingPhase]:
+    """The phases, with the areas of the lanes that each has green first; number: of the area of a lane."""
+    parameters, found = kept["parameters"], []
+    recalls = {name: digits(parameters.get(name, usual)) for name, usual in (("minRecall", ALL), ("maxRecall", ""))}
+    latching = digits(parameters.get("latchingDetectors", ""))
+    for phase, (text, extension, yellow, red) in zip(kept["phases"], kept["timing"], strict=True):
+        name, state, (least, most) = digits(text), phase[1], bounds_of(phase)
+        if len(name) != 1:
+            raise Listed(f"as {text!r} is no name of a phase")
+        lanes = dict.fromkeys(lane for index, lane, *_ in kept["ways"] if state[index] == "G" and lane in number)
+        areas = tuple(number[lane] for lane in lanes)
+        own = name[0] in recalls["minRecall"], name[0] in recalls["maxRecall"], name[0] in latching
+        found.append(RingPhase(name[0], state, least, most, extension, yellow, red, areas, *own))
+    return found
+
+
+def areas_of(kept: Mapping[str, Any], mapping: Map) -> dict[str, Area]:
+    """The area of each lane: so many metres before its stop line, or a laneAreaDetector of the user's own by a
+    parameter of its name. Lanes that the map does not have have none."""
+    parameters, own = kept["parameters"], {one.name: one for one in mapping.detectors if one.kind == E2}
+    ways: dict[str, list[str]] = {}
+    for _, lane, _, _, direction in kept["ways"]:
+        ways.setdefault(lane, []).append(direction)
+    found = {}
+    for lane, directions in ways.items():
+        if name := parameters.get(lane):
+            if name not in own:
+                raise Listed(f"as the map has no laneAreaDetector {name}")
+            at = own[name]
+            ends = at.last == mapping.links[at.link].cells - 1
+            found[lane] = Area(at.link, at.lane, at.first, at.last, ends)
+        elif place := mapping.place_of(lane):
+            left = "detector-length-leftTurnLane" if directions == [LEFT] else "detector-length"
+            link = mapping.links[place[0]]
+            reach = (number_of(parameters.get(left, str(LENGTH))) - STANDING) / link.metres * link.cells
+            found[lane] = Area(*place, max(0, link.cells - max(1, ceil(reach))), link.cells - 1)
+    return found

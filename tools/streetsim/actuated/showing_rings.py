@@ -1,0 +1,106 @@
+"""What the nodes of a NEMA light show: of each signal's green, second by second from its own begin, what the import's
+rules show of a cycle in which each phase has the mean length that it had so far. Where one lasts longer its last second
+goes on."""
+from __future__ import annotations
+
+from collections.abc import Iterator, Sequence
+
+from streetsim.actuated.kept import NodeOf
+from streetsim.actuated.nema import GREEN, RED, YELLOW, Nema, RingPhase, Rings, together
+from streetsim.actuated.rings import DrivenRings
+from streetsim.actuated.showing import WEIGHT, Lengths, lit_node, plan_of, settled
+from streetsim.base import limits
+from streetsim.model.mapping import Map
+from streetsim.model.runs import Command
+from streetsim.sumo.signals import Green, LitNode, green_seconds
+from streetsim.sumo.yielding import GREEN as FIRST, OPEN, STOPPED, runs_of
+
+LIT = FIRST + OPEN + STOPPED  # letters of a signal that some pass
+Times = list[tuple[RingPhase, int]]  # by second: a phase, and what it shows
+
+
+class ShownRings:
+    """What the nodes of one light show."""
+
+    def __init__(self, light: DrivenRings, mapping: Map) -> None:
+        self.light, self.limits = light, {link.edge: link.limit for link in mapping.links}
+        phases = light.rings.phases
+        cycle = [(one.usual, one.state) for one in phases]
+        self.nodes = [(one, lit_node(light.name, one, mapping, 0, cycle)) for one in light.nodes]
+        self.means = {one.name: min(one.usual, float(limits.PHASE_STEPS)) for one in phases}
+        self.known = 0  # ended phases that are in the means
+        self.cycles: dict[Lengths, list[str]] = {}
+        self.greens: dict[tuple[int, Lengths], list[Green]] = {}
+        self.letters: list[tuple[str, int]] = []  # of each signal what it shows, and since when
+
+    def learn(self, logic: Nema) -> Lengths:
+        """Takes what ended since into the means."""
+        for row in logic.ended[self.known :]:
+            self.means[row.phase] += WEIGHT * (row.seconds - self.means[row.phase])
+        self.known = len(logic.ended)
+        return tuple(max(1, round(min(mean, limits.PHASE_STEPS))) for mean in self.means.values())
+
+    def plans(self, logic: Nema, now: int) -> Iterator[Command]:
+        """The signal commands of what is shown from now on."""
+        lengths, state = self.learn(logic), logic.state()
+        before = self.letters or [("", now)] * len(state)
+        pairs = zip(state, before, strict=True)
+        self.letters = [(letter, since if letter == old else now) for letter, (old, since) in pairs]
+        if lengths not in self.cycles:
+            self.cycles[lengths] = cycle_of(self.light.rings, dict(zip(self.means, lengths, strict=True)))
+        for at, (kept, node) in enumerate(self.nodes):
+            if (at, lengths) not in self.greens:
+                own = settled(node, kept, self.cycles[lengths], self.limits)
+                told = own.told(self.cycles[lengths])
+                self.greens[at, lengths] = green_seconds(own, self.cycles[lengths], told, 1, True)
+            yield plan_of(node.node, self.rows(node, self.cycles[lengths], self.greens[at, lengths], now), now)
+
+    def rows(self, node: LitNode, cycle: Sequence[str], greens: Sequence[Green], now: int) -> list[Green]:
+        """The green turns of each second from now on, the last of which goes on."""
+        shown = {}
+        for link, lane, following, turn in node.turns:
+            letter, since = self.letters[turn.index] if turn.light == node.light else ("", now)
+            key = link, lane, following
+            if turn.light != node.light:
+                shown[key] = [True]
+            elif letter in LIT and letter:
+                own = "".join(state[turn.index] for state in cycle)
+                shown[key] = of_green(own, [key in green for green in greens], letter, now - since)
+        count = max(map(len, shown.values()), default=1)
+        return [
+            frozenset(key for key, own in shown.items() if own[min(second, len(own) - 1)]) for second in range(count)
+        ]
+
+
+def of_green(letters: str, shown: Sequence[bool], letter: str, gone: int) -> list[bool]:
+    """Whether a signal is shown in each second of its longest green of a letter, of which some are gone; letters,
+    shown: of each second of a cycle."""
+    runs = runs_of(letters, letter)
+    if not runs:
+        return [True]
+    start = max(runs, key=lambda one: runs[one])
+    own = [shown[(start + second) % len(shown)] for second in range(runs[start])]
+    return own[min(gone, len(own) - 1) :]
+
+
+def cycle_of(rings: Rings, seconds: dict[int, int]) -> list[str]:
+    """The signals of each second of a cycle in which each phase is green for so many seconds, or for longer where it
+    waits at a barrier for the other ring."""
+    states = []
+    for side in (0, 1):
+        both = []
+        for order in rings.orders:
+            names = [name for name in order[2 * side : 2 * side + 2] if name]
+            both.append([second for name in names for second in times_of(rings.phase(name), seconds[name])])
+        most = max(map(len, both))
+        for own in both:
+            if own:
+                waiting = next((at for at in reversed(range(len(own))) if own[at][1] == GREEN), 0)
+                own[waiting:waiting] = [own[waiting]] * (most - len(own))
+        states += [together(pair) for pair in zip(*(own for own in both if own), strict=True)]
+    return states
+
+
+def times_of(phase: RingPhase, green: int) -> Times:
+    stages = [(GREEN, green), (YELLOW, round(phase.yellow)), (RED, round(phase.red))]
+    return [(phase, stage) for stage, seconds in stages for _ in range(seconds)]
