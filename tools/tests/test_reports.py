@@ -120,16 +120,23 @@ class Pages(Given):
         self.assertEqual((runs.busiest(), runs.mean_trips()), ((0, 900), {1: 101.0, 2: 102.0}))
 
     def test_what_the_page_says(self):
-        text = re.sub("<[^>]*>", " ", self.page(*self.plans()).read_text().partition("<main")[2])
+        text = re.sub("<[^>]*>", " ", self.page(*self.plans()).read_text().partition("<header")[2])
         text = html.unescape(re.sub(r"\s+", " ", text))
         for told in (
-            "nothing speaks against this run",
-            "mean control delay of a junction, s 92.0 31.0 -61.0 ± 12.7",  # changes of -60 and -62, quantile 12.706
-            "B 92.0 31.0 -61.0 ± 12.7 F to C",
+            "What was asked: What changes if 'after' takes the place of 'before'?",
+            "2 vehicles from 0:00 to 0:30; one junction, shown from 0:00 to 0:15; two runs of each plan",
+            "before: nothing that a run checks of itself speaks against it.",
+            "With 'after' a trip takes 101.5 s on average, and 101.5 s with 'before': not shown to differ",
+            # Changes of -60 and -62, quantile 12.706.
+            "A vehicle's mean delay at a junction is 31.0 s, and 92.0 s before: 61.0 s less "
+            "(95 % interval: 48.3 to 73.7 s less); at one of one junction it is less for sure, at no more.",
+            "Longest delay: from the west to the east (a to b) at Junction B, 31 s, level of service C",
+            "No movement loses for sure.",
+            "Junction B 40 92.0 31.0 -61.0 ± 12.7 F to C",
             "from the west to the east B: a to b 92.0 31.0",
             "Junction B: 31.0 s C , 40 vehicles an hour, signals",
             "program SHA-256 abc",
-            "0:00:00 to 0:30:00, seeds 1, 2, dawdle 170",
+            "0:00 to 0:30, seeds 1, 2, dawdle 170",
             "2 <turns> & more",
             "8, 15, 22 of 75 m",
             "L, T, R, U: left, straight on, right, back. Bars: the length of an edge",
@@ -159,8 +166,9 @@ class Pages(Given):
     def test_doubts(self):
         self.write_folder("bad", 1, 20.0, ["nobody <arrived>"])
         text = self.page(self.folder / "bad").read_text()
-        self.assertIn("bad: not to be trusted<ul><li>seed 1: nobody &lt;arrived&gt;</li>", text)
-        self.assertNotIn("Before and after", text)
+        self.assertIn("Not to be trusted: bad (why: below).", text)
+        self.assertIn("<li>bad is not to be trusted: seed 1: nobody &lt;arrived&gt;</li>", text)
+        self.assertNotIn("change, s", text)
 
     def test_a_corridor_of_one_way_streets(self):
         """The street of two links has no edge back."""
@@ -229,7 +237,7 @@ class InABrowser(Given):
         words = ["/usr/bin/python3", "-c", COUNT, self.folder / "shot.png"]
         counts = json.loads(subprocess.run(words, capture_output=True, check=True).stdout)
         seen = {letter: counts.get(colour, 0) for letter, colour in COLOURS.items()}
-        # Each letter stands in the legend once; F also on the junction, on its approach in the map, and in the tables.
+        # Each letter stands in the legend; F also on the junction, on its approach in the map, and in the tables.
         self.assertTrue(all(count > 50 for count in seen.values()), seen)
         self.assertGreater(seen["F"], 4 * max(count for letter, count in seen.items() if letter != "F"))
 

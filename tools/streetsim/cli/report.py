@@ -1,15 +1,20 @@
-"""streetsim-report: one page of a run's junctions, and of what another plan changes."""
+"""streetsim-report: a page for a council of a run's junctions, or of what another plan changes, with its appendix."""
 import argparse
+import os
 import tempfile
 from collections.abc import Sequence
 from html import escape
 
 from streetsim.base import limits
 from streetsim.base.files import Fault, place_of, whole_file
-from streetsim.base.words import Parser, add_names, listed, time_within
+from streetsim.base.words import Parser, add_names, listed, time_within, within
 from streetsim.model.folder import Folder
 from streetsim.model.names import read_own
-from streetsim.reports import writing
+from streetsim.model.tables import write_table
+from streetsim.reports.council import junctions_of
+from streetsim.reports.making import Wishes, report_of
+from streetsim.reports.markup import Section, image
+from streetsim.reports.tables import CHANGES, change_rows
 from streetsim.results.reading import Runs, read_runs
 from streetsim.results.series import way_back
 
@@ -20,14 +25,27 @@ def parser() -> Parser:
     made = Parser(
         prog="streetsim-report",
         description="Makes one HTML page, without anything from outside, of folders that streetsim-run wrote with "
-        "--junctions: what was run, junctions by level of service, queues, before and after, "
-        "whether it is to be trusted.",
+        "--junctions: first a page for a council with what was asked, a map, the verdict, what it costs whom and what "
+        "is doubted; behind it junctions by level of service, queues, before and after, what was run.",
     )
     made.add_argument(
         "runs", nargs="+", metavar="RUN", help="a folder, or one with seeds; a second one is the plan after it"
     )
     made.add_argument("-o", "--output", required=True, help="the page (.html)")
     made.add_argument("--title", default="Junction report", help="(default: %(default)s)")
+    made.add_argument("--question", default="", metavar="TEXT", help="what was asked, at the head of the page")
+    made.add_argument(
+        "--plans", nargs="+", default=[], metavar="NAME", help="what each RUN is called (default: its folder)"
+    )
+    made.add_argument("--short", action="store_true", help="the first page alone, without the appendix")
+    made.add_argument(
+        "--detail",
+        type=within(0, 10_000),
+        default=10,
+        metavar="N",
+        help="junctions told with all movements, first those that change or are worse than D (default %(default)s)",
+    )
+    made.add_argument("--csv", metavar="FILE", help="also write all junctions and movements, before and after (.csv)")
     made.add_argument(
         "--begin", type=time_within(0, limits.CLOCK), metavar="S", help="the interval shown (default: the busiest)"
     )
@@ -45,29 +63,54 @@ def parser() -> Parser:
 
 def main(arguments: list[str]) -> int:
     words = parser().parse_args(arguments)
+    refuse(words)
+    place_of(words.output)
+    plans = read_plans(words)
+    shown = interval_of(plans, words)
+    text = report_of(plans, shown, wishes_of(plans, words))
+    with whole_file(words.output) as file:
+        file.write(text)
+    if words.csv:
+        write_table(words.csv, CHANGES, change_rows(plans, shown))
+    count = len(junctions_of(plans, shown))
+    print(f"{words.output}: {count} junctions, {len(text.encode()):,} bytes")
+    return 0
+
+
+def refuse(words: argparse.Namespace) -> None:
+    """Refuses words that do not fit to each other; sets what is usual for those that were not given."""
     if len(words.runs) > 2:
         raise Fault("a report is of one run, or of two: before and after")
+    if words.plans and len(words.plans) != len(words.runs):
+        raise Fault(f"--plans: {len(words.plans)} names for {len(words.runs)} runs")
+    if words.short and words.corridor:
+        raise Fault("--corridor is of the appendix, which --short leaves out")
     for name, default in PICTURE.items():
         if getattr(words, name) is None:
             setattr(words, name, default)
         elif not words.corridor:
             raise Fault(f"--{name} is of the corridor's picture: give --corridor too")
-    place_of(words.output)
-    all_runs = [read_runs(path) for path in words.runs]
-    if words.names:
-        for runs in all_runs:
+
+
+def read_plans(words: argparse.Namespace) -> list[Runs]:
+    """The runs of each plan, by the names that the words give them."""
+    plans = [read_runs(path) for path in words.runs]
+    for runs, path in zip(plans, words.runs, strict=True):
+        if words.names:
             read_own(words.names, runs.first.mapping)
-    if len(all_runs) == 2 and all_runs[0].name == all_runs[1].name:
-        for runs, path in zip(all_runs, words.runs, strict=True):
-            runs.name = path
-    text = writing.page(words.title, lead(all_runs), sections(all_runs, interval_of(all_runs, words), words))
-    with whole_file(words.output) as file:
-        file.write(text)
-    print(
-        f"{words.output}: {len(all_runs[0].rows['junctions', *interval_of(all_runs, words)])} junctions, "
-        f"{len(text.encode()):,} bytes"
-    )
-    return 0
+        if len(plans) == 2 and plans[0].name == plans[1].name:
+            runs.name = os.path.normpath(path)
+    for runs, name in zip(plans, words.plans):
+        runs.name = name
+    return plans
+
+
+def wishes_of(plans: Sequence[Runs], words: argparse.Namespace) -> Wishes:
+    """What the words ask of a page."""
+    pictures = []
+    if words.corridor:
+        pictures.append(Section("corridor", "Corridor", "".join(corridor(runs, words) for runs in plans)))
+    return Wishes(words.title, words.question, words.detail, words.short, pictures=pictures)
 
 
 def interval_of(all_runs: Sequence[Runs], words: argparse.Namespace) -> tuple[int, int]:
@@ -87,41 +130,6 @@ def interval_of(all_runs: Sequence[Runs], words: argparse.Namespace) -> tuple[in
     return found[0]
 
 
-def lead(all_runs: Sequence[Runs]) -> str:
-    """What the page says first, as HTML."""
-    names = " and ".join(escape(runs.name) for runs in all_runs)
-    return f"{names}: control delay, level of service, queues and v/c, simulated by streetsim."
-
-
-def sections(all_runs: Sequence[Runs], shown: tuple[int, int], words: argparse.Namespace) -> list[tuple[str, str, str]]:
-    """The sections of a report on an interval, (name, title, HTML) each."""
-    last = all_runs[-1]
-    told = f"{writing.clock(shown[0])} to {writing.clock(shown[1])}"
-    found = [
-        ("trust", "Verdict", writing.verdict(all_runs)),
-        ("figures", f"In short, {told}", writing.figures(all_runs, shown)),
-    ]
-    if len(all_runs) == 2:
-        found.append(("change", f"Before and after, {told}", writing.before_and_after(all_runs[0], all_runs[1], shown)))
-    for runs in all_runs:
-        name = f"map-{all_runs.index(runs)}"
-        found.append((name, f"Map by delay: {runs.name}", writing.map_section(runs, shown)))
-    if words.corridor:
-        pictures = "".join(corridor(runs, words) for runs in all_runs)
-        found.append(("corridor", "Corridor", pictures))
-    if len(last.intervals()) > 1:
-        found.append(("times", f"Junctions by time: {last.name}", writing.junction_letters(last)))
-    names = sorted(key[0] for key in last.rows["junctions", *shown])
-    tables = f'<p class="small">{escape(writing.KEY)}</p>'
-    tables += "".join(writing.junction_section(last, name, shown) for name in names)
-    found.append(("junctions", f"Junctions: {last.name}, {told}", tables))
-    found.append(("run", "What was run", writing.what_was_run(all_runs)))
-    found.append(("warnings", "What the import said", writing.warnings(all_runs)))
-    listed = "".join(f"<li>{escape(one)}</li>" for one in writing.ASSUMPTIONS)
-    found.append(("assumptions", "Assumptions", f"<ul>{listed}</ul>"))
-    return found
-
-
 def corridor(runs: Runs, words: argparse.Namespace) -> str:
     """The corridor's picture of the first seed, in both directions where edges lead back."""
     from streetsim.cli.plot import main as plot
@@ -137,7 +145,7 @@ def corridor(runs: Runs, words: argparse.Namespace) -> str:
         with open(place, "rb") as file:
             content = file.read()
     text = f"Ways of the vehicles along {words.corridor}{', and back' if back else ''}: {runs.name}"
-    return f"<figure>{writing.image(content, text)}<figcaption>{escape(text)}</figcaption></figure>"
+    return f"<figure>{image(content, text)}<figcaption>{escape(text)}</figcaption></figure>"
 
 
 def leads_back(folder: Folder, edges: str) -> bool:

@@ -15,10 +15,15 @@ def letter_mark(letter: str) -> str:
 
 
 def map_picture(
-    mapping: Map, approaches: Mapping[str, tuple[str, str]], junctions: Mapping[str, tuple[str, str]]
+    mapping: Map,
+    approaches: Mapping[str, tuple[str, str]],
+    junctions: Mapping[str, tuple[str, str, bool]],
+    signs: Mapping[str, float] | None = None,
 ) -> str:
-    """The streets; approaches by the colour of their letter, junctions as marks with theirs.
-    approaches: {edge: (letter, text)}, junctions: {name: (letter, text)}."""
+    """The streets; approaches by the colour of their level of service, junctions as marks with theirs.
+    approaches: {edge: (letter, text)}, junctions: {name: (letter, text, whether the page tells
+    it in detail)}; signs: by junction the change of its delay,
+    of those that change."""
     points = [point for link in mapping.links for point in link.shape]
     (left, right), (low, high) = ((min(values), max(values)) for values in zip(*points, strict=True))
     scale = min((WIDE - 60) / max(1.0, right - left), (MOST_HIGH - 60) / max(1.0, high - low))
@@ -38,9 +43,12 @@ def map_picture(
         parts.append(f"{line}<title>{escape(text)}</title></polyline>")
     for name, x, y, _ in mapping.nodes:
         if name in junctions:
-            letter, text = junctions[name]
+            letter, text, linked = junctions[name]
             across, down = at((x, y)).split(",")
-            parts.append(junction_mark(name, letter, text, across, down))
+            mark = junction_mark(letter, text, across, down)
+            parts.append(f'<a href="#{anchor(name)}">{mark}</a>' if linked else mark)
+            if change := (signs or {}).get(name):
+                parts.append(change_mark(change, float(across), float(down)))
     return "".join([*parts, "</svg>"])
 
 
@@ -51,12 +59,20 @@ def aside(shape: Shape) -> tuple[float, float]:
     return SIDE * (end_y - y) / size, SIDE * (end_x - x) / size
 
 
-def junction_mark(name: str, letter: str, text: str, across: str, down: str) -> str:
-    """A circle with the letter, at pixels across and down, which leads to the junction's table."""
+def junction_mark(letter: str, text: str, across: str, down: str) -> str:
+    """A circle with the level of service, at pixels across and down."""
     colour = "#fff" if letter in LIGHT else "#000"
     circle = f'<circle cx="{across}" cy="{down}" r="11" fill="{COLOURS[letter]}" stroke="#000"/>'
     write = f'<text x="{across}" y="{down}" dy="4" text-anchor="middle" fill="{colour}" class="letter">{letter}</text>'
-    return f'<a href="#{anchor(name)}"><title>{escape(text)}</title>{circle}{write}</a>'
+    return f"<g><title>{escape(text)}</title>{circle}{write}</g>"
+
+
+def change_mark(change: float, across: float, down: float) -> str:
+    """A triangle beside a junction, up where it waits more and down where less."""
+    x, y, tall = across + 14, down, 5 if change < 0 else -5
+    points = f"{x:.1f},{y - tall:.1f} {x + 10:.1f},{y - tall:.1f} {x + 5:.1f},{y + tall:.1f}"
+    fill = "#b00" if change > 0 else "#06c"
+    return f'<polygon points="{points}" fill="{fill}" stroke="#fff"><title>{change:+.1f} s</title></polygon>'
 
 
 def anchor(name: str) -> str:

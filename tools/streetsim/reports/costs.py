@@ -1,0 +1,64 @@
+"""What another plan costs whom: trips of the same vehicles with both plans."""
+from collections import defaultdict
+from collections.abc import Iterable
+from dataclasses import dataclass, field
+from statistics import fmean
+
+from streetsim.model.folder import Folder
+from streetsim.reports.comparing import Difference, paired
+from streetsim.results.reading import Runs
+
+NOTICED = 10  # seconds of a trip
+FEW = 10  # trips of a group in a run, below which it is not told
+
+
+@dataclass(slots=True)
+class Costs:
+    """Changes of trips that arrived with both plans, over the seeds that both have."""
+
+    changes: list[int] = field(default_factory=list)  # seconds, rising
+    lost: int = 0  # trips that arrived with the first plan alone
+    won: int = 0  # with the second alone
+    groups: dict[str, tuple[int, Difference]] = field(default_factory=dict)  # trips in all, mean seconds
+
+    def share(self, slower: bool) -> float:
+        """The share, 0 to 1, of trips that become slower, or quicker, by more than one notices."""
+        return sum(change > NOTICED if slower else change < -NOTICED for change in self.changes) / len(self.changes)
+
+    def tenth(self) -> int:
+        """The seconds that one trip in ten becomes longer by, at least."""
+        return self.changes[len(self.changes) * 9 // 10]
+
+
+def costs_of(before: Runs, after: Runs) -> Costs:
+    """The changes of trips from one plan to another, also by the flow that they are of."""
+    found, sums = Costs(), defaultdict[str, tuple[dict, dict]](lambda: ({}, {}))
+    counts: defaultdict[str, int] = defaultdict(int)
+    for seed in sorted(before.folders.keys() & after.folders.keys()):
+        first, second = durations(before.folders[seed]), durations(after.folders[seed])
+        both = [name for name in first if name in second]
+        found.changes += [second[name] - first[name] for name in both]
+        found.lost, found.won = found.lost + len(first) - len(both), found.won + len(second) - len(both)
+        for group, names in grouped(both).items():
+            counts[group] += len(names)
+            for sides, values in zip(sums[group], (first, second), strict=True):
+                sides[seed] = fmean(values[name] for name in names)
+    found.changes.sort()
+    differences = {group: paired(*sides) for group, sides in sums.items()}
+    found.groups = {group: (counts[group], one) for group, one in differences.items() if one}
+    return found
+
+
+def durations(folder: Folder) -> dict[str, int]:
+    """The seconds of each trip that arrived, by vehicle."""
+    return {row["id"]: int(row["duration"]) for row in folder.trips() if row["duration"]}
+
+
+def grouped(names: Iterable[str]) -> dict[str, list[str]]:
+    """Vehicles by the flow that they are of, as SUMO names them, FLOW.NUMBER; without flows of few vehicles."""
+    found: defaultdict[str, list[str]] = defaultdict(list)
+    for name in names:
+        flow, point, number = name.rpartition(".")
+        if point and number.isdecimal():
+            found[flow].append(name)
+    return {flow: own for flow, own in found.items() if len(own) >= FEW}

@@ -1,0 +1,203 @@
+"""The first page of a report: what was asked, a map, the verdict, what it costs whom, what is doubted."""
+from collections.abc import Sequence
+from html import escape
+
+from streetsim.base.report import HEAVY
+from streetsim.model.names import Names
+from streetsim.model.service import COLOURS
+from streetsim.reports.choosing import Told, told_of
+from streetsim.reports.comparing import Difference, paired, total_delay
+from streetsim.reports.costs import NOTICED, Costs, costs_of
+from streetsim.reports.drawing import letter_mark, map_picture
+from streetsim.reports.markup import bullets, change_told, clock, mean_told, table
+from streetsim.reports.saying import change_in_words, number, several
+from streetsim.results.reading import Row, Runs
+
+Interval = tuple[int, int]
+MOST_GROUPS = 6
+LONG = 160  # letters of a warning on the first page
+LEAST_HOURLY = 20  # vehicles an hour of a movement that is called the worst
+
+
+def junctions_of(plans: Sequence[Runs], shown: Interval, table_: str = "junctions") -> list[Told]:
+    """The rows of the last plan, first those that change or are worse than D."""
+    rows = [runs.rows.get((table_, *shown), {}) for runs in plans]
+    return told_of(rows[-1], rows[0] if len(plans) == 2 else None)
+
+
+def asked(question: str, plans: Sequence[Runs], shown: Interval) -> str:
+    """What was asked, and of what, as HTML."""
+    last, made = plans[-1], plans[-1].first.made
+    names = [runs.name for runs in plans]
+    two = len(names) == 2
+    usual = f"What changes if '{names[1]}' takes the place of '{names[0]}'?" if two else f"How does '{names[0]}' flow?"
+    vehicles = made.get("vehicles", len(last.first.mapping.cars))
+    of = (
+        f"{vehicles:,} vehicles from {clock(made.get('start', 0))} to {clock(made.get('until', 0))}; "
+        f"{several(len(last.rows['junctions', *shown]), 'junction')}, "
+        f"shown from {clock(shown[0])} to {clock(shown[1])}; "
+        f"{several(len(last.folders), 'run')} of {'each' if two else 'the'} plan, simulated by streetsim."
+    )
+    return f'<p class="asked">What was asked: <b>{escape(question or usual)}</b></p><p class="small">{escape(of)}</p>'
+
+
+def verdict(plans: Sequence[Runs], shown: Interval) -> str:
+    """The verdict in two sentences, as HTML."""
+    said = change_verdict(plans, shown) if len(plans) == 2 else state_verdict(plans[0], shown)
+    untrusted = [runs.name for runs in plans if doubts_of(runs)]
+    told = f"Not to be trusted: {' and '.join(untrusted)} (why: below)."
+    mark = f'<p class="doubt">{escape(told)}</p>' if untrusted else ""
+    return f'{mark}<p class="verdict">{escape(said)}</p>'
+
+
+def doubts_of(runs: Runs) -> list[str]:
+    """Why runs are not to be trusted, by seed."""
+    return [f"seed {seed}: {doubt}" for seed, folder in runs.folders.items() for doubt in folder.doubts]
+
+
+def delay_change(plans: Sequence[Runs], shown: Interval) -> Difference | None:
+    """The change of the mean control delay at all junctions."""
+    return paired(*(total_delay(runs.rows["junctions", *shown].values()) for runs in plans))
+
+
+def change_verdict(plans: Sequence[Runs], shown: Interval) -> str:
+    """What the second plan changes."""
+    trip, delay = paired(*(runs.mean_trips() for runs in plans)), delay_change(plans, shown)
+    first, name = "Nothing can be said of trips, as nobody arrived.", plans[1].name
+    if trip:
+        means = f"{trip.after:.1f} s on average, and {trip.before:.1f} s with '{plans[0].name}'"
+        first = f"With '{name}' a trip takes {means}: {change_in_words(trip)}."
+    if not delay:
+        return f"{first} No junction has vehicles with both plans."
+    rows = junctions_of(plans, shown)
+    sure = [one.change.change for one in rows if one.change and one.change.is_sure()]
+    less, more = (sum((change > 0) == up for change in sure) for up in (False, True))
+    counts = f"at {number(less)} of {several(len(rows), 'junction')} it is less for sure, at {number(more)} more"
+    means = f"{delay.after:.1f} s, and {delay.before:.1f} s before"
+    return f"{first} A vehicle's mean delay at a junction is {means}: {change_in_words(delay)}; {counts}."
+
+
+def state_verdict(runs: Runs, shown: Interval) -> str:
+    """How traffic flows."""
+    delays = total_delay(runs.rows["junctions", *shown].values())
+    rows = junctions_of([runs], shown)
+    bad = [one for one in rows if one.is_bad]
+    trip = f"A trip takes {mean_told(runs.mean_trips().values())} s on average"
+    first = f"{trip}, and a vehicle's delay at a junction is {mean_told(delays.values())} s."
+    if not bad:
+        return f"{first} All {len(rows):,} junctions have level of service D or better."
+    worst = runs.names.junction_told(bad[0].key[0])
+    have = f"{'has' if len(bad) == 1 else 'have'} a level of service worse than D, most of all {worst}"
+    return f"{first} {number(len(bad)).capitalize()} of {several(len(rows), 'junction')} {have}."
+
+
+def map_section(runs: Runs, shown: Interval, rows: Sequence[Told] = (), detailed: int = 0) -> str:
+    """The map of a run in an interval, by level of service, with its legend; rows: of junctions, whose marks tell
+    whether they change, the first of them in detail."""
+    names = runs.names
+    approaches = {
+        row.key[1]: (row.letter(), f"{row.key[1]} {names.approach(row.key[1])}: {row.delay:.1f} s, {row.letter()}")
+        for row in runs.rows["approaches", *shown].values()
+    }
+    linked = {one.key[0] for one in rows[:detailed]}
+    junctions = {
+        row.key[0]: (row.letter(), junction_text(row, names), row.key[0] in linked)
+        for row in runs.rows["junctions", *shown].values()
+    }
+    signs = {one.key[0]: one.change.change for one in rows if one.changes and one.change}
+    legend = " ".join(letter_mark(letter) for letter in COLOURS)
+    picture = map_picture(runs.first.mapping, approaches, junctions, signs)
+    more = "; &#9650; waits more and &#9660; less than before, for sure" if signs else ""
+    told = f"{escape(runs.name)}: approaches and junctions by level of service {legend}{more}"
+    return f"<figure>{picture}<figcaption>{told}</figcaption></figure>"
+
+
+def junction_text(row: Row, names: Names) -> str:
+    """What a junction's mark says of it."""
+    return f"{names.junction_told(row.key[0])}: {row.delay:.1f} s, {row.letter()}"
+
+
+def costs(plans: Sequence[Runs], shown: Interval) -> str:
+    """What it costs whom: trips, and the worst movement, as HTML."""
+    movements = junctions_of(plans, shown, "movements")
+    texts = [*worst_movements(movements, plans[-1])]
+    if len(plans) < 2:
+        return bullets(texts)
+    found = costs_of(*plans)
+    return bullets([*trips_told(found), *texts]) + groups_table(found)
+
+
+def trips_told(found: Costs) -> list[str]:
+    """How many trips become slower or quicker."""
+    if not found.changes:
+        return ["No trip arrived with both plans."]
+    slower, quicker = found.share(True), found.share(False)
+    told = (
+        f"Of {len(found.changes):,} trips of the same vehicles {quicker:.0%} become quicker by more than {NOTICED} s, "
+        f"{slower:.0%} slower by more than {NOTICED} s"
+    )
+    tenth = found.tenth()
+    told += f"; one in ten takes {tenth} s longer or more." if tenth > 0 else "."
+    more = f"{found.lost:,} trips arrived before and do not now, {found.won:,} the other way round."
+    return [told, *([more] if found.lost or found.won else [])]
+
+
+def groups_table(found: Costs) -> str:
+    """Trips by flow, those that lose most first; where there are many the first and the last."""
+    ranked = sorted(found.groups, key=lambda group: (-found.groups[group][1].change, group))
+    half = MOST_GROUPS // 2
+    told = ranked if len(ranked) <= MOST_GROUPS else [*ranked[:half], *ranked[-half:]]
+    if not told:
+        return ""
+    rows = []
+    for group in told:
+        count, one = found.groups[group]
+        rows.append([escape(group), f"{count:,}", f"{one.before:.1f}", f"{one.after:.1f}", change_told(one)])
+    left = f" (those that lose and that win most, of {len(ranked):,})" if len(told) < len(ranked) else ""
+    return table([f"trips by flow{left}", "trips", "before, s", "after, s", "change, s"], rows)
+
+
+def worst_movements(movements: Sequence[Told], runs: Runs) -> list[str]:
+    """The movement that waits longest, and the one that loses most."""
+    names, busy = runs.names, [one for one in movements if one.row.values["vehicles_per_hour"] >= LEAST_HOURLY]
+    if not busy:
+        return []
+
+    def called(one: Told) -> str:
+        junction, edge, to = one.key
+        return f"{names.movement(edge, to)} ({edge} to {to}) at {names.junction_told(junction)}"
+
+    worst = max(busy, key=lambda one: one.row.delay)
+    level = f"level of service {worst.row.letter()}"
+    hourly = f"{worst.row.values['vehicles_per_hour']:.0f} vehicles an hour"
+    texts = [f"Longest delay: {called(worst)}, {worst.row.delay:.0f} s, {level}, {hourly}."]
+    losing = [one for one in busy if one.change and one.change.is_sure() and one.change.change > 0]
+    if losing:
+        most = max(losing, key=lambda one: one.change.change if one.change else 0.0)
+        assert most.change
+        told = f"{most.change.after:.0f} s instead of {most.change.before:.0f} s ({most.change.told()} s)"
+        texts.append(f"Loses most: {called(most)}, {told}.")
+    elif any(one.change and one.change.half is not None for one in busy):
+        texts.append("No movement loses for sure.")
+    return texts
+
+
+def doubted(plans: Sequence[Runs], more: Sequence[str] = ()) -> str:
+    """What is doubted, as HTML; more: what else speaks against the runs."""
+    texts = []
+    for runs in plans:
+        doubts = doubts_of(runs)
+        texts += [f"{runs.name} is not to be trusted: {doubt}" for doubt in doubts]
+        if not doubts:
+            texts.append(f"{runs.name}: nothing that a run checks of itself speaks against it.")
+    texts += more
+    seeds = len(set.intersection(*({*runs.folders} for runs in plans)))
+    if seeds < 2:
+        texts.append("One run says nothing of chance: streetsim-run --seeds 1-5 makes several.")
+    heavy = list(dict.fromkeys(row[1] for runs in plans for row in runs.first.mapping.told if row[0] == HEAVY))
+    if heavy:
+        first = heavy[0] if len(heavy[0]) < LONG else heavy[0][: LONG - 3] + ".."
+        told = f"The import did {several(len(heavy), 'thing')} otherwise than SUMO that may change results"
+        texts.append(f"{told} (appendix); the first: {first}.")
+    texts.append("These are numbers of a simulation: the street may do otherwise, and nobody here changes the way.")
+    return bullets(texts)

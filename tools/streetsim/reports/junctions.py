@@ -1,0 +1,124 @@
+"""The appendix of junctions: one line for each, and those that matter with their movements and queues."""
+from collections.abc import Sequence
+from html import escape
+
+from streetsim.model.names import Names
+from streetsim.reports.choosing import LEAST, Told
+from streetsim.reports.drawing import anchor, letter_mark, queue_picture
+from streetsim.reports.markup import change_told, clock, table
+from streetsim.results.reading import Row, Runs
+
+KEY = (
+    "L, T, R, U: left, straight on, right, back. Bars: the length of an edge, and in it the queue that half of the "
+    "cycles (dark) and 95 % of them (light) do not exceed, and the greatest (line)."
+)
+MOST_MOVEMENTS = 30  # of changes on the page
+
+
+def title_of(name: str, names: Names) -> str:
+    """A junction's title, with its id."""
+    called = names.junction(name)
+    return f"{called} (junction {name})" if called else f"Junction {name}"
+
+
+def lines(rows: Sequence[Told], names: Names, detailed: int) -> str:
+    """One line for each junction; those told in detail lead to their sections."""
+    two = any(one.before for one in rows)
+    made = []
+    for place, one in enumerate(rows):
+        title = escape(title_of(one.key[0], names))
+        cells = [f'<a href="#{anchor(one.key[0])}">{title}</a>' if place < detailed else title]
+        cells.append(f"{one.row.values['vehicles_per_hour']:,.0f}")
+        level = letter_mark(one.row.letter())
+        if not two:
+            made.append([*cells, f"{one.row.delay:.1f}", level, f"{one.row.values['v_c']:.2f}"])
+        elif one.before and one.change:
+            numbers = f"{one.change.before:.1f}", f"{one.change.after:.1f}", change_told(one.change)
+            made.append([*cells, *numbers, f"{letter_mark(one.before.letter())} to {level}"])
+        else:
+            made.append([*cells, "", f"{one.row.delay:.1f}", "", level])
+    if two:
+        return table(["junction", "vehicles/h", "before, s", "after, s", "change, s", "level of service"], made)
+    return table(["junction", "vehicles/h", "delay, s", "level of service", "greatest v/c"], made)
+
+
+def movement_changes(rows: Sequence[Told], names: Names) -> str:
+    """The movements that change, or are worse than D, those whose vehicles lose or win most first."""
+    those = [one for one in rows if one.change and one.before and (one.changes or one.is_bad)]
+    made = []
+    for one in those[:MOST_MOVEMENTS]:
+        assert one.change and one.before
+        ids = f"{one.key[0]}: {' to '.join(one.key[1:])}"
+        levels = f"{letter_mark(one.before.letter())} to {letter_mark(one.row.letter())}"
+        numbers = f"{one.change.before:.1f}", f"{one.change.after:.1f}", change_told(one.change)
+        made.append([escape(names.movement(*one.key[1:])), escape(ids), *numbers, levels])
+    if not made:
+        return "<p>No movement changes for sure by so much that one notices, and none is worse than D.</p>"
+    head = ["movement", "junction: edges", "before, s", "after, s", "change, s", "level of service"]
+    left = len(rows) - len(made)
+    more = f'<p class="small">{left:,} other movements: movements.csv of the runs.</p>' if left else ""
+    return table(head, made, names=2) + more
+
+
+def said_of_changes(seeds: int) -> str:
+    """What is paired, and what is bold."""
+    said = "Differences are of the same seeds"
+    if seeds < 2:
+        said = "One seed alone tells nothing of chance: use --seeds 1-5"
+    return (
+        f'<p class="small">{said}; those whose sign is sure at 95 % are bold. Control delay, seconds. First those that '
+        f"change by {LEAST:.0f} s or in their level of service for sure, or are worse than D.</p>"
+    )
+
+
+def detail(runs: Runs, name: str, interval_of: tuple[int, int]) -> str:
+    """A junction's movements and queues."""
+    junction, called = runs.rows["junctions", *interval_of][name,], runs.names
+    movements = [row for row in runs.rows["movements", *interval_of].values() if row.key[0] == name]
+    approaches = [row for row in runs.rows["approaches", *interval_of].values() if row.key[0] == name]
+    head = [
+        "movement", "from and to edge", "", "vehicles/h", "delay, s", "level of service", "v/c", "stopped, s", "stops",
+        "queue 50 %, m", "95 %", "greatest of room",
+    ]
+    rows = [movement_row(row, called) for row in sorted(movements, key=lambda row: row.key)]
+    queues = [
+        (
+            called.approach(row.key[1]), row.values["queue_50_m"], row.values["queue_95_m"], row.values["queue_max_m"],
+            row.values["storage_m"],
+        )
+        for row in sorted(approaches, key=lambda row: row.key)
+    ]
+    values = junction.values
+    return (
+        f'<section class="whole"><h3 id="{anchor(name)}">{escape(title_of(name, called))}: {junction.delay:.1f} s '
+        f'{letter_mark(junction.letter())}, {values["vehicles_per_hour"]:,.0f} vehicles an hour, '
+        f'{escape(junction.control)}</h3>{by_time(runs, name)}'
+        f'{table(head, rows, names=3)}<div class="picture">{queue_picture(queues)}</div></section>'
+    )
+
+
+def by_time(runs: Runs, name: str) -> str:
+    """The level of service of a junction in each interval, where there are several."""
+    intervals = runs.intervals()
+    found = [(begin, runs.rows.get(("junctions", begin, end), {}).get((name,))) for begin, end in intervals]
+    if len(intervals) < 2:
+        return ""
+    those = ((clock(begin), row) for begin, row in found if row)
+    told = ", ".join(f"from {begin} {row.delay:.0f} s {letter_mark(row.letter())}" for begin, row in those)
+    return f'<p class="small">By time: {told}</p>'
+
+
+def movement_row(row: Row, names: Names) -> list[str]:
+    """The cells of a movement in its junction's table."""
+    values = row.values
+    stops = f"{values['stops_per_vehicle']:.2f}" if "stops_per_vehicle" in values else ""
+    queues = [
+        f"{values['queue_50_m']:.0f}",
+        f"{values['queue_95_m']:.0f}",
+        f"{values['queue_max_m']:.0f} of {values['storage_m']:.0f}",
+    ]
+    return [
+        *(escape(part) for part in (names.movement(*row.key[1:]), " to ".join(row.key[1:]), row.movement)),
+        *(f"{values['vehicles_per_hour']:.0f}", f"{row.delay:.1f}", letter_mark(row.letter()), f"{values['v_c']:.2f}"),
+        *(f"{values['stopped_delay_s']:.1f}", stops, *queues),
+    ]

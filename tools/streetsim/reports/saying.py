@@ -1,0 +1,40 @@
+"""Changes and intervals in words."""
+from streetsim.reports.comparing import Difference
+
+NUMBERS = ("no", "one", "two", "three", "four", "five", "six", "seven", "eight", "nine", "ten", "eleven", "twelve")
+
+
+def number(count: int) -> str:
+    """A count in words up to twelve."""
+    return NUMBERS[count] if count < len(NUMBERS) else f"{count:,}"
+
+
+def several(count: int, one: str, many: str = "") -> str:
+    """'one run', 'five runs'."""
+    return f"{number(count)} {one if count == 1 else many or one + 's'}"
+
+
+def less_or_more(change: float, unit: str = "s") -> str:
+    """'17.9 s less'."""
+    return f"{abs(change):.1f} {unit} {'less' if change < 0 else 'more'}"
+
+
+def between(one: Difference) -> str:
+    """The 95 % interval of a change: '17.7 to 18.1 s less'; empty of one seed."""
+    if one.half is None:
+        return ""
+    low, high = one.change - one.half, one.change + one.half
+    if high < 0:
+        return f"{-high:.1f} to {-low:.1f} s less"
+    if low > 0:
+        return f"{low:.1f} to {high:.1f} s more"
+    return f"from {abs(low):.1f} s less to {high:.1f} s more"
+
+
+def change_in_words(one: Difference) -> str:
+    """What a change is, how sure it is, and whether it is shown at all."""
+    if one.half is None:
+        return f"{less_or_more(one.change)} (of one run, which says nothing of chance)"
+    if one.is_sure():
+        return f"{less_or_more(one.change)} (95 % interval: {between(one)})"
+    return f"not shown to differ (95 % interval of the change: {between(one)})"
