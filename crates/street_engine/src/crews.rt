@@ -55,8 +55,8 @@ pub(crate) fn started_steps<R: Threads + Sync, G: Gate + Sync>(
     steps_by(rt, gate, threads, streets, count)
 }
 
-/// Steps by workers that stay for all of them, where the gate lets them share the next step and has processors for several threads; else,
-/// or where the team made none, as for want of its own memory, by the caller alone: what they leave, and how many.
+/// Steps by workers that stay for all of them, where the gate lets them share the next step and says that several threads make it sooner;
+/// else, or where the team made none, as for want of its own memory, by the caller alone: what they leave, and how many.
 pub(crate) fn staying_steps<R: Threads + Wait + Sync, G: Gate + Sync>(
     rt: &R,
     gate: &G,
@@ -70,7 +70,7 @@ pub(crate) fn staying_steps<R: Threads + Wait + Sync, G: Gate + Sync>(
     ensures clock { result.0.clock ≡ streets.clock + result.1 }
     ensures steps { StreetsGo (steps result.1) streets result.0 }
 {
-    let threads = streets.threads_of_steps(gate).min(gate.processors());
+    let threads = streets.threads_that_stay(gate);
     if threads > 1 {
         let shift = Shift {
             threads: threads - 1,

@@ -24,6 +24,12 @@ const LEAST_LENT: u64 = 30_000;
 /// From about how many vehicles in cells on threads that stay for many steps save more time than they wait for each other.
 const LEAST_STAYING: u64 = 1_500;
 
+/// How much longer a step takes where threads that stay share it, in thirds of what one vehicle takes.
+const SHARING: u64 = 1_200;
+
+/// How much longer for each of these threads.
+const THREAD: u64 = 450;
+
 /// A gate that watches no worker, and lets them share a step where there is enough to do. Threads that are started for each part of a
 /// step, and threads that stay, are worth their cost from different numbers of vehicles on: a gate is for the ones or the others.
 #[derive(Drop)]
@@ -62,6 +68,18 @@ impl Gate for Unwatched {
 
     fn processors(&self) -> usize {
         self.processors
+    }
+
+    // In thirds of what a vehicle takes. Beside others a thread moves its vehicles slower, and it waits for them.
+    fn step_time(&self, threads: usize, busiest: u64) -> u64 {
+        if self.from == 0 {
+            return u64::MAX - threads as u64;
+        }
+        if threads == 1 {
+            return busiest.saturating_mul(3);
+        }
+        let waits = SHARING.saturating_add(THREAD.saturating_mul(threads as u64));
+        busiest.saturating_mul(4).saturating_add(waits)
     }
 }
 

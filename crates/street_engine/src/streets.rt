@@ -334,6 +334,25 @@ impl Streets {
         1
     }
 
+    /// How many threads that stay make the next steps, the caller's among them: this alone where the workers do not share the next step,
+    /// else as many as the gate says make it soonest, one for each tile and each processor at most.
+    pub(crate) fn threads_that_stay<G: Gate>(&self, gate: &G) -> usize
+        ensures some { 0 < result }
+        ensures few { result ≤ most_workers }
+    {
+        let most = self.threads_of_steps(gate).min(gate.processors());
+        let mut best = 1;
+        let mut least = gate.step_time(1, self.tiles.most_in_block(1));
+        for threads in 2..most.saturating_add(1) {
+            let time = gate.step_time(threads, self.tiles.most_in_block(threads));
+            if time < least {
+                least = time;
+                best = threads;
+            }
+        }
+        best
+    }
+
     /// One step, by whoever makes its parts. All the memory that it needs is taken before it begins.
     ///
     /// # Errors

@@ -11,30 +11,28 @@ pub struct Block<T: Drop> {
     pub(crate) items: Vec<T>,
 }
 
-/// So many blocks, each with room for so many items and for so much that is shown.
+/// Blocks, each with room for so many items as its thread is to be lent, and for so much that is shown.
 ///
 /// # Errors
 /// Memory was refused.
 pub fn blocks<T: Drop>(
     alloc: Global,
-    count: usize,
-    items: usize,
+    rooms: &[usize],
     shown: usize,
 ) -> Result<Vec<Block<T>>, AllocError> {
-    let mut blocks = Vec::with_capacity(alloc, count)?;
-    for _ in 0..count {
+    let mut blocks = Vec::with_capacity(alloc, rooms.len())?;
+    for number in 0..rooms.len() {
         blocks.push_reserved(Block {
             shown: Vec::with_capacity(alloc, shown)?,
-            items: Vec::with_capacity(alloc, items)?,
+            items: Vec::with_capacity(alloc, rooms[number])?,
         });
     }
     Ok(blocks)
 }
 
 impl<T: Drop> Block<T> {
-    /// Shows this, and takes the last items down to number `first`, or fewer where there is no room for them. Tells whether all
-    /// is shown; else it takes none.
-    pub(crate) fn fill(&mut self, shown: &[bool], items: &mut Vec<T>, first: usize) -> bool
+    /// Shows this, and takes so many of the last items as it has room for, or all. Tells whether all is shown; else it takes none.
+    pub(crate) fn fill(&mut self, shown: &[bool], items: &mut Vec<T>) -> bool
         ensures shown { result ≡ true → self.new.shown.items ≡ shown.now }
         ensures none { result ≡ false → vec_len items.new ≡ vec_len items.old }
         ensures len { vec_len items.new + vec_len self.new.items ≡ vec_len items.old }
@@ -47,7 +45,7 @@ impl<T: Drop> Block<T> {
         if self.shown.extend_from_slice(shown).is_err() {
             return false;
         }
-        let count = items.len().saturating_sub(first).min(self.items.capacity());
+        let count = items.len().min(self.items.capacity());
         for _ in 0..count {
             let item = items.take_last();
             self.items.push_reserved(item);

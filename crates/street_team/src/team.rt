@@ -26,6 +26,7 @@ pub fn locks<T: Drop>(
 }
 
 /// Who lends items to so many threads, a block of them to each while there are locks and blocks; the others it works on itself.
+/// A block has as many as it has room for, the first block those behind the caller's own.
 pub struct Team<'a, 'r, 'w, 's, T: Drop, W: Work<T>, R: Wait> {
     rt: &'r R,
     shared: &'s Shared<'a, 'w, T, W>,
@@ -103,8 +104,8 @@ impl<'a, 'r, 'w, 's, T: Drop, W: Work<T>, R: Wait> Team<'a, 'r, 'w, 's, T, W, R>
         }
     }
 
-    /// Lends the last items to the thread of a number: what number the first of them has, and what shows what they were. Where there
-    /// is no lock or no room they stay.
+    /// Lends the last items to the thread of a number, as many as the last block has room for: what number the first of them has, and
+    /// what shows what they were. Where there is no lock or no block they stay.
     fn send(
         &mut self,
         at: usize,
@@ -125,9 +126,7 @@ impl<'a, 'r, 'w, 's, T: Drop, W: Work<T>, R: Wait> Team<'a, 'r, 'w, 's, T, W, R>
     {
         let lock = self.locks.get(at)?;
         let mut block = self.spare.pop()?;
-        let few = items.len() / number.saturating_add(2);
-        let from = items.len() - few;
-        if !block.fill(shown, items, from) {
+        if !block.fill(shown, items) {
             self.keep(block);
             return None;
         }

@@ -138,7 +138,8 @@ fn add_by<K: Course + Send + Sync, R: Threads + Wait + Sync>(
 {
     let work = Adding::<K> { of: PhantomData };
     let shared = Shared::new(alloc, &work, threads)?;
-    let spare = blocks(alloc, threads, items.len(), 1)?;
+    let rooms = vec![in alloc; 2; threads]?;
+    let spare = blocks(alloc, &rooms, 1)?;
     Ok(add_with(rt, alloc, &shared, spare, locks, items, threads).into_items())
 }
 

@@ -38,4 +38,11 @@ pub trait Gate {
     fn processors(&self) -> usize {
         64
     }
+
+    /// Asked where workers that stay share the next steps, of each number of threads, the calling one among them: how long a step takes, in
+    /// any unit, where the busiest thread has so many vehicles in cells. As many stay as need least; of equal numbers the smallest.
+    /// The steps are the same.
+    fn step_time(&self, threads: usize, busiest: u64) -> u64 {
+        u64::MAX - threads as u64
+    }
 }

@@ -22,6 +22,7 @@ mod meters;
 mod motion;
 mod phase_by_phase;
 mod release;
+mod sharing;
 mod step;
 mod tile;
 mod tile_work;

@@ -1,8 +1,8 @@
 //! All tiles of a network between two steps.
 //!
-//! Here are their making, the network that they share, the commands that name a node or a lane, counts of vehicles, and the blocks
-//! in which a team lends them. Such a command is done by the tile that owns the node or lane, and the others stay as they are. Steps
-//! are in `tiles_steps`, commands that name a vehicle in `tiles_vehicles`.
+//! Here are their making, the network that they share, the commands that name a node or a lane, and counts of vehicles. Such a command
+//! is done by the tile that owns the node or lane, and the others stay as they are. Steps are in `tiles_steps`, commands that name a
+//! vehicle in `tiles_vehicles`, the blocks in which a team lends the tiles in `sharing`.
 //!
 //! Source: this profile.
 ghost use Rattle.std.specs.Prelude.{◌≡◌, ◌+◌, ◌<◌, ◌≤◌, length, min, option_map, slice_get, IfOk, OnOk, OnErr};
@@ -21,7 +21,6 @@ use street_base::{Car, CellNo, LinkIx, NodeIx, Place, Reply, Starved};
 use street_lanes::LaneTotals;
 use street_net::Network;
 use street_node::SignalPlan;
-use street_team::{Block, blocks};
 
 /// A network, its tiles, the view of its mouths as the last step's releases saw it (none open before the first), and on which link
 /// each vehicle was last put.
@@ -242,24 +241,5 @@ impl Tiles {
             all.waiting += own.waiting;
         }
         all
-    }
-
-    /// How many vehicles are in cells of the tile that has most of them; looks at no lane.
-    pub fn most_in_cells(&self) -> u64 {
-        let mut most = 0;
-        for tile in &self.tiles {
-            most = most.max(tile.totals().cells);
-        }
-        most
-    }
-
-    /// Blocks in which a team lends the tiles to so many threads besides the caller's: one for each, with room for its share of
-    /// the tiles and for all mouths.
-    ///
-    /// # Errors
-    /// Memory was refused.
-    pub fn blocks(&self, alloc: Global, threads: usize) -> Result<Vec<Block<Tile>>, Starved> {
-        let most = self.tiles.len() / threads.saturating_add(1) + 1;
-        Ok(blocks(alloc, threads, most, self.view.len())?)
     }
 }

@@ -1,5 +1,5 @@
-use Rattle.std.proofs.Common.{◌≡◌, ◌≤◌, vec_len, vec_capacity}
+use Rattle.std.proofs.Common.{◌≡◌, ◌≤◌, length, vec_len, vec_capacity}
 use Rattle.street_team.proofs.block.blocks.Given as goal
 
-abbrev pub invariant-loop : goal.invariant-loop
-invariant-loop g l = (vec_len l.blocks ≡ l.counter) × (l.count ≤ vec_capacity l.blocks)
+abbrev pub invariant-loop-number : goal.invariant-loop-number
+invariant-loop-number g l = (vec_len l.blocks ≡ l.number) × (length l.rooms ≤ vec_capacity l.blocks)
