@@ -1,9 +1,8 @@
 """A run under SUMO's names and units (metres, metres a second, seconds), with TraCI's calls where one fits."""
-import warnings
 from collections.abc import Iterable, Sequence
 from dataclasses import replace
 from heapq import heappop, heappush
-from typing import Any, Self
+from typing import Self
 
 from streetsim.base import client
 from streetsim.base.files import FilePath
@@ -50,8 +49,6 @@ class Scenario(Running):
     ) -> None:  # fmt: skip
         source, read, _ = with_works(*read_with_map(run, mapping), mapping, [], joint)
         super().__init__(source, read, rounds, program, workers)
-        if self.yielding.why_not:
-            warnings.warn(self.yielding.told(), stacklevel=2)
         self.detours = Detours(self)
         # Of vehicles that may not have departed: (depart, number, name), the earliest first.
         self.later: list[tuple[int, int, str]] = []

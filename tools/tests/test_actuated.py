@@ -217,13 +217,13 @@ class Runs(Case):
         self.tool("import", *paths, routes, "-o", run, "--map", mapping)
         return run, mapping
 
-    def lights(self, program=PHASES, kind="actuated", calls=0):
+    def lights(self, program=PHASES, kind="actuated"):
         """Of a run of one vehicle, an hour long."""
         routes = '<routes><vehicle id="v" depart="0"><route edges="a b"/></vehicle></routes>'
         paths = self.write("x.net.xml", street(program, kind)), [], [self.write("x.rou.xml", routes)]
         lines, mapping = run_and_map(convert(*paths, Options(), Report()), Report())
         read = map_from("map", json.loads(json.dumps(mapping.written())))
-        return driven_lights(run_of_texts("run", lines), read, 3600, calls)
+        return driven_lights(run_of_texts("run", lines), read)
 
     def test_the_map_keeps_what_drives_a_light(self):
         [light] = self.lights().driven
@@ -252,9 +252,6 @@ class Runs(Case):
     def test_parameters_without_an_effect_are_passed_over(self):
         more = PHASES + '<param key="jam-threshold" value="-1"/><param key="colour" value="red"/>'
         self.assertEqual([one.name for one in self.lights(more).driven], ["L"])
-
-    def test_as_many_as_there_are_calls_for(self):
-        self.assertEqual(self.lights(calls=100).listed, {"L": "as the program takes no more calls"})
 
     def rows(self, folder):
         with open(folder / "phases.csv", encoding="utf-8") as file:

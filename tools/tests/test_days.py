@@ -1,8 +1,7 @@
-"""Runs that need more calls than there are: late vehicles, sampled lanes, and runs that repeat others."""
+"""Long runs: sampled lanes, and runs that repeat others."""
 import csv
 import json
 import os
-import re
 import unittest
 from unittest.mock import patch
 
@@ -12,21 +11,9 @@ from streetsim.base.client import Row
 from streetsim.cli import run as running
 from streetsim.model.mapping import map_from
 from streetsim.run.edgedata import Edgedata, Samples, edge_rows
-from streetsim.run.late import Late
 
 
 class Schedules(Case):
-    def test_late(self):
-        """First 100 s after the expected arrival, then at steps that double."""
-        late = Late(100)
-        late.expect(7, 40)
-        asked = []
-        for clock in range(0, 2000, 20):
-            for wait, vehicle in late.due(clock):
-                asked.append(clock)
-                late.again(vehicle, clock, wait)
-        self.assertEqual(asked, [140, 240, 440, 840, 1640])
-
     def test_samples(self):
         """As many in each period, one in each equal part, and no two parts at the same place."""
         samples = Samples(0, 900, 5)
@@ -59,7 +46,7 @@ class Schedules(Case):
 
 
 @needs_simulator
-class FewCalls(Case):
+class ByHand(Case):
     def given(self, *commands, cars):
         lines = [{"cmd": "load", **NUMBERED}, *commands]
         run = self.write("run.jsonl", "".join(json.dumps(line) + "\n" for line in lines))
@@ -69,16 +56,14 @@ class FewCalls(Case):
         with open(self.folder / out / name, encoding="utf-8") as file:
             return list(csv.DictReader(file))
 
-    def test_a_late_vehicle_is_rescued(self):
-        """At red for ever; two lanes a minute do not fit. Free flow is 10 / 5 + 1 + 10 / 5 = 5 s, so it is asked
-        at 180, the first minute 120 s after; it stands, and is watched until 300, 120 s later; on the second link
-        it arrives in step 304."""
+    def test_who_stands_is_rescued(self):
+        """At red for ever: the first look that sees it stand is at 60 s, and 120 s later it is put on the second link,
+        where it arrives in step 184."""
         words = self.given(RED, {"cmd": "enter", "plan": [0, 1], "lane": 0, "depart": 0}, cars=["v"])
         told, _ = self.tool(
-            "run", *words, "--until", 6000, "--rescue", 120, "--every", 6000, "--calls", 500,
-            "--out", self.folder / "out",
+            "run", *words, "--until", 6000, "--rescue", 120, "--every", 6000, "--out", self.folder / "out"
         )
-        self.assertEqual(told, "1 vehicles, 1 arrived, mean trip 305.0 s, 1 rescues\n")
+        self.assertEqual(told, "1 vehicles, 1 arrived, mean trip 185.0 s, 1 rescues\n")
 
     def test_edges_by_hand(self):
         """Cells 0, 1, 3, 6 at clocks 1 to 4, then out: 4 of 60 polls see it on 75 m,
@@ -89,29 +74,6 @@ class FewCalls(Case):
         self.assertEqual(
             list(row.values()), ["0", "60", "a", "1", "1", f"{4 / 60 / 0.075:.2f}", "40.50", f"{10 / 1.5:.2f}"]
         )
-
-    def test_what_helps_is_named(self):
-        words = self.given({"cmd": "enter", "plan": [0], "lane": 0, "depart": 0}, cars=["v"])
-        more = ["--until", 6000, "--out", self.folder / "out"]
-        for options, told in (
-            (["--every", 1, "--calls", 10_000], "try --every 2"),
-            (["--calls", 300], "try a run up to"),
-        ):
-            with self.subTest(told):
-                self.assertIn(told, self.tool("run", *words, *more, *options, status=2)[1])
-                self.assertFalse((self.folder / "out").exists())
-
-    def test_what_is_named_helps(self):
-        """The run of as many seconds as are named fits, and one of a second more does not; none has fewer calls than
-        its vehicles take."""
-        words = self.given(*[{"cmd": "enter", "plan": [0], "lane": 0, "depart": 0}] * 9, cars=list("abcdefghi"))
-        more = ["--calls", 200, "--rescue", 0, "--out", self.folder / "out"]
-        _, said = self.tool("run", *words, *more, "--until", 6000, status=2)
-        last = int(re.search(r"try a run up to ([\d,]+) s, or fewer vehicles", said)[1].replace(",", ""))
-        self.tool("run", *words, *more, "--until", last + 1, status=2)
-        self.tool("run", *words, *more, "--until", last)
-        _, said = self.tool("run", *words, *more, "--calls", 18, status=2)
-        self.assertIn("the program takes 18: try fewer vehicles: each takes two calls", said)
 
 
 @needs_simulator

@@ -38,10 +38,6 @@ class Endings(Case):
             "ended at 1,[0-9]{3} s: no vehicle has changed its cell for 660 s, longer than the longest cycle, 600 s",
         )
 
-    def test_the_calls_are_spent(self):
-        told = self.run_lines([0], "--rescue", "0", "--calls", "600", more=[{**RED, "phases": [[600, []]] * 16}])
-        self.assertRegex(told, "ended at [0-9,]+ s: the calls of the run are spent")
-
     def test_each_seed_has_its_end(self):
         self.assertIn("seed 1: 1 vehicles, 1 arrived", told := self.run_lines([0], "--seeds", "1-2"))
         self.assertIn("ended at 60 s: all have arrived", told)

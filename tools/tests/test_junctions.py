@@ -293,7 +293,7 @@ class OfARun(Case):
         return read_table(f"{self.folder}/{out}/{name}.csv", columns)
 
     def test_vehicles_are_those_of_the_other_tables(self):
-        self.run_corridor("out", "--junctions", "900", "--calls", "60000")
+        self.run_corridor("out", "--junctions", "900")
         movements = self.table("out", "movements", MOVEMENTS)
         passed = Counter()
         for row in movements:
@@ -346,8 +346,8 @@ class OfARun(Case):
     def test_random_moments_are_near(self):
         """The mean delay of approaches within the error that is stated, for most of them."""
         self.run_corridor("out", "--junctions", "1800")
-        before, reporting.EXACT_RUNS = reporting.EXACT_RUNS, 0
-        self.addCleanup(setattr, reporting, "EXACT_RUNS", before)
+        before, reporting.MOST_LOOKS = reporting.MOST_LOOKS, 0
+        self.addCleanup(setattr, reporting, "MOST_LOOKS", before)
         from streetsim.cli.run import main
 
         run, mapped = self.folder / "run.jsonl", self.folder / "map.json"

@@ -153,7 +153,7 @@ class Runs(Case):
         paths = self.write("x.net.xml", street(parameters=parameters)), [], [self.write("x.rou.xml", routes)]
         lines, mapping = run_and_map(convert(*paths, Options(), Report()), Report())
         read = map_from("map", json.loads(json.dumps(mapping.written())))
-        return driven_lights(run_of_texts("run", lines), read, 3600, 0)
+        return driven_lights(run_of_texts("run", lines), read)
 
     def test_areas_before_the_stop_line(self):
         # 20 m before the end of 200 m, which are 27 cells: who stands there is 1, 8.4 and 15.8 m before it.

@@ -14,7 +14,6 @@ from streetsim.base.files import Fault
 from streetsim.outputs.folder import Making
 from streetsim.pictures.plots import Corridor
 from streetsim.scenario import Scenario
-from streetsim.sessions import giving
 from streetsim.signals import found
 from streetsim.signals.found import Target
 from streetsim.signals.town import Reading, read_town
@@ -109,25 +108,6 @@ class Minor(Rounds):
         self.assertIn("1 connections have to give way in SUMO", self.told)
         [(node, turns, foes, pace)] = json.loads((self.folder / "map.json").read_text(encoding="utf-8"))["yields"]
         self.assertEqual((turns, [foe[:3] for foe in foes], pace), ([[2, 0, 1]], [[0, 0, 1]], []))
-
-    def test_polls_are_as_seldom_as_the_calls_need(self):
-        for calls, every in ((110, 300), (120, 120), (140, 60)):
-            with self.subTest(calls):
-                self.run_it("--until", 600, "--every", 0, "--rescue", 0, "--calls", calls, name=f"out{calls}")
-                self.assertEqual(self.setting(f"out{calls}")["yielding"]["every"], every)
-                self.assertGreater(self.trips(f"out{calls}")["s.50"], 138 + 22 - 50)
-
-    def test_where_calls_do_not_suffice_nobody_gives_way(self):
-        # In 6,000 s ten polls of three lanes; the run itself needs some 380 calls.
-        said, _ = self.run_it("--until", 6000, "--every", 0, "--rescue", 0, "--calls", 386)
-        self.assertIn("nobody gives way without a light: its rounds need more than the 386 calls", said)
-        self.assertLess(self.trips()["s.50"], 60)
-        self.assertIn("more than the 386 calls", self.setting()["yielding"]["why_not"])
-
-    def test_too_few_calls_are_told_before_it_begins(self):
-        # 30 vehicles go first: some two lines of 16 phases, two calls each.
-        said, _ = self.run_it("--until", 600, "--every", 0, "--rescue", 0, "--calls", 105)
-        self.assertIn("nobody gives way without a light: the run needs some 108 calls with the signals for it", said)
 
     def test_a_map_with_something_else_is_refused(self):
         path = self.folder / "map.json"
@@ -224,12 +204,6 @@ class ManyRuns(Many):
                 )
                 read_study(self.write("study.toml", text), PROGRAM)
 
-    def test_too_few_calls_are_told_before_any_run(self):
-        refused = self.assertRaisesRegex(Fault, "calls.*: with --rounds 0 nobody gives way")
-        with mock.patch.object(giving, "most_calls", lambda _: 120), refused:
-            text = 'run = "run.jsonl"\nmap = "map.json"\nuntil = 600\nseeds = "1"\n[variant.given]\n'
-            read_study(self.write("study.toml", text), PROGRAM)
-
     def test_a_search_makes_gaps_for_what_it_finds(self):
         _, told = self.signals("--jobs", 1)
         said = (
@@ -311,16 +285,6 @@ class Scripts(Rounds):
                 self.assertLess(self.arrival(sim), 110)
                 self.assertEqual(sim.yielding.lines, 0)
 
-    def test_a_scenario_warns_where_calls_do_not_suffice(self):
-        with mock.patch("streetsim.base.client.most_calls", lambda _: 260):
-            with self.assertWarnsRegex(
-                UserWarning, r"nobody gives way without a light: the run needs some \d+ calls .* takes 260"
-            ):
-                sim = Scenario(*self.files)
-            with sim:
-                sim.simulationStep(110)
-                self.assertEqual(sim.vehicle.where("s.50").state, "arrived")
-
     def started(self, *words):
         """When the minor vehicle arrives under a script, and what is told at the start."""
         with mock.patch.dict("os.environ", STREETSIM_PROGRAM=PROGRAM), redirect_stderr(StringIO()) as said:
@@ -347,12 +311,6 @@ class Scripts(Rounds):
         self.assertNotIn("give way by", told)
         with self.assertRaisesRegex(traci.FatalTraCIError, "--rounds 11: is not 0 to 10"):
             self.started("--rounds", "11")
-
-    def test_a_script_for_traci_says_where_calls_do_not_suffice(self):
-        with mock.patch("streetsim.run.rounds.refuse_too_many", side_effect=Fault("too few calls")):
-            clock, told = self.started()
-        self.assertLess(clock, 110)
-        self.assertEqual(told.splitlines()[-1], "warning: nobody gives way without a light: too few calls")
 
 
 class Capacity(Rounds):

@@ -17,24 +17,19 @@ from types import SimpleNamespace
 
 from clusters import ClusterCase, needs_distributed
 from support import DATA, PROGRAM, SCENARIOS, TOOLS, Case, lane, needs_simulator, needs_sumo_tools, net
-from streetsim.base.files import Fault
-from streetsim.base.report import Report
 from streetsim.model.mapping import Map, MapLink, read_map
 from streetsim.model.runs import Line, Run, read_run
 from streetsim.model.waiting import Gap
 from streetsim.routes.diverting import Diverted
-from streetsim.routes.loading import read_town
 from streetsim.routes.passes import Passes, Sight
 from streetsim.routes.search import Asked, Search, Seen, changes, gap_of, give, is_still, paths_after, steps_of
-from streetsim.routes.watching import Ground, watched
 from streetsim.sumo.net import SumoNet
-from streetsim.sumo.network import Options
 from streetsim.ways.costs import Costs, Table, costs_of, flat_costs, nothing_observed
 from streetsim.ways.graph import END, Graph
 from streetsim.ways.minor import Minor
 from streetsim.ways.router import FAR, Found, Router, Wish, parts_of
 from streetsim.ways.seconds import reds
-from streetsim.ways.trips import Trip, read_trips
+from streetsim.ways.trips import Trip
 
 # From a to d by b or by c; from b to c as well. Nobody may go from c to d's twin e.
 GRAPH = Graph(
@@ -241,7 +236,7 @@ class PassingTimes(unittest.TestCase):
         links = [MapLink(name, (0,), at, at + 1, 10, 1, 75.0, ()) for at, name in enumerate("abd")]
         self.map = Map([["", 0, 0, 2]] * 4, links, [], [], [], {}, [])
         delays = {way("a", "b"): [12 + 30] * 4, way("b", "d"): [12 + 10] * 4}
-        self.passes = Passes(GRAPH, self.map, costs_with(delays), 0.0, 60)
+        self.passes = Passes(GRAPH, self.map, costs_with(delays), 0.0)
 
     def test_driven_freely(self):
         # Seen on the third link's fifth second: 12 + 12 + 5 s after the departure.
@@ -581,53 +576,6 @@ class Imports(Case):
         told, said = self.tool("run", *words)
         self.assertIn("joint for this run", said)
         self.assertIn("2 vehicles, 2 arrived", told)
-
-
-@needs_simulator
-class Looking(Case):
-    """A tenth of the town's vehicles, by all lanes each minute where a run has calls for that,
-    and else by those on their way."""
-
-    def setUp(self):
-        super().setUp()
-        with gzip.open(DATA / "town.rou.xml.gz") as file:
-            vehicles = list(ElementTree.parse(file).getroot().iter("vehicle"))[::10]
-        rows = "".join(ElementTree.tostring(one, encoding="unicode") for one in vehicles)
-        routes = self.write("x.rou.xml", f"<routes>{rows}</routes>")
-        self.town = read_town(str(DATA / "town.net.xml.gz"), (), Options(), Report())
-        self.trips = read_trips(
-            [routes], self.town.net, self.town.graph, self.town.types, self.town.options, Report()
-        ).all
-        self.loaded = self.town.loaded(self.trips)
-
-    def seen(self, calls):
-        ground = Ground(PROGRAM, None, self.town.graph, 300, 10_800)
-        with unittest.mock.patch("streetsim.base.client.most_calls", return_value=calls):
-            return watched(
-                ground, self.loaded.run, self.loaded.mapping, flat_costs(self.town.graph, self.loaded.free), 1, None
-            )
-
-    def test_by_lanes_and_by_vehicles(self):
-        lanes, vehicles, seldom = map(self.seen, (1_000_000, 8_000, 2_500))
-        self.assertTrue(
-            seldom.calls < vehicles.calls < 8_000 < lanes.calls, (seldom.calls, vehicles.calls, lanes.calls)
-        )
-        self.assertEqual(vehicles.observed, lanes.observed)
-        self.assertEqual((vehicles.entries, vehicles.ends), (lanes.entries, lanes.ends))
-        self.assertEqual((seldom.ends, seldom.mean), (lanes.ends, lanes.mean))
-        self.assertEqual(self.by_movement(seldom.observed.counts), self.by_movement(lanes.observed.counts))
-        one, other = sum(seldom.observed.seconds), sum(lanes.observed.seconds)
-        self.assertLess(abs(one / other - 1), 0.01)  # dealt otherwise to the movements of each trip
-
-    def test_too_few_calls(self):
-        with self.assertRaisesRegex(
-            Fault, "300 vehicles up to 10,800 s take more calls than the 1,000 of the program: take fewer trips, or an"
-        ):
-            self.seen(1_000)
-
-    def by_movement(self, values):
-        slices = len(values) // len(self.town.graph.movements)
-        return [sum(values[at : at + slices]) for at in range(0, len(values), slices)]
 
 
 class BadInput(Commands):

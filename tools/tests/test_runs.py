@@ -12,8 +12,7 @@ from streetsim.base.files import Fault
 from streetsim.base.seeds import interval
 from streetsim.model import tables
 from streetsim.model.runs import read_run, read_with_map
-from streetsim.run.record import Recorder, standing
-from streetsim.run.settings import Settings
+from streetsim.run.record import standing
 from streetsim.scenario import Scenario
 
 
@@ -212,26 +211,6 @@ class Reading(Runs):
         ):
             with self.subTest(text), self.assertRaisesRegex(Fault, words):
                 read_run(self.write("run.jsonl", text))
-
-    def test_budget_is_checked_before_the_run(self):
-        self.given()
-        from streetsim.model.mapping import read_map
-
-        def asking(most, **words):
-            settings = Settings(**words)
-            recorder = Recorder(None, read_run(self.run_file), read_map(self.map_file), settings, None, None)
-            return recorder.budget.asking(most)
-
-        # Two lanes polled 600,000 times are above a million calls; every 2 s they are 600,000.
-        with self.assertRaisesRegex(Fault, "the program takes 1,000,000: try --every 2$"):
-            asking(1_000_000, until=600_000, every=1)
-        self.assertEqual(asking(0, until=600_000, every=1).every, 1)
-        # A poll takes two lanes and an advance: 90,000 calls every 20 s, 60,000 every 30 s, beside 30,003 for minutes.
-        self.assertEqual(asking(1_000_000, until=600_000).every, 10)
-        self.assertEqual(asking(100_000, until=600_000).every, 30)
-        # A day takes 3 calls a minute for steps and counts.
-        with self.assertRaisesRegex(Fault, "the program takes 1,000: try a run up to"):
-            asking(1_000, until=86_400)
 
     def test_standing(self):
         self.assertEqual(standing(((1, 9, 0), (2, 8, 0), (3, 6, 0)), 10), (2, 2))

@@ -20,7 +20,7 @@ from support import (
 )
 from streetsim.results.compare import geh
 from streetsim.scenario import TrafficLight
-from streetsim.simulation.endless import Endless
+from streetsim.simulation.remembering import Remembering
 from streetsim.simulation.lights import Light
 from streetsim.simulation.options import OUTPUT, SHORT, check_option
 from streetsim.traci import constants as tc
@@ -514,23 +514,22 @@ class Vehicles(Started):
         steps = ElementTree.parse(self.folder / "my-summary.xml").getroot()
         self.assertEqual((len(steps), steps[-1].get("arrived")), (end, "2"))
 
-    def test_more_calls_than_one_run_has(self):
-        """A run of 40 calls is begun anew each time that they are used up, and comes to the same."""
+    def test_a_run_that_is_brought_to_where_it_was(self):
+        """By the lines that changed something alone, and it goes on from there as it did."""
+        with Remembering(PROGRAM) as sim:
 
-        def places(calls):
-            sim = Endless(PROGRAM)
-            sim.calls = calls
-            with sim:
-                sim.load([[0, 1, 2]], [[0, 0, 0, 1, 90, 5]], [[0, 0, 0, 0]], dawdle=300, seed=3)
-                for _ in range(5):
-                    sim.enter([0] * 9)
-                found = []
-                for _ in range(9):
-                    sim.advance(3)
-                    found.append([sim.vehicle(car) for car in range(5)])
-                return found
+            def places():
+                sim.advance(3)
+                return [sim.vehicle(car) for car in range(5)]
 
-        self.assertEqual(places(40), places(1000))
+            sim.load([[0, 1, 2]], [[0, 0, 0, 1, 90, 5]], [[0, 0, 0, 0]], dawdle=300, seed=3)
+            for _ in range(5):
+                sim.enter([0] * 9)
+            sim.advance(9)
+            kept = list(sim.changes)
+            later = [places() for _ in range(9)]
+            sim.repeat(kept)
+            self.assertEqual([places() for _ in range(9)], later)
 
 
 class Lights(Started):

@@ -12,7 +12,7 @@ from streetsim.model.runs import Line, Run
 from streetsim.run.record import Recorder
 from streetsim.run.settings import Settings
 from streetsim.works.asked import clock_of, sites_of, really_closed, works_of
-from streetsim.works.closures import Closure, closures_of, link_seconds
+from streetsim.works.closures import Closure, closures_of
 from streetsim.works.crowding import beyond_joint, crowded
 from streetsim.works.figures import capacity_of, length_at, periods_of, rows, Period
 from streetsim.works.movements import lost_movements, told_of, waiting
@@ -159,7 +159,6 @@ class Asked(unittest.TestCase):
         timed = [(clock, Line(0, "", {"cmd": cmd, "link": at, **place})) for clock, cmd, at in told]
         run = Run("x", Line(1, "", {}), timed=timed)
         self.assertEqual(closures_of(run, 100), [Closure(0, 0, 1, 5, 10, 30), Closure(1, 0, 1, 5, 20, 100)])
-        self.assertEqual([link_seconds(closures_of(run, 100), clock) for clock in (0, 25, 50)], [100, 80, 50])
 
 
 def run_of(plans, turns=(), first=()):

@@ -6,7 +6,7 @@ from collections.abc import Iterable, Iterator, Mapping
 from dataclasses import dataclass, field
 from functools import cached_property
 from itertools import pairwise
-from math import ceil, inf
+from math import ceil
 from typing import Any
 
 from streetsim.actuated.detectors import GAP, LEAD, NO_DETECTOR, Layout, LitLane, Spot, Stretch, Way, extending, spots
@@ -20,7 +20,6 @@ from streetsim.model.mapping import Map
 from streetsim.model.runs import Run
 
 ACTUATED, NEMA = "actuated", "NEMA"  # the kinds of programs that are driven
-SHARE = 0.5  # of the program's calls, that lights may take
 NUMBERS = ("max-gap", "detector-gap", "passing-time")
 ZERO = ("detector-length", "jam-threshold")  # parameters that are driven where they are 0 or less
 UNLIKE = ("linkMaxDur", "linkMinDur", "vTypes", "coordinated")  # others that change when SUMO's phases end
@@ -38,8 +37,6 @@ class Driven:
     gaps: tuple[float, ...]
     nodes: tuple[NodeOf, ...]
     areas: tuple[Area, ...] = ()  # it has detectors, which are read
-
-    calls = 1.0  # of the program, a second: reads of detectors and signals
 
     @property
     def longest(self) -> float:
@@ -59,11 +56,6 @@ class Lights:
 
     driven: tuple[Light, ...] = ()
     listed: Mapping[str, str] = field(default_factory=dict)  # of the others that SUMO times by detectors: why
-
-    @property
-    def calls(self) -> float:
-        """Of the program, a second."""
-        return 1 + sum(one.calls for one in self.driven) if self.driven else 0.0
 
     @cached_property
     def meters(self) -> int:
@@ -89,10 +81,9 @@ class Lights:
 LISTED = Lights()  # all go by their list
 
 
-def driven_lights(run: Run, mapping: Map, until: int, calls: int) -> Lights:
-    """Those that detectors drive in a run up to a clock, those first that most vehicles pass, as far as there are
-    meters, as counts have others in further runs, and calls (0: any number)."""
-    spare = SHARE * calls / (until - run.start()) if calls else inf  # calls a second
+def driven_lights(run: Run, mapping: Map) -> Lights:
+    """Those that detectors drive in a run, those first that most vehicles pass, as far as there are meters, as counts
+    have others in further runs."""
     timed = {line.command["node"] for _, line in run.timed if line.command["cmd"] == "signal"}
     kept, left = {one["light"]: one for one in mapping.programs}, limits.METERS - len(mapping.detectors)
     driven: list[Light] = []
@@ -103,11 +94,9 @@ def driven_lights(run: Run, mapping: Map, until: int, calls: int) -> Lights:
             if any(node in timed for name, node in mapping.signals if name == light):
                 raise Listed("as lines of the run change their plans")
             found = driven_of(kept_of(kept, light), mapping)
-            if found.calls > spare:
-                raise Listed("as the program takes no more calls")
             if len(found.cells) > left:
                 raise Listed(f"as no more than {limits.METERS:,} detectors are to be had")
-            left, spare = left - len(found.cells), spare - found.calls
+            left -= len(found.cells)
             driven.append(found)
         except Listed as why:
             listed[light] = str(why)

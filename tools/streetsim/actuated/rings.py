@@ -31,7 +31,6 @@ class DrivenRings:
     cells: tuple[Cell, ...] = ()  # of detectors: it has areas, which are looked at
     offset: int = 0
 
-    calls = 2.0  # of the program, a second: looks at lanes and signals
 
     @property
     def longest(self) -> float:

@@ -244,13 +244,9 @@ def help_of(program: str) -> str:
     return subprocess.run(words, stdin=subprocess.DEVNULL, capture_output=True, text=True, check=False).stdout
 
 
-def most_calls(program: str) -> int:
-    """The most calls that a run of the program may have, if its help says that it counts them; else 0."""
-    return limits.CALLS if "--calls" in help_of(program) else 0
-
-
-def words_of(program: str, calls: int, keep: str | PathLike[str] | None = None) -> list[str]:
-    """The words by which a program takes so many calls, or any number of them (0), and keeps its session in a file."""
+def words_of(program: str, calls: int = 0, keep: str | PathLike[str] | None = None) -> list[str]:
+    """The words by which a program takes any number of calls, or so many, or any number and keeps its session in a
+    file."""
     if keep is not None:
         return [program, "--keep", fspath(keep)]
     if calls:
@@ -261,22 +257,20 @@ def words_of(program: str, calls: int, keep: str | PathLike[str] | None = None) 
 class Client:
     """One run of the program, over pipes. Methods raise what was refused; `batch` gives refusals as values.
 
-    The program is the one given, else the one that STREETSIM_PROGRAM names. Where it counts calls, as many as there may
-    be are asked for: polling uses many. With `calls=0` there is no end of them. With `keep` there is none either, and
-    the session is kept in that file and goes on where it was left there: what is loaded, and who is on the way. What a
-    caller knows beside it is the caller's.
+    The program is the one given, else the one that STREETSIM_PROGRAM names. Its calls have no end; with `calls` there
+    are so many, and later ones are refused as Full. With `keep` the session is kept in that file and goes on where it
+    was left there: what is loaded, and who is on the way. What a caller knows beside it is the caller's.
     """
 
     def __init__(
         self,
         program: str | None = None,
         workers: int = 1,
-        calls: int | None = None,
+        calls: int = 0,
         keep: str | PathLike[str] | None = None,
     ) -> None:
         program = find_program(program)
-        self.calls = 0 if keep is not None else most_calls(program) if calls is None else calls
-        words = words_of(program, self.calls, keep) + (["--workers", str(workers)] if workers != 1 else [])
+        words = words_of(program, calls, keep) + (["--workers", str(workers)] if workers != 1 else [])
         self.errors = tempfile.TemporaryFile()
         self.ended: tuple[int, str] | None = None
         self.process = subprocess.Popen(

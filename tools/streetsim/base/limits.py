@@ -20,7 +20,6 @@ METERS = 1_024  # detectors
 PERIOD = 100_000  # steps of a detector's row
 ROWS = 32  # that a detector keeps
 LINE = 1_048_576  # bytes
-CALLS = 1_000_000  # of one run, where the program counts them
 
 
 def cells_of(metres: float) -> int:

@@ -1,14 +1,18 @@
 """streetsim-live: a page that runs a simulation."""
+import argparse
 import contextlib
 import sys
 import webbrowser
+from pathlib import Path
 
 from streetsim.base.files import Fault, whole_file
+from streetsim.base.program import find_program
 from streetsim.base.words import Parser, listed, within
 from streetsim.live.bridge import HOST, Bridge
 from streetsim.live.engine import Engine
 from streetsim.live.joining import Joining
-from streetsim.live.programs import NATIVE, VARIABLE, is_built, module_of, program_of
+from streetsim.live.kept import KeptEngine
+from streetsim.live.programs import NATIVE, VARIABLE, is_built, is_whole_built, module_of, program_of
 from streetsim.model.runs import read_with_map
 
 PROVED = "The program is proved"
@@ -36,8 +40,23 @@ def parser() -> Parser:
     )
     made.add_argument("--port", type=within(0, 65_535), default=0, help="of the address (default: one that is free)")
     made.add_argument("--no-open", action="store_true", help="print the address and open no browser")
+    made.add_argument(
+        "--keep",
+        metavar="FILE",
+        help="keep the session in FILE and FILE.page, and go on where it was left, whatever ended; the program is then "
+        "streetsim itself (--program, else $STREETSIM_PROGRAM)",
+    )
     made.add_argument("-o", "--output", help="write one file (.html) with the engine inside, for Chromium and its kin")
     return made
+
+
+def engines_of(words: argparse.Namespace, lines: list[bytes], start: int) -> list[Engine]:
+    """Of the traffic as it is, which may be kept, and as it was without changes."""
+    if not words.keep:
+        program = program_of(words.program)
+        return [Engine(program, lines), Engine(program, lines)]
+    program = find_program(words.program)
+    return [KeptEngine(program, lines, Path(words.keep), start), Engine(program, lines)]
 
 
 def serve(bridge: Bridge, opens: bool) -> None:
@@ -51,8 +70,11 @@ def serve(bridge: Bridge, opens: bool) -> None:
 
 def main(arguments: list[str]) -> int:
     words = parser().parse_args(arguments)
-    proved = is_built(words.program, bool(words.output))
-    joining = Joining(*read_with_map(words.run, words.map), words.map, proved, tuple(listed(words.joint)))
+    if words.keep and words.output:
+        raise Fault("--keep is of a page that is served, and -o writes one file")
+    kept = find_program(words.program) if words.keep else ""
+    proved = is_whole_built(kept) if kept else is_built(words.program, bool(words.output))
+    joining = Joining(*read_with_map(words.run, words.map), words.map, proved, bool(kept), tuple(listed(words.joint)))
     page, lines, told = joining.page(module_of(words.program) if words.output else None)
     print(*told, sep="\n", end="\n" if told else "", file=sys.stderr)
     if words.output:
@@ -60,10 +82,9 @@ def main(arguments: list[str]) -> int:
             file.write(page.decode())
         print(f"{len(page):,} bytes, for Chromium and its kin. {PROVED if proved else GIVEN}; {CLAIM}")
         return 0
-    program = program_of(words.program)
-    engines = [Engine(program, lines) for _ in ("as it is", "as it was")]
+    engines = engines_of(words, lines, joining.run.start())
     try:
-        with Bridge(engines, page, words.port, joining.join) as bridge:
+        with Bridge(engines, page, words.port, None if words.keep else joining.join) as bridge:
             serve(bridge, not words.no_open)
     except OSError as fault:
         raise Fault(f"--port {words.port} of {HOST}: {fault.strerror}") from None

@@ -29,14 +29,14 @@ def add_looks(made: argparse.ArgumentParser) -> None:
         "--until",
         type=time_within(1, limits.CLOCK),
         metavar="S",
-        help="the clock at the end (default: when all have arrived, no vehicle has changed its cell for longer than "
-        "the longest cycle, or the calls are spent)",
+        help="the clock at the end (default: when all have arrived, or no vehicle has changed its cell for longer than "
+        "the longest cycle)",
     )
     made.add_argument(
         "--every",
         type=time_within(0, limits.CLOCK),
         metavar="S",
-        help="seconds between polls of the lanes; 0: never (default: 10, or more where the calls do not allow that)",
+        help="seconds between polls of the lanes; 0: never (default: 10)",
     )
     made.add_argument(
         "--period",
@@ -66,12 +66,6 @@ def add_looks(made: argparse.ArgumentParser) -> None:
 
 def add_seeds(made: argparse.ArgumentParser) -> None:
     """The words that say how much is run."""
-    made.add_argument(
-        "--calls",
-        type=within(1, limits.CALLS),
-        metavar="N",
-        help="take at most so many calls of the program (default: all)",
-    )
     made.add_argument(
         "--seeds", metavar="FIRST-LAST", help="run each of these seeds, side by side, into folders of their own"
     )

@@ -7,7 +7,7 @@ from dataclasses import replace
 
 from streetsim.actuated.lights import driven_lights
 from streetsim.base import program
-from streetsim.base.client import Census, most_calls
+from streetsim.base.client import Census
 from streetsim.base.files import Fault, whole_folder
 from streetsim.base.jobs import side_by_side
 from streetsim.base.progress import UnderWay
@@ -20,6 +20,7 @@ from streetsim.model.runs import Run, read_with_map, seeded
 from streetsim.model.tables import PHASES_FILE, SEEDS, WORKS_FILE, write_table
 from streetsim.outputs.folder import Figures, Making, first_poll, one_run
 from streetsim.outputs.kinds import KINDS
+from streetsim.run.asking import told_of_polls
 from streetsim.run.ending import first_guess
 from streetsim.run.settings import Settings
 from streetsim.works.asked import all_works
@@ -47,8 +48,9 @@ def run_by(words: argparse.Namespace) -> int:
         refuse_no_poll(settings, run.start())
     making = making_of(words)
     if words.lights == "actuated" and mapping.actuated:
-        calls = settings.calls or most_calls(making.program)
-        settings = replace(settings, lights=driven_lights(run, mapping, settings.until, calls))
+        settings = replace(settings, lights=driven_lights(run, mapping))
+    if told_of := told_of_polls(run, mapping, settings):
+        print(told_of, file=sys.stderr)
     if words.seeds:
         return run_seeds(words, making, run, mapping, settings)
     shown = UnderWay(settings.until)
@@ -66,7 +68,6 @@ def settings_of(words: argparse.Namespace, run: Run) -> Settings:
         period=words.period,
         rescue=words.rescue,
         edges=tuple(listed(words.edges)),
-        calls=words.calls,
         all_counted=words.counted == "all",
         open_end=words.until is None,
         merging=words.merge == "turns",

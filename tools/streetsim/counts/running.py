@@ -45,7 +45,7 @@ def ran(ground: Ground, loaded: Loaded, expected: Costs, seed: int) -> Ran:
             records = watcher.record()
     except (Refused, Starved, NoReply, ProgramEnded) as fault:
         raise Fault(f"a run with seed {seed}: {fault}") from None
-    passes = Passes(ground.graph, mapping, expected, run.load.command["dawdle"] / 1000, watcher.every)
+    passes = Passes(ground.graph, mapping, expected, run.load.command["dawdle"] / 1000)
     observed = nothing_observed(len(ground.graph.movements), ground.slices)
     left, ends = [], []
     for line, sights, last in zip(run.enters, watcher.seen, records.ends, strict=True):

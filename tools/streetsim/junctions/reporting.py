@@ -10,10 +10,9 @@ from streetsim.junctions.rows import Tables
 from streetsim.junctions.sampling import Sampled, moments
 from streetsim.model.names import Names
 from streetsim.run.records import Recorded, Records
-from streetsim.run.watching import watch, windows
+from streetsim.run.watching import watch
 
-# At most so many further runs look at every second; where these are too few, looks are at random moments.
-EXACT_RUNS = 8
+MOST_LOOKS = 8_000_000  # at a lane in every second of a run; where there would be more, they are at random moments
 
 
 def write_junctions(made: Recorded, interval: int) -> tuple[list[str], list[str]]:
@@ -23,7 +22,7 @@ def write_junctions(made: Recorded, interval: int) -> tuple[list[str], list[str]
     approaches = approaches_of(made.mapping)
     lanes = places_of(approaches, made.mapping)
     clocks: Sequence[int] = range(start + 1, until + 1)
-    exact = len(windows(made, clocks, lanes)) <= EXACT_RUNS
+    exact = len(clocks) * len(lanes) <= MOST_LOOKS
     seen: Passages | Sampled
     if exact:
         seen = Passages(made.mapping, approaches, start)
@@ -45,7 +44,7 @@ def write_junctions(made: Recorded, interval: int) -> tuple[list[str], list[str]
     told = (
         []
         if exact
-        else ["junctions: lanes are looked at at random moments, as the program takes no more calls (error_s)"]
+        else ["junctions: lanes are looked at at random moments, as every second would be too many looks (error_s)"]
     )
     if found := facing(made.mapping, plans, (until - start) / 3600):
         told.append(f"junctions: delays are too small where minor streets wait for each other: {some(found)}")

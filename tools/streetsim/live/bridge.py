@@ -12,16 +12,18 @@ import threading
 from collections.abc import Callable, Iterable, Sequence
 from http import HTTPStatus
 from http.server import BaseHTTPRequestHandler, ThreadingHTTPServer
+from typing import Any
 
 from streetsim.base.client import ProgramEnded
 from streetsim.base.files import Fault
 from streetsim.live.engine import Engine
+from streetsim.live.kept import KeptEngine
 
 HOST = "127.0.0.1"
 MOST_LINE = 1 << 20  # bytes: streetsim answers a longer line by a fault
 MOST_BODY = 8 << 20  # bytes of one request
 HEARD_EVERY = 1.0  # seconds between the bytes by which the bridge notices that its page is gone
-VERBS = ("begin", "lines", "stay", "take", "leave", "join")
+VERBS = ("begin", "lines", "stay", "take", "leave", "join", "known", "know", "settle")
 Join = Callable[[Iterable[str]], tuple[bytes, list[bytes]]]  # the page and a run's own lines with some lanes joint
 POLICY = (
     "default-src 'none'; script-src 'unsafe-inline'; style-src 'unsafe-inline'; img-src data: blob:; connect-src 'self'"
@@ -69,7 +71,10 @@ class Bridge(ThreadingHTTPServer):
     def join_lanes(self, names: Iterable[str]) -> None:
         """Has the run imported anew with more lanes joint: for the page when it is loaded again."""
         if self.join is None:
-            raise Refusal(HTTPStatus.NOT_FOUND, "this run is not imported anew")
+            raise Refusal(
+                HTTPStatus.NOT_FOUND,
+                "a session that is kept stays as it was imported: start streetsim-live with --joint and another file",
+            )
         self.page, lines = self.join(names)
         for engine in self.engines:
             engine.take(lines)
@@ -93,7 +98,8 @@ class Bridge(ThreadingHTTPServer):
 class Handler(BaseHTTPRequestHandler):
     """A request: GET /TOKEN/ is the page; POST /TOKEN/PAGE/VERB is what the page of that name sends. begin and lines go
     to an engine, which a number behind them names; stay is answered for as long as the page is the one that is served;
-    take makes it that one in the place of another; join has lanes joint, which the request names."""
+    take makes it that one in the place of another; join has lanes joint, which the request names. Of a session that is
+    kept known tells the changes and the clock, know keeps changes, and settle ends what `anew` of begin has begun."""
 
     protocol_version = "HTTP/1.1"
     # An answer goes out at once and in one piece: the system else holds the second piece back for 40 ms.
@@ -149,7 +155,7 @@ class Handler(BaseHTTPRequestHandler):
             self.server.take(name, True)
         elif verb == "begin":
             self.server.take(name)
-            return b"".join(engine.begin()), "text/plain"
+            return b"".join(engine.begin(body == b"anew")), "text/plain"
         else:
             self.server.check_owner(name)
             if verb == "lines":
@@ -157,7 +163,23 @@ class Handler(BaseHTTPRequestHandler):
             if verb == "stay":
                 self.stay(name)
                 return None
-            self.server.join_lanes(body.decode(errors="replace").split())
+            if verb == "join":
+                self.server.join_lanes(body.decode(errors="replace").split())
+                return b"", "text/plain"
+            return self.keeping(verb, engine, body)
+        return b"", "text/plain"
+
+    def keeping(self, verb: str, engine: Engine, body: bytes) -> tuple[bytes, str]:
+        """What a page asks of a session that is kept."""
+        if not isinstance(engine, KeptEngine):
+            raise Refusal(HTTPStatus.NOT_FOUND, "this session is not kept")
+        if verb == "known":
+            return json.dumps(engine.known()).encode(), "application/json"
+        changes = changes_of(body)
+        if verb == "know":
+            engine.know(changes)
+        else:
+            engine.settle(changes)
         return b"", "text/plain"
 
     def stay(self, name: str) -> None:
@@ -203,6 +225,17 @@ class Handler(BaseHTTPRequestHandler):
 
     def log_message(self, *_arguments: object) -> None:
         """Requests are told nowhere."""
+
+
+def changes_of(body: bytes) -> list[Any]:
+    """The changes of a page, a list of JSON."""
+    try:
+        changes = json.loads(body)
+    except ValueError:
+        changes = None
+    if not isinstance(changes, list):
+        raise Refusal(HTTPStatus.BAD_REQUEST, "changes are a list")
+    return changes
 
 
 def lines_of(body: bytes) -> list[bytes]:

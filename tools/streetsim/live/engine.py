@@ -15,12 +15,11 @@ class Engine:
         self.lock = threading.Lock()
         self.client: Client | None = None
 
-    def begin(self) -> list[bytes]:
-        """Starts anew; gives the replies to the run's lines."""
+    def begin(self, anew: bool = False) -> list[bytes]:
+        """Starts from nothing; gives the replies to the run's lines."""
         with self.lock:
             self.stop()
-            # The program of a page counts no calls.
-            self.client = Client(self.program, calls=0)
+            self.client = Client(self.program)
             return list(self.client.exchange(self.lines))
 
     def ask(self, lines: Iterable[bytes]) -> list[bytes]:

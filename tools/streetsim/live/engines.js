@@ -19,10 +19,15 @@ class BridgeEngine {
 
   async send(verb, body) { return (await (await this.answered(`${verb}/${this.which}`, body)).text()).split("\n").slice(0, -1); }
 
-  begin() { return this.send("begin", ""); }
+  begin(anew = false) { return this.send("begin", anew ? "anew" : ""); }
   ask(lines) { return this.send("lines", lines.join("\n") + "\n"); }
   take() { return this.answered("take", ""); }
   join(name) { return this.answered("join", name); }
+
+  // Of a session that is kept: what it was so far; the changes, before their lines are sent; and that all was run anew, with these changes.
+  async known() { return (await this.answered("known/0", "")).json(); }
+  know(changes) { return this.answered("know/0", JSON.stringify(changes)); }
+  settle(changes) { return this.answered("settle/0", JSON.stringify(changes)); }
 
   // Until this page is no longer the one that the bridge serves.
   async stay() { try { await (await this.answered("stay", "")).text(); } catch { /* the bridge has ended */ } }

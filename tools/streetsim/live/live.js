@@ -127,8 +127,13 @@ async function start() {
 
 async function begin(now) {
   const refused = await session.begin();
+  if (session.isKept) {
+    at("told").textContent = "What was kept of this session is done again, which takes as long as its steps.";
+    await session.goOn();
+  }
   await session.look();
   now.takeCars(false); now.note(null);
+  if (session.isKept) await worlds.follow();
   at("fault").textContent = refused;
   at("take").hidden = true;
   watchButtons();

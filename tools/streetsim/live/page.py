@@ -57,11 +57,11 @@ def nodes_of(run: Run, mapping: Map, areas: dict[str, list]) -> list[dict[str, A
 
 
 def data_of(
-    run: Run, mapping: Map, single: bool = False, map_path: FilePath = "", proved: bool = False
+    run: Run, mapping: Map, single: bool = False, map_path: FilePath = "", proved: bool = False, kept: bool = False
 ) -> dict[str, Any]:
     """What the page knows of a run beside the replies: names, shapes, turns,
     signal plans and the lines that are sent later. single: whether it is one file; proved: whether its program is the
-    one that ./build made."""
+    one that ./build made; kept: whether the bridge keeps its session."""
     streets, areas = streets_and_areas(mapping, map_path) if map_path else ({}, {})
     departs, free = departures_and_ends(run, mapping)
     return {
@@ -79,6 +79,7 @@ def data_of(
         "yields": len(mapping.yields),
         "single": single,
         "proved": proved,
+        "kept": kept,
     }
 
 
@@ -88,10 +89,11 @@ def packed(value: bytes) -> str:
 
 
 def page_of(
-    run: Run, mapping: Map, engine: bytes | None = None, map_path: FilePath = "", proved: bool = False
+    run: Run, mapping: Map, engine: bytes | None = None, map_path: FilePath = "", proved: bool = False,
+    kept: bool = False,
 ) -> bytes:
     """The page: with an engine it is one file that runs by itself; else it asks the bridge that serves it."""
-    known = data_of(run, mapping, engine is not None, map_path, proved)
+    known = data_of(run, mapping, engine is not None, map_path, proved, kept)
     parts = {
         "@DATA@": packed(json.dumps(known, separators=(",", ":")).encode()),
         "@LINES@": packed(b"".join(own_lines(run))),

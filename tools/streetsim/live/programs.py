@@ -2,6 +2,7 @@
 import os
 from pathlib import Path
 
+from streetsim.base import program as program_built
 from streetsim.base.files import Fault
 
 VARIABLE = "STREETSIM_PAGE"
@@ -15,8 +16,7 @@ def beside(name: str) -> Path:
 
 
 def program_of(given: str | None) -> str:
-    """The path of the page's program, the one given or the one named or built; Fault where it cannot be run. It counts
-    no calls, as streetsim itself does."""
+    """The path of the page's program, the one given or the one named or built; Fault where it cannot be run."""
     named = given or os.environ.get(VARIABLE) or str(beside(NATIVE))
     if not os.access(named, os.X_OK):
         raise Fault(
@@ -33,6 +33,11 @@ def module_of(given: str | None) -> bytes:
         return path.read_bytes()
     except OSError as fault:
         raise Fault(f"{path}: {fault.strerror}: ./build --page in streetsim's repository makes it") from None
+
+
+def is_whole_built(program: str) -> bool:
+    """Whether a program is the one that ./build made, which is proved."""
+    return Path(program).resolve() == Path(__file__).resolve().parents[3] / program_built.BUILT
 
 
 def is_built(given: str | None, as_module: bool) -> bool:

@@ -23,14 +23,15 @@ const CHANGING = new Set(["signal", "close", "reopen", "takeout"]); // commands 
 class Session {
   constructor(engine, data, own) {
     this.engine = engine; this.data = data; this.own = own;
+    this.isKept = Boolean(data.kept) && engine.which === 0; this.isAgain = false; // doing what was done before
     this.joint = new Map(data.links.filter(link => link.lanes === 2).map(link => [link.number, link.cells]));
     this.lanes = data.links.flatMap(link => Array.from({ length: link.lanes }, (_, lane) => ({ link, lane, ask: JSON.stringify({ cmd: "lane", link: link.number, lane }), state: null, seen: -1 })));
     this.changes = []; // {text, made: clock, commands: [{clock, command}]}, in the order of their making
   }
 
   // From nothing: the run's own lines. Gives the first refusal in words, or nothing.
-  async begin() {
-    const replies = (await this.engine.begin()).map(reply => JSON.parse(reply));
+  async begin(anew = false) {
+    const replies = (await this.engine.begin(anew)).map(reply => JSON.parse(reply));
     this.clock = this.data.start; this.timed = 0; this.turn = 0;
     this.merges = new Merges(this.joint);
     for (const command of this.data.works) this.merges.done(this.clock, command);
@@ -156,6 +157,7 @@ class Session {
     const now = commands.filter(one => one.clock <= this.clock), later = commands.filter(one => one.clock > this.clock);
     const done = [];
     let reply = {};
+    await this.know([...this.changes, { text, made: this.clock, commands }]);
     for (const { command } of now) {
       reply = await this.tell(command);
       if (refusalOf(reply)) break;
@@ -164,6 +166,7 @@ class Session {
     const coming = refusalOf(reply) ? [] : later;
     if (done.length + coming.length) this.changes.push({ text, made: this.clock, commands: [...done, ...coming] });
     this.pending = [...this.pending, ...coming].sort((one, other) => one.clock - other.clock);
+    if (refusalOf(reply)) await this.know(this.changes);
     return reply;
   }
 
@@ -191,14 +194,31 @@ class Session {
   without(undone) { return this.anew(this.changes.filter(change => change !== undone), this.clock); }
 
   async anew(changes, target) {
-    await this.begin();
-    for (const change of changes) {
-      await this.run(change.made);
-      await this.change(change.text, change.commands);
-    }
-    await this.run(target);
+    await this.begin(this.isKept);
+    await this.again(changes, target);
+    if (this.isKept) await this.engine.settle(this.changes);
     await this.look();
   }
+
+  async again(changes, target) {
+    this.isAgain = true;
+    try {
+      for (const change of changes) {
+        await this.run(change.made);
+        await this.change(change.text, change.commands);
+      }
+      await this.run(target);
+    } finally { this.isAgain = false; }
+  }
+
+  // A session that is kept goes on where it was left: what was done is done again, and the bridge sends no line twice.
+  async goOn() {
+    const { changes, clock } = await this.engine.known();
+    await this.again(changes, clock);
+  }
+
+  // Has the bridge keep what the page knows of a session, before lines of it are sent.
+  async know(changes) { if (this.isKept && !this.isAgain) await this.engine.know(changes); }
 
   async run(clock) { if (clock > this.clock) await this.advance(clock - this.clock); }
 

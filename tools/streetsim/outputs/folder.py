@@ -24,7 +24,7 @@ from streetsim.model.sources import digest_of
 from streetsim.model.tables import Entry, write_table
 from streetsim.outputs.writing import Outputs
 from streetsim.run import rows
-from streetsim.run.budget import INTERVALS, Budget
+from streetsim.run.asking import repeated
 from streetsim.run.record import Recorder, Repeater
 from streetsim.run.records import Recorded, Records, Tell
 from streetsim.run.rounds import Yielding, giving_way, with_lines
@@ -78,10 +78,8 @@ def one_run(making: Making, run: Run, mapping: Map, settings: Settings, folder: 
     with whole_file(f"{folder}/lanes.jsonl.gz") as lanes_file, start() as sim:
         recorder = Recorder(sim, run, mapping, settings, lanes_file, tell)
         records = recorder.record()
-    repeated = replace(run, timed=records.sent)
-    made = Recorded(
-        repeated, mapping, replace(recorder.settings, lights=LISTED), records, start, folder, making.jobs
-    )
+    sent = replace(run, timed=records.sent)
+    made = Recorded(sent, mapping, replace(recorder.settings, lights=LISTED), records, start, folder, making.jobs)
     count_further(made)
     trips = list(rows.trips(records, run, mapping))
     if making.kinds:
@@ -156,8 +154,7 @@ def count_further(made: Recorded) -> None:
     def repeat(lanes: Sequence[Place], _tell: object) -> Records:
         with made.serving() as sim:
             repeater = Repeater(sim, made.run, made.mapping, settings)
-            budget, most = Budget(made.run, settings, lanes, (), ()), settings.calls or sim.calls
-            return repeater.record(first, budget.repeated(lanes, len(first.rescued), most), lambda clock: None)
+            return repeater.record(first, repeated(settings, lanes), lambda clock: None)
 
     for records in side_by_side(repeat, first.asking.further, made.jobs):
         first.counts.update(records.counts)
@@ -173,13 +170,8 @@ def notes(made: Recorded) -> Iterator[str]:
             f"counts: {records.uncounted:,} lanes have no detector, a run takes {limits.METERS:,}; those on most plans "
             "have one (--counted all counts all)"
         )
-    if made.settings.every is None and every != INTERVALS[0]:
-        often = f"every {every:,} s" if every else "never"
-        yield f"lanes are polled {often}, as the program takes no more calls"
     if (first := first_poll(every, made.run.start())) > records.clock:
         yield f"lanes were never polled: the run ended at {records.clock:,} s, and the first poll is at {first:,} s"
-    if records.unpolled:
-        yield f"{records.unpolled:,} polls of the lanes were left out, as rescues took the calls"
     if records.unsent:
         yield f"{records.unsent:,} lines were not sent, as their clock is after --until"
 

@@ -4,6 +4,7 @@ from typing import NamedTuple
 
 from streetsim.model.freeflow import FreeFlow
 from streetsim.model.mapping import Map
+from streetsim.run.asking import MINUTE
 from streetsim.ways.costs import Costs, Table
 from streetsim.ways.graph import END, Graph
 
@@ -33,10 +34,9 @@ class Passes:
     """What was lost between two sights of a vehicle is dealt to the movements between them by the delays
     that are expected there."""
 
-    def __init__(self, graph: Graph, mapping: Map, costs: Costs, dawdle: float, every: int) -> None:
-        """costs: what is expected; dawdle: a chance, 0 to 1; every: seconds from one time at which vehicles are seen to
-        the next."""
-        self.graph, self.every = graph, every
+    def __init__(self, graph: Graph, mapping: Map, costs: Costs, dawdle: float) -> None:
+        """costs: what is expected; dawdle: a chance, 0 to 1."""
+        self.graph = graph
         self.edges = [graph.number[link.edge] for link in mapping.links]
         free = FreeFlow(mapping, dawdle)
         self.driving, self.crossing = free.driving, free.crossing
@@ -72,7 +72,7 @@ class Passes:
         """The clock at which a vehicle came on the road: its wished departure, or later as it was not seen before."""
         if not seen or seen[0].link != plan[0]:
             return float(depart)
-        before = (seen[0].clock - 1) // self.every * self.every
+        before = (seen[0].clock - 1) // MINUTE * MINUTE
         return float(depart) if depart >= before else max(float(before), seen[0].clock - seen[0].driven)
 
     def between(self, plan: Sequence[int], sooner: Point, later: Point) -> list[float]:

@@ -6,7 +6,6 @@ from dataclasses import dataclass, replace
 from functools import partial
 from itertools import pairwise
 
-from streetsim.base import limits
 from streetsim.base.client import Client, Lane, NoReply, ProgramEnded, Refused, Starved, Vehicle
 from streetsim.base.files import Fault
 from streetsim.base.serving import serving
@@ -16,20 +15,15 @@ from streetsim.model.mapping import Map, Place
 from streetsim.model.runs import Run, seeded
 from streetsim.routes.giving import Passed, named, waiting_lines
 from streetsim.routes.passes import Passes, Sight
-from streetsim.run.budget import INTERVALS, MINUTE, SLACK, Asking
+from streetsim.run.asking import EVERY, MINUTE, Asking
 from streetsim.run.passings import Passings
 from streetsim.run.record import Recorder
 from streetsim.run.records import Records
 from streetsim.run.rounds import gaps_of, places_of, with_lines
 from streetsim.run.settings import Settings
-from streetsim.sessions.giving import ADVICE
 from streetsim.ways.costs import Costs, Observed, nothing_observed
 from streetsim.ways.graph import Graph
 from streetsim.works.watched import doubts_of
-
-ASKED = (1, 2, 3, 5, 10, 15, 30, 60)  # minutes from one time at which vehicles are looked for to the next
-CROWDED = 2.0  # vehicles are on their way so much longer than alone on the road
-COARSEST = 120  # seconds from one look at those who go first to the next
 
 
 @dataclass(frozen=True, slots=True)
@@ -85,115 +79,35 @@ class Watcher(Recorder):
         self.driving = driving
         self.scale = [seconds / link.cells for seconds, link in zip(driving, mapping.links, strict=True)]
         self.seen: list[list[Sight]] = [[] for _ in run.enters]
-        self.most = sim.calls or limits.CALLS
-        self.every, self.by_lane, self.watches = self.way_to_look()
-        self.often = self.way_to_look_first() if self.first else 0
-        # By (vehicle, link) at whose end it stood at the last look: car, since when.
-        self.stood: dict[tuple[int, int], tuple[int, int]] = {}
 
-    def way_to_look(self) -> tuple[int, bool, int]:
-        """The seconds from one look to the next; whether all lanes are asked for, which is done where the calls allow
-        it each minute, and not all vehicles on their way; and the lanes that may then be watched for rescues each
-        minute. Fault where the calls allow neither."""
-        left, minutes = self.left(), self.budget.minutes
-        if minutes * (len(self.places) + 1) <= left:
-            return MINUTE, True, 0
-        driven = sum(self.free_flow(line.command["plan"]) for line in self.run.enters)
-        for often in ASKED:
-            looks = int(CROWDED * driven / (often * MINUTE)) + len(self.run.enters)
-            if looks + minutes <= left:
-                return often * MINUTE, False, (left - looks) // minutes
-        raise self.too_many("an earlier --until")
-
-    def left(self) -> int:
-        """Calls for looks at vehicles, beside the fewest that those who go first need."""
-        return self.most - self.budget.base(0) - SLACK - self.budget.steps // COARSEST * len(self.first)
-
-    def way_to_look_first(self) -> int:
-        """The seconds from one look at those who go first to the next, as few as the calls allow."""
-        if not self.by_lane:
-            return COARSEST
-        steps, lanes = self.budget.steps, len(self.first)
-        spare = self.left() + steps // COARSEST * lanes - self.budget.minutes * (len(self.places) + 1)
-        return next(
-            (every for every in INTERVALS if 0 < every < COARSEST and steps // every * lanes <= spare), COARSEST
-        )
-
-    def too_many(self, advice: str) -> Fault:
-        """The Fault of a run that takes more calls than there are."""
-        return Fault(
-            f"{len(self.run.enters):,} vehicles up to {self.settings.until:,} s take more calls than the {self.most:,} "
-            f"of the program: take fewer trips, or {advice}"
-        )
+    def asking(self) -> Asking:
+        """A look at all lanes each minute, and more often at those of who goes first."""
+        return Asking(EVERY if self.first else MINUTE, [], 0)
 
     def record(self) -> Records:
-        """Makes the whole run, with its own way to look."""
-        asking = Asking(self.often or self.every * self.by_lane, self.by_lane, [], 0)
-        self.budget.asking = lambda most: asking  # type: ignore[assignment]  # what this run asks is known
+        """Makes the whole run."""
         records = super().record()
-        if self.often:
-            for owner, end in self.ended.items():
-                if end.state == "arrived" and end.step is not None:
+        if self.first:
+            for owner, end in enumerate(records.ends):
+                if end and end.state == "arrived" and end.step is not None:
                     self.passings.arrived(owner, end.step)
         return records
 
     def look(self, clock: int) -> None:
         """All that is asked at a clock; ends the run where all have ended."""
-        if self.often:
-            self.polled = self.places if self.by_lane and clock % MINUTE == 0 else self.first
-        if not self.by_lane and clock % self.every == 0:
-            self.ask_all(clock)
+        if self.first:
+            self.polled = self.places if clock % MINUTE == 0 else self.first
         super().look(clock)
         census = self.records.censuses[-1] if self.records.censuses else None
         if census and census.clock == clock and self.entered == len(self.run.enters):
             if census.arrived + census.taken == census.admitted:
                 self.end_at(clock)
 
-    def ask_all(self, clock: int) -> None:
-        """Asks all vehicles on their way where they are, and watches the lanes at whose ends
-        some stand at two looks."""
-        under_way = [owner for owner in range(self.entered) if owner not in self.ended]
-        stood, self.stood = self.stood, {}
-        for owner, reply in zip(under_way, self.vehicles(under_way), strict=True):
-            if reply.state == "arrived":
-                self.ended[owner] = reply
-            elif reply.state in ("cell", "buffer"):
-                self.note_vehicle(clock, owner, reply)
-                if (
-                    reply.state == "buffer"
-                    or not reply.speed
-                    and reply.cell == self.mapping.links[reply.place[0]].cells - 1
-                ):
-                    self.note_standing(clock, owner, reply, stood)
-
-    def note_vehicle(self, clock: int, owner: int, reply: Vehicle) -> None:
-        """Notes where a vehicle of the file is, by its reply, on a lane or in a buffer."""
-        if reply.cell is not None and reply.speed is not None:
-            self.note(owner, clock, reply.place[0], reply.cell, reply.speed)
-        else:
-            self.note_at_end(owner, clock, reply.place[0])
-
-    def note_standing(self, clock: int, owner: int, reply: Vehicle, stood: dict) -> None:
-        """Notes a vehicle that stands at a link's end; one that stood there at the last look too (stood) has its lane
-        watched."""
-        key = owner, reply.place[0]
-        self.stood[key] = stood.get(key, (reply.car, clock))
-        if key in stood:
-            self.watched.add(reply.place)
-            self.standing.setdefault((reply.car, reply.place[0]), self.stood[key][1])
-
-    def ask_late(self, clock: int) -> None:
-        """Nothing: whoever stands is seen when all are looked for."""
-
-    def allowance(self, clock: int) -> int:
-        """Lanes that may be watched for rescues at this minute."""
-        return limits.CALLS if self.by_lane else self.watches
-
     def note_lanes(self, clock: int, lanes: Mapping[Place, Lane]) -> None:
         """Notes who is seen by a look at lanes, each minute or of those who go first."""
-        if self.by_lane and clock % MINUTE == 0:
+        if clock % MINUTE == 0:
             self.note_all(clock, lanes)
-        if self.often:
+        if self.first:
             self.note_passings(clock, lanes)
 
     def note_all(self, clock: int, lanes: Mapping[Place, Lane]) -> None:
@@ -231,10 +145,7 @@ def watched(ground: Ground, run: Run, mapping: Map, expected: Costs, seed: int, 
 def checked(ground: Ground, run: Run, mapping: Map, expected: Costs, seed: int) -> Outcome:
     """One run with a seed, by rounds with this seed alone, as streetsim-run makes them, and what it showed."""
     run, settings, serve = seeded(run, seed), Settings(ground.until), partial(serving, ground.program, run.path)
-    try:
-        lines, _ = gaps_of(run, mapping, settings, ground.rounds, serve, lambda *_: None)
-    except Fault as fault:
-        raise Fault(f"{fault}: {ADVICE}") from None
+    lines, _ = gaps_of(run, mapping, settings, ground.rounds, serve, lambda *_: None)
     return observed_run(ground, with_lines(run, lines), mapping, expected, seed)
 
 
@@ -248,7 +159,7 @@ def observed_run(ground: Ground, run: Run, mapping: Map, expected: Costs, seed: 
     except (Refused, Starved, NoReply, ProgramEnded) as fault:
         raise Fault(f"a run with seed {seed}: {fault}") from None
     after = resource.getrusage(resource.RUSAGE_CHILDREN)
-    passes = Passes(ground.graph, mapping, expected, run.load.command["dawdle"] / 1000, watcher.every)
+    passes = Passes(ground.graph, mapping, expected, run.load.command["dawdle"] / 1000)
     spent = after.ru_utime + after.ru_stime - before.ru_utime - before.ru_stime
     found = outcome_of(ground, run, passes, watcher.seen, records, spent, named(watcher.passings.found, mapping))
     return replace(found, at_works=tuple(doubts_of(records.works, mapping)))

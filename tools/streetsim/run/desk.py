@@ -11,7 +11,7 @@ from streetsim.base.files import Fault
 from streetsim.model.detectors import E1, Detector
 from streetsim.model.mapping import Map, Place
 from streetsim.model.runs import Command, Line, Run
-from streetsim.run.budget import Asking
+from streetsim.run.asking import Asking
 from streetsim.run.edgedata import Edgedata, Samples
 from streetsim.run.records import Records
 from streetsim.run.settings import Settings

@@ -1,4 +1,4 @@
-"""When a run ends that was given no last second: all have arrived, nobody moves any more, or the calls are spent."""
+"""When a run ends that was given no last second: all have arrived, or nobody moves any more."""
 import json
 from collections.abc import Iterable
 from functools import cached_property
@@ -14,11 +14,10 @@ from streetsim.run.settings import Settings
 HOUR = 3600  # seconds: how far the end is put off
 USUAL = 7200  # seconds from the last departure to the first guess of the end
 ALL = "all have arrived"
-MORE = 1.2  # calls of an hour, of those of a mean hour so far
 
 
 def first_guess(run: Run) -> int:
-    """A clock by which most runs have ended: calls are planned by it."""
+    """A clock by which most runs have ended."""
     last = max((line.command["depart"] for line in run.enters), default=0)
     return min(limits.CLOCK, max(last, run.start()) + USUAL)
 
@@ -33,10 +32,8 @@ class UnderWay(Protocol):
     start: int
     entered: int  # of the run's enters
     sent: int  # of its timed lines
-    most: int  # calls; 0: any number
 
     def lanes(self, wanted: Iterable[Place]) -> dict[Place, Lane]: ...
-    def spare(self, clock: int) -> int: ...
     def end_at(self, clock: int) -> None: ...
 
 
@@ -82,7 +79,6 @@ class Ending:
             return False
         if clock - self.since <= max(self.cycle, record.settings.lights.longest):
             return False
-        record.records.calls += 1
         found = record.lanes(record.places)
         stand = {
             place: ([row[:2] for row in one.cells], [row[0] for row in one.buffer]) for place, one in found.items()
@@ -93,11 +89,9 @@ class Ending:
         return clock - self.looked > max(self.cycle, record.settings.lights.longest)
 
     def put_off(self, record: UnderWay, clock: int) -> None:
-        """An hour more where there are calls for it, and clocks."""
-        settings, calls = record.settings, record.records.calls
-        hour = MORE * HOUR * calls / max(1, clock - record.start)
-        if clock + HOUR > limits.CLOCK or (record.most and record.spare(clock) < hour):
-            self.end(record, clock, "the calls of the run are spent")
+        """An hour more where there are clocks for it."""
+        if clock + HOUR > limits.CLOCK:
+            self.end(record, clock, "the clock goes no further")
         else:
             record.end_at(clock + HOUR)
 

@@ -12,10 +12,9 @@ from streetsim.model.freeflow import FreeFlow
 from streetsim.model.mapping import Map, Place
 from streetsim.model.runs import Command, Run
 from streetsim.model.tables import BEFORE_WORKS, STOP_LINE
-from streetsim.run.budget import MINUTE, Asking, Budget
+from streetsim.run.asking import MINUTE, Asking, asking_of
 from streetsim.run.desk import Desk
 from streetsim.run.ending import Ending
-from streetsim.run.late import Late
 from streetsim.run.records import Records, Tell
 from streetsim.run.settings import Settings
 from streetsim.run.worked import Works
@@ -43,18 +42,12 @@ class Recorder(Desk):
         self.lanes_file, self.tell = lanes_file, tell
         edges = set(settings.edges or mapping.links_of)
         self.polled = [place for place in self.places if mapping.links[place[0]].edge in edges]
-        self.budget = Budget(run, settings, self.places, self.polled, detectors)
         self.owners: list[int] = []  # the vehicle of the file by car number
         self.cars: dict[int, int] = {}  # its last number
         # By (car, link): the clock since which it stands at that link's end.
         self.standing: dict[tuple[int, int], int] = {}
-        self.watched: set[Place] = set()  # lanes that are polled each minute for rescues
-        self.polled_at: dict[Place, int] = {}  # when they last were
-        self.most = 0  # calls
         self.free_flow = FreeFlow(mapping, run.load.command.get("dawdle", 0) / 1000)
         self.ending = Ending(run)
-        self.late = Late(settings.rescue)
-        self.ended: dict[int, Vehicle] = {}  # those who have ended, by vehicle of the file
         self.records.areas = Areas([one for one in detectors if one.kind == E2], self.start)
         self.areas = {(one.link, one.lane) for one in self.records.areas.detectors}
         until = limits.CLOCK if settings.open_end else settings.until
@@ -65,11 +58,8 @@ class Recorder(Desk):
 
     def record(self) -> Records:
         """Makes the whole run."""
-        self.most = self.sim.calls if self.settings.calls is None else self.settings.calls
-        asking = self.budget.asking(self.most)
+        asking = self.asking()
         self.begin(asking)
-        if self.settings.rescue and asking.all_watched:
-            self.watched = set(self.places)
         clock = self.start
         while clock < self.settings.until:
             self.send_timed(clock)
@@ -77,7 +67,7 @@ class Recorder(Desk):
             clock = self.advance(clock, min((clock // step + 1) * step for step in steps))
             self.look(clock)
             self.tell(clock, self.records.censuses[-1] if self.records.censuses else None)
-        self.find_ends()
+        self.records.ends = self.found_ends()
         self.records.phases = self.driver.rows(clock)
         self.records.unsent = sum(line.number > 0 for _, line in self.run.timed[self.sent :])  # works may last longer
         self.records.uncounted = len(self.places) - len(asking.measured)
@@ -85,14 +75,15 @@ class Recorder(Desk):
         self.records.edgedata.finish(known)
         return self.records
 
+    def asking(self) -> Asking:
+        """What the run asks and when."""
+        return asking_of(self.run, self.settings, self.places, self.polled, len(self.detectors))
+
     def enter(self, last: int) -> None:
-        """Sends the run's enters up to a place, and expects each vehicle's arrival where late ones are asked for."""
+        """Sends the run's enters up to a place, and notes who they are."""
         for owner in range(self.entered, last):
             self.cars[owner] = len(self.owners)
             self.owners.append(owner)
-            if self.settings.rescue and not self.records.asking.all_watched:
-                command = self.run.enters[owner].command
-                self.late.expect(owner, command["depart"] + self.free_flow(command["plan"]))
         super().enter(last)
 
     def is_bound(self, car: int, link: int) -> bool:
@@ -108,15 +99,8 @@ class Recorder(Desk):
         settings, wanted = self.settings, bool(asking.every) and clock % asking.every == 0
         sampled, ended = self.wants_samples(clock)
         rescuing = bool(settings.rescue) and minute and clock < settings.until
-        if rescuing and not asking.all_watched:
-            self.ask_late(clock)
-        watched = self.watched_now(clock) if rescuing else ()
-        polled = {*(self.polled if wanted else ()), *watched}
+        polled = {*(self.polled if wanted else ()), *(self.places if rescuing else ())}
         polled |= {*(self.measured if sampled or ended else ()), *(self.areas if sampled else ())}
-        if (wanted or sampled or ended) and self.spare(clock) < len(polled):
-            self.records.unpolled += 1
-            wanted = sampled = ended = False
-            polled = set(watched)
         lanes = self.lanes(place for place in self.places if place in polled) if polled else {}
         if wanted:
             self.note_lanes(clock, lanes)
@@ -124,39 +108,18 @@ class Recorder(Desk):
         if minute or clock == settings.until:
             self.take_census(clock)
         if rescuing:
-            self.rescue(clock, lanes, set(watched))
+            self.rescue(clock, lanes)
         self.read_meters(clock)
 
     def end_at(self, clock: int) -> None:
         """Has the run end at another clock."""
         self.settings = replace(self.settings, until=clock)
-        self.budget.settings = self.settings
 
     def take_census(self, clock: int) -> None:
         """Counts all vehicles, once at a clock."""
         if not self.records.censuses or self.records.censuses[-1].clock != clock:
             self.records.censuses.append(self.sim.count())
             self.records.calls += 1
-
-    def spare(self, clock: int) -> int:
-        """Calls that are left beside those that the run needs from a clock on; below 0 where it has too few."""
-        if not self.most:
-            return limits.CALLS
-        return self.most - self.records.calls - self.budget.owed(clock, self.entered, len(self.ended))
-
-    def allowance(self, clock: int) -> int:
-        """Calls for rescues at this minute: thrice what a minute can have if all are alike."""
-        if self.records.asking.all_watched:
-            return limits.CALLS
-        return max(0, 3 * self.spare(clock) // ((self.settings.until - clock) // MINUTE + 1))
-
-    def watched_now(self, clock: int) -> list[Place]:
-        """The watched lanes that are polled now: all, or as many as may be, those first that were not for longest."""
-        if self.records.asking.all_watched:
-            return list(self.watched)
-        chosen = sorted(self.watched, key=lambda place: (self.polled_at.get(place, 0), place))[: self.allowance(clock)]
-        self.polled_at.update(dict.fromkeys(chosen, clock))
-        return chosen
 
     def note_lanes(self, clock: int, lanes: Mapping[Place, Lane]) -> None:
         """Notes the queues of a poll at stop lines and before works, and writes it to the file of polls."""
@@ -185,20 +148,6 @@ class Recorder(Desk):
                     row = clock, place.link, place.lane, reach.vehicles, reach.metres, BEFORE_WORKS
                     self.records.queues.append(row)
 
-    def ask_late(self, clock: int) -> None:
-        """Asks late vehicles where they are, and watches the lanes where they stand."""
-        due, most = self.late.due(clock), self.allowance(clock)
-        for wait, owner in due[most:]:
-            self.late.again(owner, clock, max(MINUTE, wait // 2))
-        due = due[:most]
-        for (wait, owner), reply in zip(due, self.vehicles(owner for _, owner in due), strict=True):
-            if reply.state in ("arrived", "taken"):
-                self.ended[owner] = reply
-                continue
-            self.late.again(owner, clock, wait)
-            if reply.state == "buffer" or (reply.state == "cell" and not reply.speed):
-                self.watched.add(reply.place)
-
     def vehicles(self, owners: Iterable[int]) -> list[Vehicle]:
         """The replies on vehicles of the file, which have entered, by the last number that each had."""
         replies = list(
@@ -209,29 +158,18 @@ class Recorder(Desk):
             raise Fault(f"asking for a vehicle was refused: {refused[0]}")
         return [reply for reply in replies if isinstance(reply, Vehicle)]
 
-    def rescue(self, clock: int, lanes: Mapping[Place, Lane], watched: set[Place]) -> None:
+    def rescue(self, clock: int, lanes: Mapping[Place, Lane]) -> None:
         """Takes out who has stood at a stop line, or in front of a buffer, for too long, and enters it on the rest of
-        its plan. watched: the lanes that were polled for it."""
-        seen = {link for link, _ in watched}
-        standing_now = {key: since for key, since in self.standing.items() if key[1] not in seen}
-        still = self.watched - watched
-        for place, reply in lanes.items():
-            link = place[0]
-            if place not in watched:
-                continue
+        its plan."""
+        standing_now: dict[tuple[int, int], int] = {}
+        for (link, _), reply in lanes.items():
             if reply.buffer:
                 standing_now[reply.buffer[0][0], link] = reply.buffer[0][2]
-                still.add(place)
             if reply.cells and reply.cells[0][1:3] == (self.mapping.links[link].cells - 1, 0):
                 key = reply.cells[0][0], link
                 standing_now[key] = self.standing.get(key, clock)
-                still.add(place)
         self.standing = standing_now
-        if not self.records.asking.all_watched:
-            self.watched = still
-        for key in [
-            key for key, since in standing_now.items() if clock - since >= self.settings.rescue and key[1] in seen
-        ]:
+        for key in [key for key, since in standing_now.items() if clock - since >= self.settings.rescue]:
             self.standing.pop(key)
             self.take_and_enter(clock, key[0])
 
@@ -263,11 +201,9 @@ class Recorder(Desk):
             (turn.lane for turn in self.mapping.turns if len(plan) > 1 and (turn.link, turn.next) == plan[:2]), 0
         )
 
-    def find_ends(self) -> None:
-        """Where each vehicle of the file is at the end."""
-        open_ = [owner for owner in range(self.entered) if owner not in self.ended]
-        self.ended.update(zip(open_, self.vehicles(open_), strict=True))
-        self.records.ends = [self.ended.get(owner) for owner in range(len(self.run.enters))]
+    def found_ends(self) -> list[Vehicle | None]:
+        """Where each vehicle of the file is at the end; none for those that were never told."""
+        return [*self.vehicles(range(self.entered)), *[None] * (len(self.run.enters) - self.entered)]
 
 
 class Repeater(Desk):

@@ -8,7 +8,7 @@ from streetsim.base.client import Census, Client, Row, Vehicle
 from streetsim.model.detectors import Areas
 from streetsim.model.mapping import Map, Place
 from streetsim.model.runs import Command, Line, Run
-from streetsim.run.budget import Asking
+from streetsim.run.asking import Asking
 from streetsim.run.edgedata import Edgedata
 from streetsim.run.settings import Settings
 from streetsim.works.watched import Watched
@@ -32,10 +32,9 @@ class Records:
     # For each vehicle of the file its last reply, or none if it never entered.
     ends: list[Vehicle | None] = field(default_factory=list)
     unsent: int = 0  # timed lines whose clock did not come
-    unpolled: int = 0  # polls that were left out, as the calls went to rescues
     rescues: Counter[int] = field(default_factory=Counter)  # by vehicle
     rescued: list[Rescue] = field(default_factory=list)  # in the order in which they were done
-    asking: Asking = field(default_factory=lambda: Asking(0, False, [], 0))
+    asking: Asking = field(default_factory=lambda: Asking(0, [], 0))
     ended: str = ""  # why a run without a last second ended
     calls: int = 0  # that were made
     clock: int = 0

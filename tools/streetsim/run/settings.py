@@ -7,11 +7,10 @@ from streetsim.actuated.lights import LISTED, Lights
 @dataclass(frozen=True, slots=True)
 class Settings:
     until: int  # the last clock
-    every: int | None = None  # seconds between polls of the lanes; none: as often as the calls allow; 0: never
+    every: int | None = None  # seconds between polls of the lanes; none: 10; 0: never
     period: int = 900  # seconds of a count
     rescue: int = 300  # after so many steps of standing at a stop line; 0: never
     edges: tuple[str, ...] = ()  # those to poll; all where it is empty
-    calls: int | None = None  # at most; none: as many as the program takes
     all_counted: bool = True  # lanes beyond those of one run's detectors are counted by further runs
     open_end: bool = False  # until all have arrived or nobody moves; `until` is then a guess
     merging: bool = True  # by turns before works

@@ -3,18 +3,17 @@ import json
 import os
 from collections.abc import Iterable, Iterator, Sequence
 
-from streetsim.base import limits
 from streetsim.base.client import Refused, line_of, read_reply
 from streetsim.base.files import Fault, open_text
 from streetsim.base.jobs import side_by_side
 from streetsim.model.folder import Frame
 from streetsim.model.mapping import Place
 from streetsim.model.runs import Command
-from streetsim.run.budget import Asking
+from streetsim.run.asking import Asking
 from streetsim.run.desk import Desk
 from streetsim.run.records import Recorded, Rescue
 
-SLACK = 200  # calls
+LOOKS = 1_000_000  # at a lane, of which a further run makes about as many
 
 
 class Watcher(Desk):
@@ -22,7 +21,7 @@ class Watcher(Desk):
 
     def look(self, rescued: Sequence[Rescue], clocks: Iterable[int], lanes: Sequence[Place]) -> Iterator[Frame]:
         """What stands there at each clock, as a folder's polls. rescued: (clock, car, enter command) of the run."""
-        self.begin(Asking(0, False, [], 0))
+        self.begin(Asking(0, [], 0))
         self.owners: list[int] = []  # the vehicle of the file by car number
         left, clock = list(reversed(rescued)), self.start
         for target in clocks:
@@ -56,19 +55,9 @@ class Watcher(Desk):
         self.owners.append(self.owners[car])
 
 
-def windows(made: Recorded, clocks: Sequence[int], lanes: Sequence[Place]) -> list[Sequence[int]]:
-    """Clocks in parts, each of which one run that repeats it can look at, by the calls that it takes."""
-    run = made.run
-    with made.serving() as sim:
-        most = made.settings.calls or sim.calls
-    if not most:
-        return [clocks]
-    other = len(run.enters) + 2 + len(run.first) + len(run.timed) + 2 * len(made.records.rescued) + SLACK
-    other += (clocks[-1] - run.start()) // limits.STEPS if clocks else 0
-    room = (most - other) // (len(lanes) + 2)
-    if room < 1:
-        told = f"too few to look at {len(lanes):,} lanes in a run that repeats this one"
-        raise Fault(f"{run.path}: the program takes {most:,} calls, {told}")
+def windows(clocks: Sequence[int], lanes: Sequence[Place]) -> list[Sequence[int]]:
+    """Clocks in parts, each of which is looked at by a run of its own, so that these go side by side."""
+    room = max(1, LOOKS // max(1, len(lanes)))
     return [clocks[at : at + room] for at in range(0, len(clocks), room)]
 
 
@@ -85,7 +74,7 @@ def watch(made: Recorded, clocks: Sequence[int], lanes: Sequence[Place]) -> Iter
                 file.write(json.dumps(frame, separators=(",", ":")) + "\n")
         return path
 
-    for path in side_by_side(look, list(enumerate(windows(made, clocks, lanes))), made.jobs):
+    for path in side_by_side(look, list(enumerate(windows(clocks, lanes))), made.jobs):
         with open_text(path) as file:
             yield from map(json.loads, file)
         os.remove(path)

@@ -5,19 +5,16 @@ from collections.abc import Iterator
 from dataclasses import replace
 from functools import partial
 
-from streetsim.base.client import most_calls
 from streetsim.base.files import Fault
 from streetsim.base.serving import serving
 from streetsim.model.mapping import Map
 from streetsim.model.runs import Line, Run, with_load
 from streetsim.model.sources import digest_of
-from streetsim.run.rounds import Yielding, gaps_of, refuse_too_few_calls, with_lines
+from streetsim.run.rounds import Yielding, gaps_of, with_lines
 from streetsim.run.settings import Settings
 from streetsim.sessions.open_end import outcome_of
 from streetsim.sessions.prepared import Giving, Outcome, Session, outcome, session_of
 from streetsim.works.closures import closures_of
-
-ADVICE = "with --rounds 0 nobody gives way"
 
 
 def giving_session(
@@ -29,20 +26,13 @@ def giving_session(
     without: frozenset = frozenset(),
     **load: int,
 ) -> Session:
-    """The session of a run whose vehicles give way by so many rounds; a Fault where the calls do not suffice for these.
-    settings: its end, whether that is open, whether vehicles merge before works by turns, and which lights detectors
-    drive."""
+    """The session of a run whose vehicles give way by so many rounds. settings: its end, whether that is open, whether
+    vehicles merge before works by turns, and which lights detectors drive."""
     until = settings.until
     session = session_of(program, run, until, without, **load)
     gives_way = rounds and mapping.yields
     if not (gives_way or settings.open_end or settings.lights.driven or closures_of(run, until)):
         return session
-    try:
-        if gives_way:
-            asked = Settings(until, rescue=0, lights=settings.lights)
-            refuse_too_few_calls(run, mapping, asked, most_calls(program))
-    except Fault as fault:
-        raise Fault(f"{run.path}: {fault}: {ADVICE}") from None
     ends = settings.open_end, settings.merging, settings.lights
     return replace(session, giving=Giving(with_load(run, **load), mapping, until, without, rounds, *ends))
 
@@ -54,11 +44,8 @@ def gaps(session: Session, signals: bytes, seed: int) -> tuple[list, Yielding]:
         return [], Yielding()
     run = with_signals(with_load(giving.run, seed=seed), signals, giving.without)
     serve = partial(serving, session.program, run.path)
-    try:
-        settings = Settings(giving.until, rescue=0, merging=giving.merging, lights=giving.lights)
-        return gaps_of(run, giving.mapping, settings, giving.rounds, serve, lambda *_: None)
-    except Fault as fault:
-        raise Fault(f"{fault}: {ADVICE}") from None
+    settings = Settings(giving.until, rescue=0, merging=giving.merging, lights=giving.lights)
+    return gaps_of(run, giving.mapping, settings, giving.rounds, serve, lambda *_: None)
 
 
 def with_gaps(session: Session, lines: list) -> Session:

@@ -1,5 +1,5 @@
-"""Runs of a study that are driven step by step: those without a last second, which go on until all have arrived, nobody
-moves, or the calls are spent, and those with works, before which vehicles merge."""
+"""Runs of a study that are driven step by step: those without a last second, which go on until all have arrived or
+nobody moves, and those with works, before which vehicles merge."""
 import hashlib
 from typing import Any
 
@@ -7,7 +7,7 @@ from streetsim.base.client import Client
 from streetsim.base.serving import serving
 from streetsim.model.mapping import Map
 from streetsim.model.runs import Run
-from streetsim.run.budget import MINUTE, Asking, Budget
+from streetsim.run.asking import MINUTE, Asking
 from streetsim.run.record import Recorder
 from streetsim.run.records import Records
 from streetsim.run.settings import Settings
@@ -36,18 +36,16 @@ class Counted(Recorder):
 
     def __init__(self, sim: Client, run: Run, mapping: Map, settings: Settings) -> None:
         super().__init__(sim, run, mapping, settings, None, lambda *_: None)
-        self.budget = Budget(run, self.settings, (), (), ())
 
     def record(self) -> Records:
         """Makes the whole run."""
-        self.most = self.sim.calls
-        self.begin(Asking(0, False, [], 0))
+        self.begin(Asking(0, [], 0))
         clock = self.start
         while clock < self.settings.until:
             self.send_timed(clock)
             clock = self.advance(clock, (clock // MINUTE + 1) * MINUTE)
             self.look(clock)
-        self.find_ends()
+        self.records.ends = self.found_ends()
         return self.records
 
 

@@ -17,15 +17,14 @@ from itertools import pairwise
 from operator import itemgetter
 
 from streetsim.actuated.lights import LISTED, Lights
-from streetsim.base import limits
-from streetsim.base.client import most_calls
+from streetsim.base.client import words_of
 from streetsim.base.files import Fault
 from streetsim.model.mapping import Map
 from streetsim.model.runs import Line, Run
 from streetsim.model.sources import digest_of
 
-INTERVALS = (10, 20, 30, 60, 120, 300, 600)  # seconds between counts; the first that the program's calls allow
-MINUTE = 60  # seconds between looks at who waits to enter, at least
+OFTEN = 10  # seconds between counts
+MINUTE = 60  # seconds between looks at who waits to enter
 COUNT = b'{"cmd":"count"}\n'
 ARRIVED = re.compile(rb'"arrived":(\d+)')
 WAITING = re.compile(rb'"waiting":(\d+)')
@@ -38,7 +37,7 @@ class Session:
 
     program: str
     digest: str | None  # SHA-256 of the program's file
-    calls: int
+    words: tuple[str, ...]  # by which the program takes any number of calls
     opening: bytes  # the load, up to its seed
     first: bytes  # what goes before the enters, but the signals
     enters: bytes
@@ -74,14 +73,12 @@ def session_of(program: str, run: Run, until: int, without: Collection[int] = fr
     first = [line for line in run.first if not (line.command["cmd"] == "signal" and line.command["node"] in without)]
     enters = [line for line in run.enters if line.command["depart"] < until]
     timed = [(clock, line) for clock, line in run.timed if clock < until]
-    calls = most_calls(program) or limits.CALLS
-    left = calls - 2 * len(enters) - len(first) - len(without) - 2 * len(timed) - 2
-    clocks, minutes = counted_clocks(run, until, left), counted_clocks(run, until, left, MINUTE)
+    clocks, minutes = (tuple(sorted({*range(run.start(), until, every), until})) for every in (OFTEN, MINUTE))
     asks = b"".join(b'{"cmd":"vehicle","car":%d}\n' % car for car in range(len(enters)))
     return Session(
         program=program,
         digest=digest_of(program),
-        calls=calls,
+        words=tuple(words_of(program)[1:]),
         opening=json.dumps(command, separators=(",", ":")).encode()[:-1] + b',"seed":',
         first=lines_of(first),
         enters=lines_of(enters),
@@ -96,19 +93,6 @@ def session_of(program: str, run: Run, until: int, without: Collection[int] = fr
 def lines_of(lines: Iterable[Line]) -> bytes:
     """Lines of a run as bytes."""
     return "".join(line.text + "\n" for line in lines).encode()
-
-
-def counted_clocks(run: Run, until: int, calls: int, least: int = 0) -> tuple[int, ...]:
-    """The clocks at which vehicles are counted, as often as so many calls allow, with at least so many seconds between;
-    Fault where the calls allow none."""
-    start, timed = run.start(), {clock for clock, _ in run.timed if run.start() < clock < until}
-    for every in (seconds for seconds in INTERVALS if seconds >= least):
-        clocks = {*range(start, until, every), until}
-        if 2 * len(clocks) + len(timed - clocks) <= calls:
-            return tuple(sorted(clocks))
-    raise Fault(
-        f"{run.path}: a run of {len(run.enters):,} vehicles up to {until:,} s takes more calls than the program allows"
-    )
 
 
 def steps(clocks: Sequence[int], timed: Sequence[tuple[int, Line]], counted: bytes) -> bytes:
@@ -132,7 +116,7 @@ def replies(session: Session, signals: bytes, seed: int, tail: bytes) -> bytes:
     with tempfile.TemporaryFile() as given, tempfile.TemporaryFile() as told:
         given.writelines((session.opening, b"%d}\n" % seed, session.first, signals, session.enters, tail))
         given.seek(0)
-        words = [session.program, "--calls", str(session.calls)]
+        words = [session.program, *session.words]
         done = subprocess.run(words, stdin=given, stdout=told, stderr=subprocess.PIPE, check=False)
         told.seek(0)
         text = told.read()

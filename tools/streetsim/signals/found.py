@@ -99,9 +99,7 @@ def draw(target: Target, town: Town, plan: Plan, path: str) -> None:
     assert shown is not None
     settings = Settings(until=min(shown.last + 1, target.until), every=1, rescue=0, edges=tuple(shown.edges))
     with tempfile.TemporaryDirectory() as folder:
-        yielding = one_run(target.making, run, town.mapping, settings, folder, lambda *_: None).yielding
-        if yielding.why_not:
-            print(f"warning: {path}: {yielding.told()}", file=sys.stderr)
+        one_run(target.making, run, town.mapping, settings, folder, lambda *_: None)
         save(draw_corridor(drawing(), read_folder(folder), shown), path)
 
 

@@ -5,5 +5,5 @@ shown: what its lights show; detours: ways round shut edges; calls: those that s
 
 session: a run under TraCI, looked at after each step. opening, options, street_facts: SUMO's words and files;
 view, tally, inside: what stands where, how long and how far; lights, types: programs of lights, types of vehicles;
-ways, rerouting: other ways; saving, writing, endless: states, SUMO's output files, calls without end.
+ways, rerouting: other ways; saving, writing, remembering: states, SUMO's output files, lines that bring a state about.
 """

@@ -56,8 +56,6 @@ def opened(folder: Path, options: Options) -> Session:
 
 def told_of(yielding: Yielding) -> str:
     """What there is to say of giving way without a light, a line or nothing."""
-    if yielding.why_not:
-        return f"warning: {yielding.told()}\n"
     if not yielding.lines:
         return ""
     return (

@@ -7,7 +7,7 @@ from streetsim.base import limits
 from streetsim.base.client import line_of
 from streetsim.model.mapping import read_map
 from streetsim.model.runs import read_run
-from streetsim.simulation.endless import Endless
+from streetsim.simulation.remembering import Remembering
 from streetsim.simulation.errors import FatalTraCIError, TraCIException
 from streetsim.simulation.fleet import Place
 from streetsim.simulation.inside import Inside
@@ -23,10 +23,10 @@ from streetsim.simulation.writing import Writer
 
 class Session(Simulation):
     """A simulation that is looked at after each step, from the first question on. Vehicles enter the program when they
-    depart, so that what waits for later is not told; its calls do not end."""
+    depart, so that what waits for later is not told."""
 
-    kind_of_client = Endless
-    client: Endless
+    kind_of_client = Remembering
+    client: Remembering
 
     def __init__(
         self, folder: Path, facts: Facts, options: Mapping[str, str], rounds: int = 0, program: str | None = None

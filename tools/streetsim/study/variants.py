@@ -8,9 +8,8 @@ from dataclasses import dataclass
 from functools import partial
 from typing import Any
 
-from streetsim.actuated.lights import LISTED, Lights, driven_lights
+from streetsim.actuated.lights import LISTED, driven_lights
 from streetsim.base import limits
-from streetsim.base.client import most_calls
 from streetsim.base.files import Fault, Json, open_text, reading
 from streetsim.base.seeds import seeds_of
 from streetsim.base.words import MOST_ROUNDS, ROUNDS, whole_seconds
@@ -46,7 +45,7 @@ class Variant:
 
 @dataclass(slots=True)
 class Study:
-    until: int | None  # none: each run goes on until all have arrived, nobody moves, or the calls are spent
+    until: int | None  # none: each run goes on until all have arrived or nobody moves
     seeds: range
     base: str  # the variant to which others are compared
     variants: dict[str, Variant]
@@ -157,7 +156,7 @@ def read_variant(
     else:
         run, mapping, told = with_works(run, mapping, map_path, works, joint[pair_of(study, variant)])
     drives = variant.get("lights", study.get("lights")) != "listed" and "plans" not in variant
-    lights = lights_in(run, mapping, until, simulator) if drives else LISTED
+    lights = driven_lights(run, mapping) if drives and mapping.actuated else LISTED
     told += lights.notes()
     print(*(f"{where}: {text}" for text in told), sep="\n", end="\n" if told else "", file=sys.stderr)
     load = {"dawdle": variant["dawdle"]} if "dawdle" in variant else {}
@@ -173,11 +172,6 @@ def read_variant(
     doubts = [*found, *trust.of_lengths(until, run, mapping), *trust.of_actuated(until, run, mapping, sensing)]
     begins = [(one.lane, one.first) for one in works]
     return Variant(session, signals, trust.free_arrivals(run, mapping), doubts, begins)
-
-
-def lights_in(run: Run, mapping: Map, until: int, simulator: str) -> Lights:
-    """The lights that detectors drive."""
-    return driven_lights(run, mapping, until, most_calls(simulator)) if mapping.actuated else LISTED
 
 
 def check_types(where: str, value: Json) -> None:

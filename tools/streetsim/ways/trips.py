@@ -77,11 +77,10 @@ class TripDemand(Demand):
 
     def add(self, path: FilePath, element: ElementTree.Element, departures: Sequence[tuple[str, float]]) -> None:
         """Adds vehicles of an element, (name, departure), with a route or with the edges where they begin and end;
-        Fault where there are more than a run has calls for."""
+        Fault where there are more than enter in a run."""
         count = len(self.vehicles) + len(departures)
-        if 2 * count >= limits.CALLS:
-            most = limits.CALLS // 2
-            raise Fault(f"{path}: {count:,} trips, and a run has calls for fewer than {most:,}, as each takes two")
+        if count > limits.VEHICLES:
+            raise Fault(f"{path}: {count:,} trips, and at most {limits.VEHICLES:,} vehicles enter in a run")
         if element.get("route") is not None or any(
             element.find(name) is not None for name in ("route", "routeDistribution")
         ):

@@ -43,12 +43,3 @@ def closures_of(run: Run, until: int) -> list[Closure]:
 def commands_in(timed: Iterable[tuple[int, Line]]) -> Iterable[tuple[int, Command]]:
     """The closes and reopens of timed lines."""
     return ((clock, line.command) for clock, line in timed if line.command["cmd"] in ("close", "reopen"))
-
-
-def link_seconds(closures: Iterable[Closure], clock: int) -> int:
-    """The seconds from a clock on in which links have works, of all links together."""
-    by_link: dict[int, list[Closure]] = {}
-    for one in closures:
-        by_link.setdefault(one.link, []).append(one)
-    spans = [(min(one.begin for one in some), max(one.end for one in some)) for some in by_link.values()]
-    return sum(max(0, end - max(begin, clock)) for begin, end in spans)

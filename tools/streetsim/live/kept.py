@@ -1,0 +1,217 @@
+"""The engine of a page whose session is kept in a file: the page goes on after it, the bridge or the program has ended.
+
+FILE has the lines that changed something, which the program keeps. FILE.page has what the page alone knows, its
+changes in words, one note a line, each written before the lines that it is of are sent. FILE.new is a session in the
+making, where all is run anew without a change; it takes FILE's place when it has come as far.
+"""
+import fcntl
+import json
+import os
+import time
+from collections.abc import Iterable
+from pathlib import Path
+from typing import Any
+
+from streetsim.base.client import Client
+from streetsim.base.files import Fault
+from streetsim.live.engine import Engine
+
+ASKING = ("vehicle", "lane", "count", "read")  # commands that change nothing
+COUNT = b'{"cmd":"count"}\n'
+PATIENCE = 10  # seconds for a program whose bridge was killed to end
+
+
+class KeptEngine(Engine):
+    """A page that comes to a kept session sends again all that was sent, and is answered by a program that keeps
+    nothing; when that has done all that is in the file, the one that keeps goes on from there."""
+
+    def __init__(self, program: str, lines: list[bytes], file: Path, start: int) -> None:
+        """lines: the run's own; start: its first clock. Fault where the file is one of another run, or in use."""
+        super().__init__(program, lines)
+        self.file, self.start = file, start
+        self.making, self.beside = Path(f"{file}.new"), Path(f"{file}.page")
+        self.notes = self.opened()
+        self.changes, self.next = read_notes(self.beside)
+        self.settle_crash()
+        self.await_end()
+        self.kept: list[bytes] = []  # what the file has, and how much of it was sent again
+        self.again = 0
+        self.known_file()
+
+    def opened(self) -> Any:
+        """The file of the notes, for this bridge alone."""
+        try:
+            notes = open(self.beside, "ab")
+        except OSError as fault:
+            raise Fault(f"{self.beside}: {fault.strerror}") from None
+        try:
+            fcntl.flock(notes, fcntl.LOCK_EX | fcntl.LOCK_NB)
+        except OSError:
+            notes.close()
+            raise Fault(f"{self.file}: another streetsim-live keeps its session there") from None
+        notes.truncate(len(whole_lines(self.beside)))
+        return notes
+
+    def settle_crash(self) -> None:
+        """Where all was being run anew as the bridge ended, it is as before, or as after."""
+        if self.next is not None and not self.making.exists():
+            self.changes = self.next
+        self.next = None
+        self.making.unlink(missing_ok=True)
+
+    def await_end(self) -> None:
+        """Waits until no program has the file, as one whose bridge was killed ends by itself."""
+        until = time.monotonic() + PATIENCE
+        while self.file.exists() and is_locked(self.file):
+            if time.monotonic() > until:
+                raise Fault(f"{self.file}: another program keeps its session there")
+            time.sleep(0.05)
+
+    def known_file(self) -> None:
+        """Refuses a file that does not begin with the run's own lines, as far as it goes."""
+        for number, (line, own) in enumerate(zip(lines_of_file(self.file), self.lines), 1):
+            if line != own:
+                raise Fault(f"{self.file}: line {number} is not of this run: it has another session")
+
+    def begin(self, anew: bool = False) -> list[bytes]:
+        """Begins the session: where it was left, or from nothing in the place of it (anew)."""
+        with self.lock:
+            self.stop()
+            self.making.unlink(missing_ok=True)
+            self.kept, self.again = [] if anew else lines_of_file(self.file), 0
+            if self.kept:
+                self.client = Client(self.program)
+            else:
+                self.client = Client(self.program, keep=self.making if anew else self.file)
+            return self.told(self.lines)
+
+    def ask(self, lines: Iterable[bytes]) -> list[bytes]:
+        with self.lock:
+            if self.client is None:
+                raise Fault("nothing is running: reload the page")
+            return self.told(lines)
+
+    def told(self, lines: Iterable[bytes]) -> list[bytes]:
+        """The replies to some lines, of which those that the file has are done again."""
+        assert self.client is not None
+        replies, left = [], list(lines)
+        while left and self.again < len(self.kept):
+            count = self.alike(left)
+            if not count:
+                replies += self.refused(left[0])
+                count = 1
+            else:
+                replies += self.client.exchange(left[:count])
+            left = left[count:]
+            if self.again == len(self.kept):
+                self.go_on()
+        return replies + list(self.client.exchange(left))
+
+    def alike(self, lines: list[bytes]) -> int:
+        """How many of some lines ask, or are those that come next in the file."""
+        for count, line in enumerate(lines):
+            if self.again == len(self.kept):
+                return count
+            if line == self.kept[self.again]:
+                self.again += 1
+            elif json.loads(line)["cmd"] not in ASKING:
+                return count
+        return len(lines)
+
+    def refused(self, line: bytes) -> list[bytes]:
+        """The reply to a line that is not in the file, as it was refused; Fault where it is not."""
+        assert self.client is not None
+        replies = list(self.client.exchange([line]))
+        if b'"error":' not in replies[0]:
+            raise Fault(f"{self.file}: line {self.again + 1} is not what the page sent: {line[:80].decode().strip()}")
+        return replies
+
+    def go_on(self) -> None:
+        """Has the program that keeps take the place of the one that does not, at the same state."""
+        assert self.client is not None
+        before, now = self.client, Client(self.program, keep=self.file)
+        alike = list(now.exchange([COUNT])) == list(before.exchange([COUNT]))
+        before.close()
+        self.client, self.kept, self.again = now, [], 0
+        if not alike:
+            raise Fault(f"{self.file}: it leads to another state than the page")
+
+    def known(self) -> dict[str, Any]:
+        """What a page that begins has to know of the session so far: its changes and the clock."""
+        with self.lock:
+            commands = map(json.loads, lines_of_file(self.file))
+            steps = sum(one["steps"] for one in commands if one["cmd"] == "advance")
+            return {"changes": self.changes, "clock": self.start + steps}
+
+    def know(self, changes: list[Any]) -> None:
+        """Keeps the changes of the page, those before their lines too."""
+        with self.lock:
+            self.note("changes", changes)
+            self.changes = changes
+
+    def settle(self, changes: list[Any]) -> None:
+        """Has the session that was made anew, with these changes, take the place of the one before."""
+        with self.lock:
+            self.note("next", changes)
+            os.replace(self.making, self.file)
+            sync_folder(self.file)
+            self.note("changes", changes)
+            self.changes = changes
+
+    def note(self, kind: str, changes: list[Any]) -> None:
+        """Writes what the page knows, and has the disk keep it."""
+        self.notes.write(json.dumps({kind: changes}, separators=(",", ":")).encode() + b"\n")
+        self.notes.flush()
+        os.fsync(self.notes.fileno())
+
+    def close(self) -> None:
+        super().close()
+        self.notes.close()
+
+
+def is_locked(path: Path) -> bool:
+    """Whether a program keeps its session in a file; Fault where it cannot be read."""
+    try:
+        with open(path, "rb") as file:
+            fcntl.flock(file, fcntl.LOCK_EX | fcntl.LOCK_NB)
+    except BlockingIOError:
+        return True
+    except OSError as fault:
+        raise Fault(f"{path}: {fault.strerror}") from None
+    return False
+
+
+def whole_lines(path: Path) -> bytes:
+    """The lines of a file that have ended; nothing where there is no file."""
+    try:
+        text = path.read_bytes()
+    except FileNotFoundError:
+        return b""
+    except OSError as fault:
+        raise Fault(f"{path}: {fault.strerror}") from None
+    return text[: text.rfind(b"\n") + 1]
+
+
+def lines_of_file(path: Path) -> list[bytes]:
+    """The commands of a kept file, each with its LF."""
+    return [line for line in whole_lines(path).splitlines(keepends=True) if line.strip()]
+
+
+def read_notes(path: Path) -> tuple[list[Any], list[Any] | None]:
+    """The page's changes by its last note, and those of a session that was to take its place."""
+    changes: list[Any] = []
+    coming = None
+    for line in whole_lines(path).splitlines():
+        note = json.loads(line)
+        coming = note.get("next")
+        changes = note.get("changes", changes)
+    return changes, coming
+
+
+def sync_folder(path: Path) -> None:
+    """Has the disk keep the name of a file."""
+    folder = os.open(path.resolve().parent, os.O_RDONLY)
+    try:
+        os.fsync(folder)
+    finally:
+        os.close(folder)

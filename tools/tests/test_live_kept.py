@@ -1,0 +1,203 @@
+"""A live page whose session is kept: its bridge and its program are killed, and it goes on where it was.
+
+A page is here what it sends: its own lines, and again what it did before. The replies that are wanted come from one run
+that nothing ends.
+"""
+import http.client
+import json
+import os
+import signal
+import subprocess
+import time
+import unittest
+from pathlib import Path
+from urllib.parse import urlsplit
+
+from pages import LiveCase
+from support import PROGRAM, TOOLS, needs_simulator
+from streetsim.base.client import Client
+from streetsim.live.page import own_lines
+
+STEP, COUNT = '{"cmd":"advance","steps":1}', '{"cmd":"count"}'
+CLOSE = '{"cmd":"close","link":1,"lane":0,"first":4,"last":5}'
+WORKS = {"text": "works", "made": 3, "commands": [{"clock": 3, "command": json.loads(CLOSE)}]}
+DONE = [STEP, COUNT, STEP, STEP, CLOSE, COUNT, STEP, STEP]  # what a page did
+LATER = [STEP, COUNT, '{"cmd":"vehicle","car":0}', STEP, COUNT]
+
+
+@needs_simulator
+class Kept(LiveCase):
+    def setUp(self):
+        super().setUp()
+        self.file = self.folder / "day.jsonl"
+
+    def command(self, *words):
+        run = [self.run_path, "--map", self.map_path, "--program", PROGRAM, "--no-open", *words]
+        return [str(word) for word in (TOOLS / "streetsim-live", *run)]
+
+    def started(self):
+        """The bridge, as its user starts it."""
+        self.bridge = subprocess.Popen(self.command("--keep", self.file), stdout=subprocess.PIPE, text=True)
+        self.addCleanup(self.bridge.stdout.close)
+        self.addCleanup(self.bridge.wait)
+        self.addCleanup(self.bridge.kill)
+        self.address = urlsplit(self.bridge.stdout.readline().strip())
+
+    def post(self, verb, body="", status=200):
+        link = http.client.HTTPConnection("127.0.0.1", self.address.port, timeout=20)
+        link.request("POST", f"{self.address.path}page/{verb}", body)
+        answer = link.getresponse()
+        told = answer.read().decode()
+        link.close()
+        self.assertEqual(answer.status, status, told)
+        return told
+
+    def begin(self, how=""):
+        return self.post("begin/0", how).splitlines()
+
+    def send(self, lines):
+        return self.post("lines/0", "".join(f"{line}\n" for line in lines)).splitlines()
+
+    def known(self):
+        return json.loads(self.post("known/0"))
+
+    def kill(self):
+        self.bridge.kill()
+        self.bridge.wait()
+
+    def program(self):
+        """The process that keeps the session."""
+        children = Path(f"/proc/{self.bridge.pid}/task").glob("*/children")
+        pids = [int(pid) for path in children for pid in path.read_text().split()]
+        [pid] = [pid for pid in pids if b"--keep" in Path(f"/proc/{pid}/cmdline").read_bytes()]
+        return pid
+
+    def unbroken(self, lines):
+        """The replies of one run that nothing ends, to the run's own lines and others."""
+        with Client(PROGRAM) as sim:
+            own = list(sim.exchange(own_lines(self.run_file)))
+            return [reply.decode().strip() for reply in [*own, *sim.exchange(f"{one}\n".encode() for one in lines)]]
+
+    def check_again(self, clock=5, changes=(WORKS,)):
+        """A page comes, does again what was done, and goes on."""
+        wanted = self.unbroken([*DONE, *LATER])
+        self.assertEqual(self.begin(), wanted[:5])
+        self.assertEqual(self.known(), {"changes": list(changes), "clock": clock})
+        self.assertEqual(self.send(DONE[:3]) + self.send(DONE[3:]), wanted[5:-5])
+        self.assertEqual(self.send(LATER), wanted[-5:])
+        kept = [json.loads(line) for line in self.file.read_text().splitlines()]
+        own = [json.loads(line) for line in own_lines(self.run_file)]
+        changing = [json.loads(line) for line in [*DONE, *LATER] if "count" not in line and "vehicle" not in line]
+        self.assertEqual(kept, [*own, *changing])
+
+    def do(self):
+        self.started()
+        self.begin()
+        self.post("know/0", json.dumps([WORKS]))
+        self.send(DONE)
+
+    def test_the_bridge_is_killed(self):
+        self.do()
+        self.kill()
+        self.started()
+        self.check_again()
+
+    def test_the_program_is_killed(self):
+        self.do()
+        os.kill(self.program(), signal.SIGKILL)
+        self.assertIn("the program ended with status -9", json.loads(self.post("lines/0", STEP + "\n", 500))["fault"])
+        self.check_again()
+
+    def test_the_bridge_is_killed_before_a_change_was_sent(self):
+        """What was answered is there; the page knows the change, and makes it."""
+        self.started()
+        self.begin()
+        self.send(DONE[:4])
+        self.post("know/0", json.dumps([WORKS]))
+        self.kill()
+        self.started()
+        self.check_again(clock=3)
+
+    def test_the_bridge_is_killed_while_all_is_done_again(self):
+        self.do()
+        self.kill()
+        self.started()
+        self.begin()
+        self.send(DONE[:4])
+        self.kill()
+        self.started()
+        self.check_again()
+
+    def test_another_session_takes_its_place_when_it_is_whole(self):
+        self.do()
+        self.begin("anew")
+        self.send([STEP, STEP])
+        before = self.file.read_bytes()
+        self.kill()
+        self.started()
+        self.begin()
+        self.assertEqual((self.known(), self.file.read_bytes()), ({"changes": [WORKS], "clock": 5}, before))
+        self.begin("anew")
+        self.send([STEP, STEP])
+        self.post("settle/0", "[]")
+        self.send([STEP])
+        self.kill()
+        self.started()
+        wanted = self.unbroken([STEP] * 4)
+        self.assertEqual(self.begin() + self.send([STEP] * 4), wanted)
+        self.assertEqual(self.known(), {"changes": [], "clock": 4})
+
+    def test_killed_between_the_two_files(self):
+        """The notes tell of a session that was to take the place of the one before: it has, where it is not there."""
+        self.do()
+        self.kill()
+        with open(f"{self.file}.page", "a", encoding="utf-8") as notes:
+            notes.write('{"next":[]}\n{"cha')
+        made = Path(f"{self.file}.new")
+        made.write_text("")
+        for changes in ([WORKS], []):
+            self.started()
+            self.begin()
+            self.assertEqual(self.known()["changes"], changes)
+            self.kill()
+            with open(f"{self.file}.page", "a", encoding="utf-8") as notes:
+                notes.write('{"next":[]}\n')
+
+    def test_a_page_that_sends_something_else_is_told(self):
+        self.do()
+        self.kill()
+        self.started()
+        self.begin()
+        told = json.loads(self.post("lines/0", f"{STEP}\n{CLOSE}\n", 500))["fault"]
+        self.assertIn("day.jsonl: line 7 is not what the page sent", told)
+
+    def test_a_refused_change_that_was_noted(self):
+        self.started()
+        self.begin()
+        self.send(DONE)
+        self.kill()
+        self.started()
+        self.begin()
+        refused = CLOSE.replace('"link":1', '"link":9')
+        self.assertIn('"name":"NoLink"', self.send([*DONE[:3], refused])[-1])
+        self.assertEqual(self.send(DONE[3:]), self.unbroken(DONE)[8:])
+
+    def refused(self, *words, fault):
+        done = subprocess.run(self.command(*words), capture_output=True, text=True, timeout=30, check=False)
+        self.assertEqual((done.returncode, done.stderr.count("\n")), (2, 1), done.stderr)
+        self.assertIn(fault, done.stderr)
+
+    def test_what_is_refused(self):
+        self.refused("--keep", self.folder / "no/day", fault="No such file or directory")
+        self.refused("--keep", self.file, "-o", self.folder / "x.html", fault="-o writes one file")
+        self.do()
+        self.refused("--keep", self.file, fault="another streetsim-live keeps its session there")
+        self.assertIn("a session that is kept stays as it was", self.post("join", "a", 404))
+        self.kill()
+        time.sleep(0.2)
+        self.file.write_text('{"cmd":"load"}\n')
+        self.refused("--keep", self.file, fault="line 1 is not of this run")
+
+
+if __name__ == "__main__":
+    unittest.main()
