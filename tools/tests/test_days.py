@@ -10,7 +10,10 @@ from streetsim.base import limits
 from streetsim.base.client import Row
 from streetsim.cli import run as running
 from streetsim.model.mapping import map_from
+from streetsim.model.runs import Line, Run
+from streetsim.run.asking import told_of_polls
 from streetsim.run.edgedata import Edgedata, Samples, edge_rows
+from streetsim.run.settings import Settings
 
 
 class Schedules(Case):
@@ -43,6 +46,28 @@ class Schedules(Case):
         [row] = edge_rows(counts, data, map_from("map", MAP))
         self.assertEqual(row[:5], (900, 1800, "a", 12, 9))
         self.assertEqual([round(value, 3) for value in row[5:]], [40.0, 81.0, 3.333])
+
+
+class LongPolls(Case):
+    """Polls that would take longer than the run itself are told, by what a look and a second of a vehicle cost."""
+
+    def told(self, vehicles, **words):
+        mapping = map_from("map", {**MAP, "links": MAP["links"] * 1000})
+        load = Line(1, "", {"cmd": "load", "dawdle": 0})
+        enters = [Line(2, "", {"cmd": "enter", "plan": [0, 1], "depart": 0})] * vehicles
+        return told_of_polls(Run("run", load, enters=enters), mapping, Settings(**words))
+
+    def test_long_polls(self):
+        """2,000 lanes 8,640 times a day are 17.28 million looks at 5 us each, and each minute 2.88 million."""
+        wanted = "polls of 2,000 lanes every 10 s take some 86 s of the processor, and the run itself some 14 s: "
+        self.assertEqual(self.told(1, until=86_400), wanted + "--every 60 takes less")
+        wanted = "polls of 2,000 lanes every 1 s take some 60 s of the processor, and the run itself some 0 s: "
+        self.assertEqual(self.told(1, until=6_000, rescue=0, every=1), wanted + "--every 0 polls none")
+
+    def test_short_polls(self):
+        for words in ({"until": 5_000, "every": 1}, {"until": 86_400, "every": 0}, {"until": 86_400, "edges": ("c",)}):
+            self.assertEqual(self.told(1, **words), "")
+        self.assertEqual(self.told(4_000_000, until=86_400), "")
 
 
 @needs_simulator
