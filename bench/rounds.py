@@ -23,7 +23,7 @@ CASES = [(0, 10), (1, 10), (2, 10), (3, 10), (2, 30), (2, 120), (2, 300), (2, 60
 
 def run(args, count, every):
     """Mean trips by seed, and processor seconds a run."""
-    rounds.INTERVALS, rounds.COARSEST = (every,), every
+    rounds.EVERY = every
     before = os.times()
     with tempfile.TemporaryDirectory() as folder:
         words = [

@@ -31,7 +31,6 @@ class DrivenRings:
     cells: tuple[Cell, ...] = ()  # of detectors: it has areas, which are looked at
     offset: int = 0
 
-
     @property
     def longest(self) -> float:
         """The seconds in which it has shown all that it shows."""
