@@ -2,7 +2,7 @@
 ghost use Rattle.std.specs.Prelude.{◌≡◌, ℕ, ◌+◌, ◌<◌, ◌≤◌, List, length, slice_get, slice_index_or, min, Some, None, option_map, IfOk, IfErr, OnOk, OnErr};
 ghost use Rattle.street_base.specs.Prelude.{last_clock, most_workers, most_plan, most_vehicles, most_period, most_detectors, link_at};
 ghost use Rattle.street_base.specs.Prelude.{network_fault, Traffic, lane_at, step, steps, with_closure, taken_out, metered};
-ghost use Rattle.street_base.specs.Prelude.{loaded, plan_links, closed_after, seen, shown_lane, shown_rows, census, in_cells};
+ghost use Rattle.street_base.specs.Prelude.{loaded, plan_links, closed_after, seen, shown_lane, shown_rows, census};
 ghost use Rattle.street_net.specs.Prelude.{TellsFault};
 ghost use Rattle.street_lanes.specs.Prelude.{IsLane};
 ghost use Rattle.street_engine.specs.Prelude.{StreetsStandFor, StreetsGo, StreetsAdmit, StreetsSignal, MakesSteps};
@@ -303,23 +303,10 @@ impl Streets {
         }
     }
 
-    /// How many vehicles are in cells.
-    fn in_cells(&self) -> u64
-        ensures { (m : Traffic) → StreetsStandFor self.now m → result ≡ in_cells m }
-    {
-        // Its clause `few` bounds the sums.
-        let _admitted = self.ends.len();
-        self.tiles.totals().cells
-    }
-
     /// Whether the workers share the next step, as the gate says of the vehicles in cells; never where there is one tile.
     fn shares_next_step<G: Gate>(&self, gate: &G) -> bool {
-        if self.tiles.len() < 2 {
-            return false;
-        }
-        let vehicles = self.in_cells();
-        let fullest = self.tiles.most_in_cells();
-        gate.shares(vehicles, fullest)
+        let tiles = self.tiles.len();
+        tiles > 1 && gate.shares(self.tiles.most_in_block(1), self.tiles.most_in_block(tiles))
     }
 
     /// How many threads the next steps take, the caller's among them: this alone where the workers do not share the next step, else one

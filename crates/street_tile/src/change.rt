@@ -7,7 +7,8 @@ ghost use Rattle.street_lanes.specs.Prelude.{Same};
 ghost use Rattle.street_lanes.specs.Lanes.{IsOf};
 ghost use Rattle.street_tile.specs.Prelude.{IsTileOf, IsRoads, ArePairs, ChangeLanes, LanePhase};
 
-use crate::tile::Tile;
+use crate::gate::LANE_CHANGES;
+use crate::{Gate, Tile};
 use street_base::{Place, Step};
 use street_lanes::Lanes;
 use street_net::Network;
@@ -30,8 +31,7 @@ fn change_lanes(own: &mut Lanes, net: &Network, clock: Step)
     ensures stand { ChangeLanes net.now clock own.old own.new }
 {
     for n in 0..own.len() {
-        let at = own.at(n);
-        if begins_pair(net, at) {
+        if begins_pair(net, own.at(n)) {
             own.change(net, n, clock);
         }
     }
@@ -45,4 +45,14 @@ impl Tile {
     {
         change_lanes(&mut self.own, net, self.clock);
     }
+}
+
+/// Lane changes of a tile by the worker of this number; the gate sees it come and leave.
+pub(crate) fn change<G: Gate>(net: &Network, worker: u32, tile: &mut Tile, gate: &G)
+    requires { IsTileOf net.now tile.old }
+    ensures { LanePhase net.now tile.old tile.new }
+{
+    gate.arrive(worker, LANE_CHANGES, tile);
+    tile.phase_lanes(net);
+    gate.leave(worker, LANE_CHANGES, tile);
 }

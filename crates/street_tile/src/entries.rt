@@ -5,8 +5,9 @@ ghost use Rattle.std.specs.Prelude.{◌≡◌, ◌+◌, ◌<◌, ◌≤◌, leng
 ghost use Rattle.street_lanes.specs.Prelude.{Same, Others};
 ghost use Rattle.street_tile.specs.Prelude.{EntersAt, EnterAll, EnterPhase, IsTileOf, IsPrepared};
 
+use crate::gate::ENTRIES;
 use crate::hand_over::{Comers, HandOver};
-use crate::tile::Tile;
+use crate::{Gate, Tile};
 use street_base::Step;
 use street_lanes::Lanes;
 use street_net::Network;
@@ -49,4 +50,15 @@ impl Tile {
     {
         enter_lanes(&mut self.own, &mut self.coming, self.clock);
     }
+}
+
+/// Entries and departures of a tile by the worker of this number; the gate sees it come and leave.
+pub(crate) fn enter<G: Gate>(net: &Network, worker: u32, tile: &mut Tile, gate: &G)
+    requires tile { IsTileOf net.now tile.old }
+    requires prepared { IsPrepared tile.old }
+    ensures { EnterPhase net.now tile.old tile.new }
+{
+    gate.arrive(worker, ENTRIES, tile);
+    tile.phase_enter(net);
+    gate.leave(worker, ENTRIES, tile);
 }

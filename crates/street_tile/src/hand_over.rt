@@ -215,3 +215,15 @@ pub(crate) fn move_all(net: &Network, tiles: &mut [Tile], hints: &mut Hints)
         move_from(net, tiles, hints, i);
     }
 }
+
+/// As [`move_all`], of a vector, of which the contract of a team's step speaks: no tile is lent.
+pub(crate) fn move_vec(net: &Network, tiles: &mut Vec<Tile>, hints: &mut Hints)
+    requires tiles { AreTiles net.now tiles.old.items }
+    requires nobody { All (λ x. x.coming ≡ nobody x) tiles.old.items }
+    requires lanes { All (λ x. All (λ e. IsLane net.now e.to) x.handed) tiles.old.items }
+    ensures len { length tiles.new.items ≡ length tiles.old.items }
+    ensures moved { Each (λ x y. y ≡ received (all_handed tiles.old.items) x) tiles.old.items tiles.new.items }
+    ensures hints { KeepsHints hints.old hints.new }
+{
+    move_all(net, tiles, hints);
+}

@@ -16,15 +16,6 @@ struct Span {
 }
 
 impl Tiles {
-    /// How many vehicles are in cells of the tile that has most of them.
-    pub fn most_in_cells(&self) -> u64 {
-        let mut most = 0;
-        for tile in &self.tiles {
-            most = most.max(tile.totals().cells);
-        }
-        most
-    }
-
     /// All tiles.
     fn whole(&self) -> Span {
         let mut cells: u64 = 0;
@@ -55,7 +46,8 @@ impl Tiles {
         block
     }
 
-    /// How many vehicles are in cells of the fullest of so many blocks.
+    /// How many vehicles are in cells of the fullest of so many blocks: all of them of one block, those of the fullest tile of as many
+    /// blocks as there are tiles.
     pub fn most_in_block(&self, blocks: usize) -> u64 {
         let mut most = 0;
         let mut rest = self.whole();

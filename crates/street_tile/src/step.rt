@@ -4,17 +4,18 @@
 //! releases the tiles show each other their mouths, and after them they hand over who goes.
 //!
 //! Source: this profile, whose five phases a step has in this order.
-ghost use Rattle.std.specs.Prelude.{◌≡◌, ◌*◌, ◌<◌, ◌≤◌, length, [], All};
-ghost use Rattle.street_base.specs.Prelude.{Traffic};
-ghost use Rattle.street_lanes.specs.Prelude.{IsLane};
+ghost use Rattle.std.specs.Prelude.{◌≡◌, ◌*◌, ◌<◌, length, []};
 ghost use Rattle.street_base.specs.Prelude.{last_clock};
-ghost use Rattle.street_tile.specs.Prelude.{IsTileOf, IsPrepared, Each, LanePhase, MotionPhase, ReleasePhase};
+ghost use Rattle.street_tile.specs.Prelude.{IsTileOf, IsPrepared, LanePhase, MotionPhase};
 ghost use Rattle.street_tile.specs.Prelude.{EnterPhase, MeterPhase, Then, KeepsHints, MayStep, Steps, MayWork, DoesWork};
-ghost use Rattle.street_tile.specs.Prelude.{AreTiles, AllStand, Shows, ShowsOwn, nobody, all_handed, received};
 
-use crate::gate::{DETECTORS, ENTRIES, LANE_CHANGES, MOTION, RELEASES};
-use crate::hand_over::move_all;
-use crate::view::publish;
+use crate::change::change;
+use crate::entries::enter;
+use crate::hand_over::move_vec;
+use crate::meters::meter;
+use crate::motion::go;
+use crate::release::release;
+use crate::view::publish_vec;
 use crate::{Gate, Hints, Lender, Tile, View};
 use street_net::Network;
 
@@ -39,28 +40,6 @@ pub(crate) const ENTER: u32 = 5;
 /// The part with detectors alone, after which the tile's clock goes on.
 pub(crate) const METER: u32 = 6;
 
-/// Lane changes of a tile by the worker of this number; the gate sees it come and leave.
-fn change<G: Gate>(net: &Network, worker: u32, tile: &mut Tile, gate: &G)
-    requires { IsTileOf net.now tile.old }
-    ensures { LanePhase net.now tile.old tile.new }
-{
-    gate.arrive(worker, LANE_CHANGES, tile);
-    tile.phase_lanes(net);
-    gate.leave(worker, LANE_CHANGES, tile);
-}
-
-/// Motion of a tile by the worker of this number; the gate sees it come and leave.
-fn go<G: Gate>(net: &Network, worker: u32, tile: &mut Tile, gate: &G)
-    requires tile { IsTileOf net.now tile.old }
-    requires none { tile.old.arrived ≡ [] }
-    requires in_time { tile.old.clock < last_clock }
-    ensures { MotionPhase net.now tile.old tile.new }
-{
-    gate.arrive(worker, MOTION, tile);
-    tile.phase_motion(net);
-    gate.leave(worker, MOTION, tile);
-}
-
 /// Lane changes and motion of a tile by the worker of this number.
 fn drive<G: Gate>(net: &Network, worker: u32, tile: &mut Tile, gate: &G)
     requires tile { IsTileOf net.now tile.old }
@@ -70,40 +49,6 @@ fn drive<G: Gate>(net: &Network, worker: u32, tile: &mut Tile, gate: &G)
 {
     change(net, worker, tile, gate);
     go(net, worker, tile, gate);
-}
-
-/// Releases of a tile by the worker of this number, into lanes whose mouths are open; the gate sees it come and leave.
-fn release<G: Gate>(net: &Network, worker: u32, mouths: &[bool], tile: &mut Tile, gate: &G)
-    requires tile { IsTileOf net.now tile.old }
-    requires empty { tile.old.handed ≡ [] }
-    requires wide { length mouths.now ≡ 2 * length net.now.links }
-    ensures { ReleasePhase net.now mouths.now tile.old tile.new }
-{
-    gate.arrive(worker, RELEASES, tile);
-    tile.release_by(net, mouths);
-    gate.leave(worker, RELEASES, tile);
-}
-
-/// Entries and departures of a tile by the worker of this number; the gate sees it come and leave.
-fn enter<G: Gate>(net: &Network, worker: u32, tile: &mut Tile, gate: &G)
-    requires tile { IsTileOf net.now tile.old }
-    requires prepared { IsPrepared tile.old }
-    ensures { EnterPhase net.now tile.old tile.new }
-{
-    gate.arrive(worker, ENTRIES, tile);
-    tile.phase_enter(net);
-    gate.leave(worker, ENTRIES, tile);
-}
-
-/// Detectors of a tile, whose clock then goes on, by the worker of this number; the gate sees it come and leave.
-fn meter<G: Gate>(net: &Network, worker: u32, tile: &mut Tile, gate: &G)
-    requires tile { IsTileOf net.now tile.old }
-    requires in_time { tile.old.clock < last_clock }
-    ensures { MeterPhase net.now tile.old tile.new }
-{
-    gate.arrive(worker, DETECTORS, tile);
-    tile.phase_meter(net);
-    gate.leave(worker, DETECTORS, tile);
 }
 
 /// Entries, departures and detectors of a tile, whose clock then goes on, by the worker of this number.
@@ -138,29 +83,6 @@ pub(crate) fn work<G: Gate>(
         METER => meter(net, worker, tile, gate),
         _ => settle(net, worker, tile, gate),
     }
-}
-
-/// As [`publish`], of a vector, of which the contract of a team's step speaks: no tile is lent.
-fn publish_vec(net: &Network, tiles: &Vec<Tile>, view: &mut View)
-    requires tiles { AreTiles net.now tiles.now.items }
-    requires shown { All ShowsOwn tiles.now.items }
-    requires view { length view.old ≡ 2 * length net.now.links }
-    ensures shows { (m : Traffic) → AllStand net.now tiles.now.items m → Shows net.now view.new m }
-    ensures wide { length view.new ≡ length view.old }
-{
-    publish(net, tiles, view);
-}
-
-/// As [`move_all`], of a vector, of which the contract of a team's step speaks: no tile is lent.
-fn move_vec(net: &Network, tiles: &mut Vec<Tile>, hints: &mut Hints)
-    requires tiles { AreTiles net.now tiles.old.items }
-    requires nobody { All (λ x. x.coming ≡ nobody x) tiles.old.items }
-    requires lanes { All (λ x. All (λ e. IsLane net.now e.to) x.handed) tiles.old.items }
-    ensures len { length tiles.new.items ≡ length tiles.old.items }
-    ensures moved { Each (λ x y. y ≡ received (all_handed tiles.old.items) x) tiles.old.items tiles.new.items }
-    ensures hints { KeepsHints hints.old hints.new }
-{
-    move_all(net, tiles, hints);
 }
 
 /// One step, whoever makes its parts, of the same meaning as [`step_all`](crate::step_all)'s. The hints follow who enters another link.

@@ -138,3 +138,14 @@ pub(crate) fn publish(net: &Network, tiles: &[Tile], view: &mut View)
         tiles[i].mouths(net, view);
     }
 }
+
+/// As [`publish`], of a vector, of which the contract of a team's step speaks: no tile is lent.
+pub(crate) fn publish_vec(net: &Network, tiles: &Vec<Tile>, view: &mut View)
+    requires tiles { AreTiles net.now tiles.now.items }
+    requires shown { All ShowsOwn tiles.now.items }
+    requires view { length view.old ≡ 2 * length net.now.links }
+    ensures shows { (m : Traffic) → AllStand net.now tiles.now.items m → Shows net.now view.new m }
+    ensures wide { length view.new ≡ length view.old }
+{
+    publish(net, tiles, view);
+}

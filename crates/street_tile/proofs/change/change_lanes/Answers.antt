@@ -14,8 +14,8 @@ loop-n-init c = record {
   done = λ m on roads of pairs even stand in_time. changed-start c.args.net.now m on roads c.args.own.now of pairs even stand;
 }
 
-pub at-at-requires : goal.at-at-requires
-at-at-requires c = let e = same-long c.args.own.now c.loop-n.own c.loop-n.invariant.same in omega arith
+pub at-requires : goal.at-requires
+at-requires c = let e = same-long c.args.own.now c.loop-n.own c.loop-n.invariant.same in omega arith
 
 pub begins_pair-requires : goal.begins_pair-requires
 begins_pair-requires c =
@@ -24,7 +24,7 @@ begins_pair-requires c =
     let e = same-long c.args.own.now c.loop-n.own c.loop-n.invariant.same in
     let there = there-at c.args.net.now c.loop-n.own of.own c.loop-n.n (omega arith) in
     let inside = there.0 in
-    let link : c.at-at.result.link ≡ (place_at c.loop-n.own c.loop-n.n).link = ap (λ (p : Place). p.link) c.at-at.ensures in
+    let link : c.at.result.link ≡ (place_at c.loop-n.own c.loop-n.n).link = ap (λ (p : Place). p.link) c.at.ensures in
     omega arith
 
 module _ (c : goal.After-change-arg-1) where
@@ -32,7 +32,7 @@ module _ (c : goal.After-change-arg-1) where
   same_place n = rw c.loop-n.invariant.same.places refl
 
   pair : ((place_at c.loop-n.own c.loop-n.n).lane ≡ 0) × ((link_at c.args.net.now (place_at c.loop-n.own c.loop-n.n).link).lanes ≡ 2)
-  pair = subst (λ (p : Place). (p.lane ≡ 0) × ((link_at c.args.net.now p.link).lanes ≡ 2)) c.at-at.ensures (c.begins_pair.ensures.0 c.if-begins_pair.true)
+  pair = subst (λ (p : Place). (p.lane ≡ 0) × ((link_at c.args.net.now p.link).lanes ≡ 2)) c.at.ensures (c.begins_pair.ensures.0 c.if-begins_pair.true)
 
   next : (suc c.loop-n.n < length c.args.own.now.places) × (place_at c.args.own.now (suc c.loop-n.n) ≡ record { link = (place_at c.args.own.now c.loop-n.n).link; lane = 1 })
   next = c.requires.pairs.next c.loop-n.n (omega arith) (rw (same_place c.loop-n.n) at pair.0) (rw (same_place c.loop-n.n) at pair.1)
@@ -56,7 +56,7 @@ loop-n-preserved c =
         room = omega (arith, c.loop-n.invariant.room, w.change.ensures.room);
         done = λ m on roads of pairs even stand in_time.
             let places = c.loop-n.invariant.same.places in
-            let pair = subst (λ (p : Place). (p.lane ≡ 0) × ((link_at c.args.net.now p.link).lanes ≡ 2)) c.at-at.ensures (c.begins_pair.ensures.0 w.if-begins_pair.true) in
+            let pair = subst (λ (p : Place). (p.lane ≡ 0) × ((link_at c.args.net.now p.link).lanes ≡ 2)) c.at.ensures (c.begins_pair.ensures.0 w.if-begins_pair.true) in
             let place : place_at c.loop-n.own c.loop-n.n ≡ place_at c.args.own.now c.loop-n.n = rw places refl in
             changed-next c.args.net.now m on roads c.args.own.now of pairs even stand c.loop-n.n c.loop-n.own w.change.new.self (omega arith) (rw place at pair.0) (rw place at pair.1) (c.loop-n.invariant.done m on roads of pairs even stand in_time) w.change.ensures.same
             (λ a b x y. rw place at (w.change.ensures.first m a b on.network in_time x y))
@@ -69,7 +69,7 @@ loop-n-preserved c =
         done = λ m on roads of pairs even stand in_time.
             let place : place_at c.loop-n.own c.loop-n.n ≡ place_at c.args.own.now c.loop-n.n = rw c.loop-n.invariant.same.places refl in
             changed-kept c.args.net.now m on roads c.args.own.now of pairs even stand c.loop-n.n c.loop-n.own (omega arith)
-            (λ first two. let yes : c.begins_pair.result ≡ true = c.begins_pair.ensures.1 (subst (λ (p : Place). (p.lane ≡ 0) × ((link_at c.args.net.now p.link).lanes ≡ 2)) (sym c.at-at.ensures) (rw place first, rw place two)) in let no = w.if-begins_pair.false in cc)
+            (λ first two. let yes : c.begins_pair.result ≡ true = c.begins_pair.ensures.1 (subst (λ (p : Place). (p.lane ≡ 0) × ((link_at c.args.net.now p.link).lanes ≡ 2)) (sym c.at.ensures) (rw place first, rw place two)) in let no = w.if-begins_pair.false in cc)
             (c.loop-n.invariant.done m on roads of pairs even stand in_time);
       })
     ]
