@@ -58,16 +58,16 @@ class LongPolls(Case):
         return told_of_polls(Run("run", load, enters=enters), mapping, Settings(**words))
 
     def test_long_polls(self):
-        """2,000 lanes 8,640 times a day are 17.28 million looks at 5 us each, and each minute 2.88 million."""
-        wanted = "polls of 2,000 lanes every 10 s take some 86 s of the processor, and the run itself some 14 s: "
+        """2,000 lanes 8,640 times a day are 17.28 million looks at 7 us each, and each minute 2.88 million."""
+        wanted = "polls of 2,000 lanes every 10 s take some 121 s of the processor, and the run itself some 20 s: "
         self.assertEqual(self.told(1, until=86_400), wanted + "--every 60 takes less")
-        wanted = "polls of 2,000 lanes every 1 s take some 60 s of the processor, and the run itself some 0 s: "
+        wanted = "polls of 2,000 lanes every 1 s take some 84 s of the processor, and the run itself some 0 s: "
         self.assertEqual(self.told(1, until=6_000, rescue=0, every=1), wanted + "--every 0 polls none")
 
     def test_short_polls(self):
-        for words in ({"until": 5_000, "every": 1}, {"until": 86_400, "every": 0}, {"until": 86_400, "edges": ("c",)}):
+        for words in ({"until": 4_000, "every": 1}, {"until": 86_400, "every": 0}, {"until": 86_400, "edges": ("c",)}):
             self.assertEqual(self.told(1, **words), "")
-        self.assertEqual(self.told(4_000_000, until=86_400), "")
+        self.assertEqual(self.told(1_200_000, until=86_400), "")
 
 
 @needs_simulator

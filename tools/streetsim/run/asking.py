@@ -14,7 +14,7 @@ EVERY = 10  # seconds between polls, where none are asked for
 SAMPLES = 30  # polls of a lane in a period are enough for its mean speed and density
 RICH = 10  # so many polls of all lanes in a period do as well
 # Seconds of a processor: of a look at a lane, of a second of a vehicle on its way, and of a vehicle's lines.
-LOOK, MOVE, LINE = 5e-6, 2e-7, 3e-5
+LOOK, MOVE, LINE = 7e-6, 8e-8, 1.2e-4
 LONG = 60  # seconds of polls that are worth a word
 SELDOM = (20, 30, 60, 120, 300, 600, 900, 1800, 3600)  # seconds between polls that are advised
 
