@@ -66,6 +66,16 @@ def changes(line, reply):
     return json.loads(line)["cmd"] in CHANGES and '"error":' not in reply and '"starved":' not in reply
 
 
+def questions(session):
+    """Lines that ask for what a state has: counts, vehicles, lanes, detectors; and again after 40 steps, by which
+    signals, closures and the draws show."""
+    links = sorted({int(number) for number in re.findall(r"[0-9]+", session) if len(number) < 4})[:60]
+    asked = ['{"cmd":"count"}', *(f'{{"cmd":"vehicle","car":{car}}}' for car in range(30))]
+    asked += [f'{{"cmd":"lane","link":{link},"lane":{lane}}}' for link in links for lane in (0, 1)]
+    asked += [f'{{"cmd":"read","meter":{meter}}}' for meter in range(4)]
+    return "".join(f"{line}\n" for line in [*asked, '{"cmd":"advance","steps":40}', *asked])
+
+
 def replies_to(lines, words=("--endless",)):
     """What the program replies to these lines in one run that nothing ends."""
     text = "".join(f"{line}\n" for line in lines)
@@ -172,10 +182,13 @@ class Kept(ProgramCase):
                         (self.folder / "a.jsonl").unlink(missing_ok=True)
                         told = self.ends([*words, "--workers", workers], session.read_text())
                         self.assertEqual(told, session.with_suffix(".out").read_text())
-            again = self.ends([], (self.folder / "a.jsonl").read_text() + '{"cmd":"count"}\n').splitlines()[-1]
-            lines = len((self.folder / "a.jsonl").read_text().splitlines())
+            # What it has kept leads, served as a session or gone on from, to the state of the whole session.
+            kept, asked = (self.folder / "a.jsonl").read_text(), questions(session.read_text())
+            count, lines = asked.count("\n"), kept.count("\n")
+            wanted = self.ends(["--endless"], session.read_text() + asked).splitlines()[-count:]
+            self.assertEqual(self.ends([], kept + asked).splitlines()[-count:], wanted)
             resumed = f"streetsim: {lines} lines of a.jsonl were done again\n" if lines else ""
-            self.assertEqual(self.ends(["--keep", "a.jsonl"], '{"cmd":"count"}\n', error=resumed), f"{again}\n")
+            self.assertEqual(self.ends(["--keep", "a.jsonl"], asked, error=resumed).splitlines(), wanted)
 
     def test_there_is_no_end_of_calls(self):
         self.assertEqual(self.ends(["--endless"], '{"cmd":"count"}\n' * 70_000), NOT_LOADED * 70_000)

@@ -1,7 +1,7 @@
 """A live page whose session is kept: its bridge and its program are killed, and it goes on where it was.
 
-A page is here what it sends: its own lines, and again what it did before. The replies that are wanted come from one run
-that nothing ends.
+A page is here what it sends: its own lines, and again what it did before; or its script itself. The replies that are
+wanted come from one run that nothing ends.
 """
 import http.client
 import json
@@ -14,9 +14,10 @@ from pathlib import Path
 from urllib.parse import urlsplit
 
 from pages import LiveCase
-from support import PROGRAM, TOOLS, needs_simulator
+from support import PROGRAM, TOOLS, needs_package, needs_simulator
+from test_page_works import LIVE, NODE, in_node
 from streetsim.base.client import Client
-from streetsim.live.page import own_lines
+from streetsim.live.page import data_of, own_lines
 
 STEP, COUNT = '{"cmd":"advance","steps":1}', '{"cmd":"count"}'
 CLOSE = '{"cmd":"close","link":1,"lane":0,"first":4,"last":5}'
@@ -25,8 +26,34 @@ DONE = [STEP, COUNT, STEP, STEP, CLOSE, COUNT, STEP, STEP]  # what a page did
 LATER = [STEP, COUNT, '{"cmd":"vehicle","car":0}', STEP, COUNT]
 
 
-@needs_simulator
-class Kept(LiveCase):
+# The page's session at the bridge of an address: goes on, and does what is asked for; says what it then knows.
+SCRIPT = """
+(async () => {
+  const { address, data, deeds } = JSON.parse(require("fs").readFileSync(0));
+  BridgeEngine.prototype.answered = async (verb, body) => {
+    const answer = await fetch(`${address}page/${verb}`, { method: "POST", body });
+    if (!answer.ok) throw new Error(await answer.text());
+    return answer;
+  };
+  const session = new Session(new BridgeEngine(0), data, "");
+  await session.begin();
+  await session.goOn();
+  for (const [what, value] of deeds) {
+    if (what === "undo") await session.without(session.changes[value]);
+    else if (what === "change") await session.change(value.cmd, [{ clock: session.clock + value.later, command: value }]);
+    else await session.advance(value);
+  }
+  await session.look();
+  const { clock, count, changes, pending, detectors, ledger, sent, lanes } = session;
+  console.log(JSON.stringify({ clock, count, changes, pending, detectors, ledger, sent: sent.length, lanes }));
+})();
+"""
+BROWSER = "globalThis.addEventListener = () => {};"
+
+
+class KeptCase(LiveCase):
+    """A bridge that keeps its session, and a page that asks it."""
+
     def setUp(self):
         super().setUp()
         self.file = self.folder / "day.jsonl"
@@ -65,6 +92,39 @@ class Kept(LiveCase):
         self.bridge.kill()
         self.bridge.wait()
 
+
+@needs_simulator
+@needs_package("nodejs", NODE)
+class Script(KeptCase):
+    def page(self, *deeds):
+        """What the page's own script knows after it has gone on and done something."""
+        data = data_of(self.run_file, self.mapping, kept=True)
+        given = {"address": self.address.geturl(), "data": data, "deeds": deeds}
+        return in_node(SCRIPT, given, BROWSER, (LIVE / "engines.js").read_text(encoding="utf-8"))
+
+    def test_a_page_goes_on_with_all_that_it_knew(self):
+        """Its clock, counts, changes, those still to come, detectors and charts, also after a change was undone."""
+        close = {"cmd": "close", "link": 1, "lane": 0, "first": 4, "last": 5, "later": 0}
+        meter = {"cmd": "meter", "link": 0, "lane": 0, "cell": 5, "period": 5, "later": 0}
+        refused = {"cmd": "takeout", "car": 99, "later": 0}
+        self.started()
+        known = self.page(
+            ("go", 3), ("change", close), ("change", {**close, "cmd": "reopen", "later": 30}), ("change", meter),
+            ("change", refused), ("go", 20),
+        )
+        self.assertEqual((known["clock"], len(known["changes"]), len(known["pending"])), (23, 3, 1))
+        self.kill()
+        self.started()
+        self.assertEqual(self.page(), known)
+        undone = self.page(("undo", 0), ("go", 4))
+        self.assertEqual((undone["clock"], len(undone["changes"])), (27, 2))
+        self.kill()
+        self.started()
+        self.assertEqual(self.page(), undone)
+
+
+@needs_simulator
+class Kept(KeptCase):
     def program(self):
         """The process that keeps the session."""
         children = Path(f"/proc/{self.bridge.pid}/task").glob("*/children")

@@ -617,9 +617,10 @@ class BadInput(Commands):
         self.route("--anew")
         self.assertEqual(self.routes(), {name: ["in", "short", "out"] for name in "vt"})
 
-    def test_more_trips_than_a_run_has_calls_for(self):
-        self.given(two_ways(), flow(1_000_000, 86_400))
-        self.check_refused("1,000,000 trips, and a run has calls for fewer than 500,000, as each takes two")
+    def test_more_trips_than_enter_in_a_run(self):
+        one = flow(600_000, 86_400)
+        self.given(two_ways(), one.replace("</routes>", one.replace("<routes>", "").replace('id="f"', 'id="g"')))
+        self.check_refused("1,200,000 trips, and at most 1,000,000 vehicles enter in a run")
 
     def test_words(self):
         self.given(two_ways(), flow(10, 60))
