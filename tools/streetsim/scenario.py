@@ -1,4 +1,5 @@
 """A run under SUMO's names and units (metres, metres a second, seconds), with TraCI's calls where one fits."""
+import warnings
 from collections.abc import Iterable, Sequence
 from dataclasses import replace
 from heapq import heappop, heappush
@@ -18,7 +19,7 @@ from streetsim.simulation.fleet import NOWHERE, Place
 from streetsim.simulation.simulation import Simulation as Running
 from streetsim.works.sites import why_parallel, with_works
 
-__all__ = ["NOWHERE", "NotHere", "Scenario", "TrafficLight"]
+__all__ = ["NOWHERE", "ListedScenario", "NotHere", "Scenario", "TrafficLight"]
 
 ADVICE = {
     "vehicle.setSpeed": "speeds follow the rules alone",
@@ -41,7 +42,8 @@ class Scenario(Running):
     lanes that are to be closed later are told as joint, where they are not yet so in the import. Where vehicles of the
     file give way without a light, so many rounds of the run come first; `yielding` says what they gave. Those that a
     script adds wait for nobody's gaps but the file's, and nobody of the file waits for them. Before works on one
-    lane of a joint link the lanes take turns, unless `stop_merging` was called."""
+    lane of a joint link the lanes take turns, unless `stop_merging` was called. Detectors drive lights of SUMO's types
+    actuated and NEMA; in a `ListedScenario` they show their listed seconds."""
 
     def __init__(
         self, run: FilePath, mapping: FilePath, program: str | None = None, workers: int = 1,
@@ -49,6 +51,8 @@ class Scenario(Running):
     ) -> None:  # fmt: skip
         source, read, _ = with_works(*read_with_map(run, mapping), mapping, [], joint)
         super().__init__(source, read, rounds, program, workers)
+        for told in self.driving.lights.notes():
+            warnings.warn(told, stacklevel=2)
         self.detours = Detours(self)
         # Of vehicles that may not have departed: (depart, number, name), the earliest first.
         self.later: list[tuple[int, int, str]] = []
@@ -138,6 +142,12 @@ class Scenario(Running):
     def write_trips(self, path: FilePath) -> None:
         """Writes these rows as a table."""
         tables.write_table(path, tables.TRIPS, self.trips())
+
+
+class ListedScenario(Scenario):
+    """A scenario whose lights show the seconds that their programs list."""
+
+    driven = False
 
 
 class Part(Calls[Scenario]):
@@ -271,4 +281,11 @@ class TrafficLight(Part):
     def setProgramLogic(self, name: str, phases: Iterable[tuple[float, str]], offset: float = 0) -> list[str]:
         """Sets a light's cycle: phases of (seconds, state), as a tlLogic has them, from the next step on; of permissive
         greens the usual share is shown, as flows are not known here. Gives what there is to warn of."""
+        self.scenario.driving.driver.release(name)
         return self.scenario.show_program(name, [(seconds, state) for seconds, state in phases], offset)
+
+    def getRedYellowGreenState(self, name: str) -> str:
+        """What a light that detectors drive shows, a letter for each signal; NotHere of others."""
+        if (driven := self.scenario.driving.driver.of(name)) is None:
+            raise NotHere(f"trafficlight.getRedYellowGreenState: detectors do not drive {name!r}; its plan is set")
+        return driven.logic.state()

@@ -38,6 +38,7 @@ class Controller:
     meters: range  # of its detectors
     shows: list[Command] = field(default_factory=list)  # the plans that were sent last
     wraps: float = inf  # the clock by which these would begin anew
+    in_force: bool = True  # its plans are shown; else it goes on unseen, as in SUMO
 
     @property
     def name(self) -> str:
@@ -58,12 +59,18 @@ class Controller:
     def begins(self, now: int) -> Iterator[Command]:
         """The plans of the phase that begins now."""
         self.shows, self.wraps = list(self.plans(now)), now + limits.PHASE_STEPS
-        yield from self.shows
+        yield from self.shows if self.in_force else ()
 
     def goes_on(self) -> Iterator[Command]:
         """The plans of a phase that lasts longer than a part of a plan."""
         self.wraps = inf
-        yield from map(lasting, self.shows)
+        yield from map(lasting, self.shows if self.in_force else ())
+
+    def resumes(self, now: int) -> Iterator[Command]:
+        """The plans of what it has come to, which are shown from now on."""
+        self.in_force = True
+        since = self.logic.since if isinstance(self.logic, Actuated) else now
+        yield from self.begins(since) if now - since < limits.PHASE_STEPS else map(lasting, self.shows)
 
     def due(self) -> int:
         """The next second at which it is looked at."""
@@ -73,14 +80,26 @@ class Controller:
 class Driver:
     """Those of a run."""
 
-    def __init__(self, lights: Iterable[Light], mapping: Map) -> None:
+    def __init__(self, lights: Iterable[Light], mapping: Map, idle: Iterable[Light] = ()) -> None:
+        """idle: programs that are not in force at the begin, and may come into it."""
         self.cells: list[Cell] = []
         self.controllers: list[Controller] = []
-        for one in lights:
+        for one, shows in (*((one, True) for one in lights), *((one, False) for one in idle)):
             meters = range(len(self.cells), len(self.cells) + len(one.cells))
             self.cells += one.cells
             self.controllers.append(controller_of(one, mapping, meters))
+            self.controllers[-1].in_force = shows
         self.first = 0  # meter
+
+    def of(self, light: str, program: str | None = None) -> Controller | None:
+        """The controller of a light's program; of the one in force where none is named."""
+        own = (one for one in self.controllers if one.name == light)
+        return next((one for one in own if (one.in_force if program is None else one.light.program == program)), None)
+
+    def release(self, light: str) -> None:
+        """Shows no more of what drives a light."""
+        for one in self.controllers:
+            one.in_force = one.in_force and one.name != light
 
     def meters(self, first: int) -> Iterator[Command]:
         """The commands that place the detectors, whose numbers go on from a first one."""

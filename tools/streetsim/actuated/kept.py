@@ -1,7 +1,7 @@
 """What a map keeps of a program that detectors drive, as both kinds of lights read it; and what they have in common."""
 from __future__ import annotations
 
-from collections.abc import Mapping
+from collections.abc import Iterable, Mapping
 from dataclasses import dataclass
 from typing import Any
 
@@ -44,6 +44,11 @@ class NodeOf:
     connections: tuple[Connection, ...]
     yields: Mapping[int, frozenset[int]]  # by request: those that it gives way to
     flows: Mapping[tuple[str, str], float]  # vehicles an hour from edge to edge
+
+
+def in_force(programs: Iterable[Json]) -> dict[str, Json]:
+    """What is kept of the programs that lights begin with, by light."""
+    return {one["light"]: one for one in programs if not one.get("idle")}
 
 
 def kept_of(kept: Mapping[str, Json], light: str) -> Json:

@@ -3,6 +3,7 @@ from __future__ import annotations
 
 from collections import Counter
 from collections.abc import Iterable, Iterator, Mapping
+from contextlib import suppress
 from dataclasses import dataclass, field
 from functools import cached_property
 from itertools import pairwise
@@ -10,7 +11,7 @@ from math import ceil
 from typing import Any
 
 from streetsim.actuated.detectors import GAP, LEAD, NO_DETECTOR, Layout, LitLane, Spot, Stretch, Way, extending, spots
-from streetsim.actuated.kept import OFF, Area, Cell, Listed, NodeOf, bounds_of, kept_of, node_of, number_of
+from streetsim.actuated.kept import OFF, Area, Cell, Listed, NodeOf, bounds_of, in_force, kept_of, node_of, number_of
 from streetsim.actuated.logic import Actuated, Phase
 from streetsim.actuated.rings import DrivenRings, driven_rings
 from streetsim.base import limits
@@ -37,6 +38,7 @@ class Driven:
     gaps: tuple[float, ...]
     nodes: tuple[NodeOf, ...]
     areas: tuple[Area, ...] = ()  # it has detectors, which are read
+    program: str = "0"
 
     @property
     def longest(self) -> float:
@@ -85,7 +87,7 @@ def driven_lights(run: Run, mapping: Map) -> Lights:
     """Those that detectors drive in a run, those first that most vehicles pass, as far as there are meters, as counts
     have others in further runs."""
     timed = {line.command["node"] for _, line in run.timed if line.command["cmd"] == "signal"}
-    kept, left = {one["light"]: one for one in mapping.programs}, limits.METERS - len(mapping.detectors)
+    kept, left = in_force(mapping.programs), limits.METERS - len(mapping.detectors)
     driven: list[Light] = []
     listed: dict[str, str] = {}
     use = passing(run, mapping)
@@ -101,6 +103,17 @@ def driven_lights(run: Run, mapping: Map) -> Lights:
         except Listed as why:
             listed[light] = str(why)
     return Lights(tuple(driven), listed)
+
+
+def idle_lights(mapping: Map, left: int) -> Iterator[Light]:
+    """Those that a script may have driven by another program than the one in force, as far as so many detectors go."""
+    for kept in mapping.programs:
+        if kept.get("idle"):
+            with suppress(Listed):
+                found = driven_of(kept, mapping)
+                if len(found.cells) <= left:
+                    left -= len(found.cells)
+                    yield found
 
 
 def passing(run: Run, mapping: Map) -> Counter[str]:
@@ -129,6 +142,7 @@ def driven_of(kept: Mapping[str, Any], mapping: Map) -> Light:
         cells=tuple(cells.values()),
         gaps=tuple(gap_of(layout, lane) for lane in cells),
         nodes=tuple(node_of(one) for one in kept["nodes"]),
+        program=kept.get("program", "0"),
     )
 
 

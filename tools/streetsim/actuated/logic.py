@@ -16,6 +16,7 @@ GapOf = Callable[[int], float]  # the seconds since a detector last saw anybody,
 GO, YELLOW = "Gg", "yY"  # letters of a state
 BY_GAP, BY_MOST, LISTED = "gap", "most", "listed"  # why a phase ended
 BY_OTHER, BY_CALL = "barrier", "call"  # those of a ring: with the other one, or after resting until somebody came
+BY_SCRIPT = "script"
 
 
 @dataclass(slots=True, frozen=True)
@@ -65,6 +66,7 @@ class Actuated:
     due: int = 0
     ended: list[Ended] = field(default_factory=list)
     first: dict[int, int] = field(default_factory=dict)  # by phase: the detector that extended it last
+    told_to_end: bool = False  # by a script, when it is looked at next
 
     def start(self, now: int, offset: int = 0) -> None:
         """Begins where a light with the listed seconds would be that began its first phase at an offset."""
@@ -78,11 +80,13 @@ class Actuated:
     def look(self, now: int, gap: GapOf) -> bool:
         """Goes on to the next phase if this one is over; says whether. Sets when to look again."""
         phase = self.phases[self.at]
-        wait = self.wait(phase, gap) if phase.is_green and now - self.since < phase.most else 0
+        may_stay = phase.is_green and now - self.since < phase.most and not self.told_to_end
+        wait = self.wait(phase, gap) if may_stay else 0
         if wait:
             self.due = min(max(now + wait, self.since + phase.least), self.since + phase.most)
             return False
         self.ended.append(Ended(self.at, self.since, now - self.since, self.why(phase, now)))
+        self.told_to_end = False
         self.at = (self.at + 1) % len(self.phases) if phase.next is None else phase.next
         self.since, self.due = now, now + self.phases[self.at].shortest
         return True
@@ -90,6 +94,28 @@ class Actuated:
     def state(self) -> str:
         """What is shown."""
         return self.phases[self.at].state
+
+    def index(self) -> int:
+        """The place of the phase that is shown, as scripts ask for it."""
+        return self.at
+
+    def phase_name(self) -> str:
+        """Its name, where the logic has one."""
+        return ""
+
+    def switch(self, _now: int) -> int:
+        """The clock at which it may go on, as scripts ask for it: SUMO's next look at it."""
+        return self.due
+
+    def go_to(self, index: int, now: int) -> None:
+        """Goes on with another phase, from its begin; when it is looked at next stays, as in SUMO."""
+        if index != self.at:
+            self.ended.append(Ended(self.at, self.since, now - self.since, BY_SCRIPT))
+            self.at, self.since = index, now
+
+    def end_at(self, clock: int) -> None:
+        """Ends the phase at a clock, whoever is seen."""
+        self.due, self.told_to_end = clock, True
 
     def told(self, until: int) -> Iterator[tuple[Ended, str]]:
         """The phases so far, with their states; the one under way without a reason for its end."""
@@ -99,6 +125,8 @@ class Actuated:
 
     def why(self, phase: Phase, now: int) -> str:
         """Why a phase ends now."""
+        if self.told_to_end:
+            return BY_SCRIPT
         if not phase.is_extended:
             return LISTED
         return BY_MOST if now - self.since >= phase.most else BY_GAP

@@ -127,7 +127,7 @@ class Nema:
     """One light. `due` is the next second at which `look` must be called; nothing need be asked before."""
 
     def __init__(self, rings: Rings) -> None:
-        self.rings, self.now, self.due = rings, 0, 0
+        self.rings, self.now, self.due, self.changes = rings, 0, 0, 0
         self.ended: list[Ended] = []
         known = [one.least_recall or one.most_recall for one in rings.phases]
         self.all = [self.running(name, ring, any(known)) for ring in range(2) for name in rings.names(ring)]
@@ -158,6 +158,17 @@ class Nema:
         """What both rings show together."""
         return together([(one.phase, one.stage) for one in self.active])
 
+    def index(self) -> int:
+        """0 and 1 by turns as what is shown changes, as SUMO's controller tells scripts."""
+        return self.changes % 2
+
+    def phase_name(self) -> str:
+        return "+".join(str(one.phase.name) for one in self.active)
+
+    def switch(self, now: int) -> int:
+        """The clock at which it may go on, as scripts ask for it: each second, as in SUMO."""
+        return now + 1
+
     def greens(self) -> tuple[tuple[int, bool], ...]:
         """The phase and whether it is green, of both rings."""
         return tuple((one.phase.name, one.is_green) for one in self.active)
@@ -182,7 +193,7 @@ class Nema:
 
     def look(self, now: int, present: PresentAt) -> bool:
         """A second of both rings; says whether what is green changed. Sets when to look again."""
-        self.now, self.present, before = now, present, self.greens()
+        self.now, self.present, before, state = now, present, self.greens(), self.state()
         for one in self.all:
             if one.phase.latching and not one.called:
                 one.called = self.is_on(one)
@@ -193,6 +204,7 @@ class Nema:
         for one in self.all:
             one.called = one.called and one.phase.latching and not one.is_green
         self.due = now + max(1, min(map(self.wait, self.active)))
+        self.changes += self.state() != state
         return self.greens() != before
 
     def wait(self, one: Running) -> int:

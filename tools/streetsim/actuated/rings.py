@@ -30,6 +30,7 @@ class DrivenRings:
     nodes: tuple[NodeOf, ...]
     cells: tuple[Cell, ...] = ()  # of detectors: it has areas, which are looked at
     offset: int = 0
+    program: str = "0"
 
     @property
     def longest(self) -> float:
@@ -54,6 +55,7 @@ def driven_rings(kept: Mapping[str, Any], mapping: Map) -> DrivenRings:
         rings=Rings(phases, orders, barriers_of(parameters, orders)),
         areas=tuple(areas.values()),
         nodes=tuple(node_of(one) for one in kept["nodes"]),
+        program=kept.get("program", "0"),
     )
 
 

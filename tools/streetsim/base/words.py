@@ -131,6 +131,17 @@ def add_rounds(made: argparse.ArgumentParser, default: int | None = ROUNDS, usua
     )
 
 
+def add_lights(made: argparse.ArgumentParser) -> None:
+    """The word that says whether detectors drive lights."""
+    made.add_argument(
+        "--lights",
+        choices=["actuated", "listed"],
+        default="actuated",
+        help="actuated: detectors drive the lights of SUMO's types actuated and NEMA, as there; listed: they show the "
+        "seconds that their programs list (default %(default)s)",
+    )
+
+
 def files_of(words: Iterable[str]) -> list[str]:
     """The files that words name, each one or several with commas between, as in SUMO; a file whose name has a comma is
     one."""

@@ -9,7 +9,7 @@ from streetsim.base.files import Fault, place_of, refuse_equal
 from streetsim.base.progress import Slow, Stopping
 from streetsim.base.report import Report
 from streetsim.base.seeds import seeds_of
-from streetsim.base.words import Parser, add_rounds, files_of, listed, time_within, within
+from streetsim.base.words import Parser, add_lights, add_rounds, files_of, listed, time_within, within
 from streetsim.cli.import_ import add_options, options_of
 from streetsim.cli.signals import add_machines
 from streetsim.model import trust
@@ -92,6 +92,7 @@ def add_search(made: argparse.ArgumentParser) -> None:
         help="shares tried side by side in an iteration: the share, half of it, a quarter, .. (default %(default)s)",
     )
     add_rounds(made)
+    add_lights(made)
     made.add_argument("--seeds", default="1", metavar="FIRST-LAST", help="of the search (default %(default)s)")
     made.add_argument(
         "--check",
@@ -210,7 +211,9 @@ def job_of(words: argparse.Namespace) -> Job:
     return Job(
         town,
         trips,
-        ground=Ground(simulator, digest_of(simulator), town.graph, words.slice, until, words.rounds),
+        ground=Ground(
+            simulator, digest_of(simulator), town.graph, words.slice, until, words.rounds, words.lights == "actuated"
+        ),
         asked=Asked(words.iterations, words.gap, words.share, seeds_of(words.seeds, "--seeds"), words.tried),
         check=seeds_of(words.check, "--check"),
         works=Closed(words.close, words.sign, words.knowing or [1.0], words.before),

@@ -2,7 +2,7 @@
 import argparse
 
 from streetsim.base import limits, program
-from streetsim.base.words import Parser, add_jobs, add_merge, add_rounds, add_run, time_within, within
+from streetsim.base.words import Parser, add_jobs, add_lights, add_merge, add_rounds, add_run, time_within, within
 from streetsim.outputs.kinds import KINDS, kinds_of
 
 
@@ -95,17 +95,6 @@ def add_lanes(made: argparse.ArgumentParser) -> None:
         default="",
         metavar="NAMES",
         help="edges or lanes, with commas between, that are joint as if they had road works, for a run to compare with",
-    )
-
-
-def add_lights(made: argparse.ArgumentParser) -> None:
-    """The word that says how lights go that SUMO times by detectors."""
-    made.add_argument(
-        "--lights",
-        choices=["actuated", "listed"],
-        default="actuated",
-        help="actuated: detectors drive the lights of SUMO's type actuated, as there; listed: they show the seconds "
-        "that their programs list (default %(default)s)",
     )
 
 

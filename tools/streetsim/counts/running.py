@@ -37,11 +37,13 @@ def ran(ground: Ground, loaded: Loaded, expected: Costs, seed: int) -> Ran:
     run, mapping = with_load(loaded.run, seed=seed), loaded.mapping
     if ground.rounds and mapping.yields:
         serve = partial(serving, ground.program, run.path)
-        lines, _ = gaps_of(run, mapping, Settings(ground.until), ground.rounds, serve, lambda *_: None)
+        settings = Settings(ground.until, lights=ground.lights(run, mapping))
+        lines, _ = gaps_of(run, mapping, settings, ground.rounds, serve, lambda *_: None)
         run = with_lines(run, lines)
     try:
         with Client(ground.program) as sim:
-            watcher = Watcher(sim, run, mapping, ground.until, False)
+            settings = Settings(ground.until, 0, lights=ground.lights(run, mapping))
+            watcher = Watcher(sim, run, mapping, settings, False)
             records = watcher.record()
     except (Refused, Starved, NoReply, ProgramEnded) as fault:
         raise Fault(f"a run with seed {seed}: {fault}") from None

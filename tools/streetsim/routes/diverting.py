@@ -61,7 +61,7 @@ class Diverted:
             yield f"{rescues:,} rescues of {count:,} trips, so the network locks in part, and the gap says little"
         yield from trust.of_waiting({"": [one.waiting for one in outcomes]}, count)
         yield from trust.of_lengths(until, run, mapping)
-        yield from trust.of_actuated(until, run, mapping, mapping.actuated)
+        yield from trust.of_actuated(until, run, mapping, self.search.ground.lights(run, mapping).going_by(mapping))
         works = [works_of(text, mapping) for text in self.search.town.works]
         yield from in_runs([one.at_works for one in outcomes])
         yield from beyond_joint(run, mapping, closures_of(run, until))

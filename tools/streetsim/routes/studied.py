@@ -32,6 +32,7 @@ class Wished:
     until: int
     rounds: int  # by which vehicles give way
     seeds: Sequence[int]  # of the study
+    driven: bool  # detectors drive lights
 
 
 def routed(run: Run, mapping: Map, map_path: str, wished: Wished, where: str) -> tuple[Run, Map, list[str]]:
@@ -42,7 +43,9 @@ def routed(run: Run, mapping: Map, map_path: str, wished: Wished, where: str) ->
     town = read_town(sources.net, sources.additional, options, Report())
     trips = read_trips([*sources.routes, *sources.trips], town.net, town.graph, town.types, options, Report())
     trips.all = connected(trips.all, town.net, town.graph, options.ignore_route_errors, Report())
-    ground = Ground(wished.program, digest_of(wished.program), town.graph, SLICE, wished.until, wished.rounds)
+    ground = Ground(
+        wished.program, digest_of(wished.program), town.graph, SLICE, wished.until, wished.rounds, wished.driven
+    )
 
     def told(label: str, one: Iteration) -> bool:
         print(f"{where}: {label}{one.line(len(trips.all))}", file=sys.stderr, flush=True)

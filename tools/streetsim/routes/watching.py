@@ -6,6 +6,7 @@ from dataclasses import dataclass, replace
 from functools import partial
 from itertools import pairwise
 
+from streetsim.actuated.lights import LISTED, Lights, driven_lights
 from streetsim.base.client import Client, Lane, NoReply, ProgramEnded, Refused, Starved, Vehicle
 from streetsim.base.files import Fault
 from streetsim.base.serving import serving
@@ -29,7 +30,8 @@ from streetsim.works.watched import doubts_of
 @dataclass(frozen=True, slots=True)
 class Ground:
     """What all runs and searches of a network stand on. program: its path; digest: of its file; width: seconds of a
-    slice; rounds: by which vehicles give way without a light in a run that counts, 0 where nobody does."""
+    slice; rounds: by which vehicles give way without a light in a run that counts, 0 where nobody does; driven: whether
+    detectors drive lights."""
 
     program: str
     digest: str | None
@@ -37,6 +39,11 @@ class Ground:
     width: int
     until: int
     rounds: int = ROUNDS
+    driven: bool = True
+
+    def lights(self, run: Run, mapping: Map) -> Lights:
+        """The lights of a run that detectors drive."""
+        return driven_lights(run, mapping) if self.driven and mapping.actuated else LISTED
 
     @property
     def slices(self) -> int:
@@ -69,9 +76,9 @@ class Watcher(Recorder):
     """Runs with rescues until all have arrived, and notes where each vehicle was seen, and when those passed who go
     first; makes no tables."""
 
-    def __init__(self, sim: Client, run: Run, mapping: Map, until: int, giving: bool) -> None:
+    def __init__(self, sim: Client, run: Run, mapping: Map, settings: Settings, giving: bool) -> None:
         """giving: whether vehicles give way without a light."""
-        super().__init__(sim, run, mapping, Settings(until, 0), None, lambda *_: None)
+        super().__init__(sim, run, mapping, settings, None, lambda *_: None)
         dawdle = run.load.command["dawdle"]
         driving = FreeFlow(mapping, dawdle / 1000).driving
         self.first = places_of(mapping) if giving else []  # the lanes of those who go first
@@ -144,7 +151,8 @@ def watched(ground: Ground, run: Run, mapping: Map, expected: Costs, seed: int, 
 
 def checked(ground: Ground, run: Run, mapping: Map, expected: Costs, seed: int) -> Outcome:
     """One run with a seed, by rounds with this seed alone, as streetsim-run makes them, and what it showed."""
-    run, settings, serve = seeded(run, seed), Settings(ground.until), partial(serving, ground.program, run.path)
+    run, serve = seeded(run, seed), partial(serving, ground.program, run.path)
+    settings = Settings(ground.until, lights=ground.lights(run, mapping))
     lines, _ = gaps_of(run, mapping, settings, ground.rounds, serve, lambda *_: None)
     return observed_run(ground, with_lines(run, lines), mapping, expected, seed)
 
@@ -154,7 +162,8 @@ def observed_run(ground: Ground, run: Run, mapping: Map, expected: Costs, seed: 
     before, giving = resource.getrusage(resource.RUSAGE_CHILDREN), bool(ground.rounds and mapping.yields)
     try:
         with Client(ground.program) as sim:
-            watcher = Watcher(sim, run, mapping, ground.until, giving)
+            settings = Settings(ground.until, 0, lights=ground.lights(run, mapping))
+            watcher = Watcher(sim, run, mapping, settings, giving)
             records = watcher.record()
     except (Refused, Starved, NoReply, ProgramEnded) as fault:
         raise Fault(f"a run with seed {seed}: {fault}") from None

@@ -7,6 +7,7 @@ from dataclasses import dataclass, replace
 from functools import partial
 from operator import itemgetter
 
+from streetsim.actuated.lights import LISTED, Lights
 from streetsim.base import limits
 from streetsim.base.client import Client, Lane
 from streetsim.base.serving import serving
@@ -116,14 +117,19 @@ def gaps_of(
 
 
 def giving_way_to_scripts(
-    run: Run, mapping: Map, rounds: int, program: str | None = None, workers: int = 1
+    run: Run, mapping: Map, rounds: int, program: str | None = None, workers: int = 1, lights: Lights = LISTED
 ) -> tuple[Run, Yielding]:
     """The run of a script with signals by which the vehicles of its file give way without a light, and what
     they are. As its end is not known, rounds end when all have arrived, or an hour after the last
     departure; nobody is rescued."""
-    last = max((line.command["depart"] for line in run.enters), default=run.start())
-    settings = Settings(min(limits.CLOCK, max(last, run.start()) + HOUR), rescue=0)
+    settings = Settings(script_end(run), rescue=0, lights=lights)
     return giving_way(run, mapping, settings, rounds, partial(serving, program, run.path, workers), lambda *_: None)
+
+
+def script_end(run: Run) -> int:
+    """A clock by which a script's run is thought to be over."""
+    last = max((line.command["depart"] for line in run.enters), default=run.start())
+    return min(limits.CLOCK, max(last, run.start()) + HOUR)
 
 
 def places_of(mapping: Map) -> list[Place]:

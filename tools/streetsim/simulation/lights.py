@@ -2,6 +2,8 @@
 from collections.abc import Sequence
 from dataclasses import dataclass, field
 
+from streetsim.actuated.driver import Controller
+from streetsim.actuated.logic import Actuated
 from streetsim.simulation.errors import TraCIException
 from streetsim.simulation.shown import CONSTANT
 from streetsim.simulation.simulation import Simulation
@@ -59,8 +61,25 @@ class Control:
             raise TraCIException(f"Traffic light '{name}' is not known")
         return self.lights[name]
 
+    def driven(self, name: str) -> Controller | None:
+        """What drives a light by detectors now; none where its program is seconds, or a script's."""
+        return self.simulation.driving.driver.of(name)
+
+    def drive(self, name: str, program: str) -> bool:
+        """Has detectors drive a light by one of its programs, from where that has come to unseen; says whether they
+        can."""
+        found = self.simulation.driving.driver.of(name, program)
+        if found is not None:
+            self.end_timers(name)
+            self.simulation.shown.forget(name)
+            self.simulation.driving.driver.release(name)
+            self.simulation.show(list(found.resumes(self.simulation.clock)))
+        return found is not None
+
     def state(self, name: str) -> str:
         """What a light shows now, a letter for each signal."""
+        if (driven := self.driven(name)) is not None:
+            return driven.logic.state()
         light = self.lights[name]
         return light.phases[light.at(self.simulation.clock)[0]][1]
 
@@ -86,6 +105,7 @@ class Control:
         light = self.light(name)
         check_phases(name, phases, light.states)
         check_index(name, phases, index)
+        self.simulation.driving.driver.release(name)
         light.phases, light.program, light.names = list(phases), program, list(names)
         self.go_to(name, index)
 
@@ -93,7 +113,11 @@ class Control:
         """Goes on with a phase that a script names, and forgets when the present one was to end."""
         check_index(name, self.light(name).phases, index)
         self.end_timers(name)
-        self.show_phase(name, index)
+        if (driven := self.driven(name)) is None:
+            self.show_phase(name, index)
+        else:
+            actuated_of(name, driven).go_to(index, self.simulation.clock)
+            self.simulation.show(list(driven.begins(self.simulation.clock)))
 
     def end_timers(self, name: str) -> None:
         """Forgets when a phase of a light was to end."""
@@ -102,6 +126,9 @@ class Control:
     def end_phase(self, name: str, clock: int) -> None:
         """Shows the present phase until a clock, and then the next one."""
         light = self.light(name)
+        if (driven := self.driven(name)) is not None:
+            actuated_of(name, driven).end_at(max(clock, self.simulation.clock + 1))
+            return
         index, _ = light.at(self.simulation.clock)
         self.end_timers(name)
         self.timers.append((clock, name, (index + 1) % len(light.phases)))
@@ -124,6 +151,15 @@ class Control:
             self.simulation.show(self.simulation.shown.constant(name, phases[0][1], begin))
         else:
             self.simulation.show_program(name, phases, begin % sum(duration for duration, _ in phases))
+
+
+def actuated_of(name: str, driven: Controller) -> Actuated:
+    """The logic of a light whose phases a script may choose; TraCIException of another one."""
+    if not isinstance(driven.logic, Actuated):
+        raise TraCIException(
+            f"Traffic light '{name}' is of type NEMA, whose rings choose its phases: set another program, or a state"
+        )
+    return driven.logic
 
 
 def check_state(name: str, state: str, length: int) -> None:

@@ -46,6 +46,7 @@ def opened(folder: Path, options: Options) -> Session:
         facts = read_facts(options["net-file"], additional, routes)
         session = Session(folder, facts, options, int(options.get("rounds", ROUNDS)))
         told += told_of(session.yielding) + told_of_files(facts)
+        told += "".join(f"warning: {text}\n" for text in session.driving.lights.notes())
     finally:
         tell(told, options)
     paths = output_paths(options, facts)

@@ -17,7 +17,7 @@ SHORT = {
 }
 INPUTS = {
     "configuration-file", "net-file", "route-files", "additional-files", "step-length", "time-to-teleport",
-    "output-prefix", "rounds", "ignore-route-errors", "merge",
+    "output-prefix", "rounds", "ignore-route-errors", "merge", "lights",
 }
 LOGS = ("log", "message-log", "error-log")  # files that get what the import says
 IMPORTED = {
@@ -91,6 +91,8 @@ def check_option(name: str, value: str) -> None:
         raise FatalTraCIError(f"--rounds {value}: is not 0 to {MOST_ROUNDS}")
     if name == "merge" and value not in ("turns", "none"):
         raise FatalTraCIError(f"--merge {value}: is not turns or none")
+    if name == "lights" and value not in ("actuated", "listed"):
+        raise FatalTraCIError(f"--lights {value}: is not actuated or listed")
     if name in REFUSED and on and not (name == "scale" and is_one(value)):
         raise FatalTraCIError(f"--{name} {value}: streetsim has nothing for it; {REFUSED[name]}")
     if OUTPUT.fullmatch(name) and name not in SERVED and value not in NOWHERE and on:

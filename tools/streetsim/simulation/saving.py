@@ -3,6 +3,7 @@ import json
 from typing import Any
 
 from streetsim.base.files import open_text, whole_file
+from streetsim.base.report import some
 from streetsim.simulation.errors import TraCIException
 from streetsim.simulation.fleet import Place
 from streetsim.simulation.session import Session
@@ -14,6 +15,11 @@ TALLIED = ("waiting", "waited", "lost", "travelled")
 
 def save_state(session: Session, path: str) -> None:
     """Writes what restores a session: its lines, vehicles and lights."""
+    if driven := [one.name for one in session.driving.driver.controllers if one.in_force]:
+        raise TraCIException(
+            f"simulation.saveState: detectors drive {some(driven)}, of which a state keeps nothing: start with "
+            "--lights listed, or set programs of seconds first"
+        )
     session.follow()
     session.let_go()
     fleet, types, view, lights = session.fleet, session.types, session.view, session.control.lights.items()

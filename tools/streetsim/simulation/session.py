@@ -34,6 +34,7 @@ class Session(Simulation):
         """folder: has run.jsonl and map.json; options: of SUMO's command line; rounds: of the run, before, by which
         vehicles of the file give way without a light."""
         run, mapping, merging = read_run(folder / "run.jsonl"), read_map(folder / "map.json"), options.get("merge")
+        self.driven = options.get("lights", "actuated") != "listed"
         super().__init__(run, mapping, rounds, program, merging=merging != "none")
         self.facts, self.options, self.inside = facts, options, Inside(self.map, facts)
         self.detectors = {one.name: one for one in self.map.detectors}

@@ -3,12 +3,14 @@ from collections.abc import Iterable, Sequence
 from math import ceil
 from typing import Any
 
+from streetsim.actuated.lights import LISTED, driven_lights
 from streetsim.base import limits
 from streetsim.base.client import Client, Short, Vehicle, line_of, read_reply
 from streetsim.model.mapping import Map
 from streetsim.model.runs import Run
 from streetsim.run.rounds import giving_way_to_scripts
 from streetsim.simulation.connections import Connections
+from streetsim.simulation.driving import Driving
 from streetsim.simulation.fleet import Command, Fleet
 from streetsim.simulation.shown import Shown
 from streetsim.works.merges import Merges
@@ -19,6 +21,7 @@ class Simulation:
     are told at once; of the vehicles each kind of simulation tells when it wants."""
 
     kind_of_client: type[Client] = Client
+    driven = True  # its lights, by detectors
 
     def __init__(
         self, source: Run, mapping: Map, rounds: int, program: str | None = None, workers: int = 1, merging: bool = True
@@ -31,13 +34,16 @@ class Simulation:
         self.fleet, self.connections = Fleet(), Connections(mapping)
         self.lane_of = {mapping.lane_name(link, lane): (link, lane) for link, lane in mapping.lanes()}
         self.routes: dict[str, tuple[int, ...]] = {}  # those that a script adds: links
-        self.source, self.yielding = giving_way_to_scripts(source, mapping, rounds, program, workers)
+        lights = driven_lights(source, mapping) if self.driven and mapping.programs else LISTED
+        self.source, self.yielding = giving_way_to_scripts(source, mapping, rounds, program, workers, lights)
         self.client = self.kind_of_client(program, workers)
+        self.driving = Driving(lights, mapping, self.client)
         joint = [number for number, link in enumerate(mapping.links) if len(link.lanes) == 2]
         self.merges = Merges({number: mapping.links[number].cells for number in joint} if merging else {})
         self.send(line.text.encode() + b"\n" for line in [self.source.load, *self.source.first])
         for line in self.source.first:
             self.merges.done(self.clock, line.command)
+        self.show_driven(self.driving.begin(self.clock))
 
     @property
     def dawdle(self) -> float:
@@ -82,9 +88,11 @@ class Simulation:
             steps = min(limits.STEPS, self.send_timed(target) - self.clock)
             merging = self.merges.next()
             steps = steps if merging is None else max(1, min(steps, merging - self.clock))
+            steps = self.driving.steps(self.clock, steps)
             reply = self.tell({"cmd": "advance", "steps": steps})
             self.clock = reply.clock if isinstance(reply, Short) else reply
             self.merge()
+            self.show_driven(self.driving.look(self.clock))
 
     def send_timed(self, target: int) -> int:
         """Sends the lines that are due; gives the clock at which the next one is, at most a target."""
@@ -104,6 +112,13 @@ class Simulation:
         """Sends signal commands."""
         self.send(map(line_of, commands))
         self.shown.signals.update({command["node"]: command for command in commands})
+
+    def show_driven(self, commands: Iterable[Command]) -> None:
+        """Sends what places detectors of lights, and what these show."""
+        for command in commands:
+            self.tell(command)
+            if command["cmd"] == "signal":
+                self.shown.signals[command["node"]] = command
 
     def show_program(self, light: str, phases: Sequence[tuple[float, str]], offset: float) -> list[str]:
         """Shows a cycle of (seconds, state) at a light from the next step on; gives what there is to warn of."""

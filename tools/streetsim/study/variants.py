@@ -148,14 +148,14 @@ def read_variant(
     until = study["until"] or first_guess(run)
     told: list[str] = []
     found: list[str] = []
+    drives = variant.get("lights", study.get("lights")) != "listed" and "plans" not in variant
     if variant.get("route"):
         close, knowing, lanes = variant.get("close", ()), variant.get("knowing", 1.0), joint[pair_of(study, variant)]
         seeds = seeds_of(study["seeds"], f"{path}: seeds")
-        wished = Wished(close, knowing, lanes, simulator, until, study["rounds"], seeds)
+        wished = Wished(close, knowing, lanes, simulator, until, study["rounds"], seeds, drives)
         run, mapping, found = routed(run, mapping, map_path, wished, where)
     else:
         run, mapping, told = with_works(run, mapping, map_path, works, joint[pair_of(study, variant)])
-    drives = variant.get("lights", study.get("lights")) != "listed" and "plans" not in variant
     lights = driven_lights(run, mapping) if drives and mapping.actuated else LISTED
     told += lights.notes()
     print(*(f"{where}: {text}" for text in told), sep="\n", end="\n" if told else "", file=sys.stderr)

@@ -64,6 +64,7 @@ class Program:
     following: list[tuple[int, ...]] = field(default_factory=list)  # the phases that each names as its next
     parameters: dict[str, str] = field(default_factory=dict)
     more: tuple[str, ...] = ()  # what else its phases and it have, by name
+    name: str = "0"
     # Of the phases of a NEMA light: name, extension, yellow and red, in seconds.
     timing: list[tuple[str, float, float, float]] = field(default_factory=list)
 
@@ -81,6 +82,8 @@ class SumoNet:
     roundabouts: set[str] = field(default_factory=set)  # edges
     types: dict[str, str] = field(default_factory=dict)  # by junction
     programs: dict[str, Program] = field(default_factory=dict)  # by light, the last loaded
+    # By light, those loaded before it that are not seconds alone: scripts may choose them.
+    earlier: dict[str, list[Program]] = field(default_factory=dict)
     detectors: list[SumoDetector] = field(default_factory=list)  # of additional files
     # By junction: for each request those that it gives way to.
     yields: dict[str, dict[int, set[int]]] = field(default_factory=dict)
@@ -272,6 +275,8 @@ def read_program(path: FilePath, element: Element, net: SumoNet, _classes: Colle
     if not phases and light in net.programs:  # an offset alone, as SUMO's tlsCoordinator writes it
         net.programs[light] = replace(net.programs[light], offset=offset)
     else:
+        if light in net.programs and net.programs[light].kind != STATIC:
+            net.earlier.setdefault(light, []).append(net.programs[light])
         net.programs[light] = Program(
             offset,
             phases,
@@ -280,6 +285,7 @@ def read_program(path: FilePath, element: Element, net: SumoNet, _classes: Colle
             [next_of(path, phase) for phase in element.iter("phase")],
             {param.get("key", ""): param.get("value", "") for param in element.findall("param")},
             more_of(element),
+            element.get("programID", "0"),
             [timing_of(path, phase) for phase in element.iter("phase")] if element.get("type") == NEMA else [],
         )
 

@@ -17,21 +17,25 @@ MOST_BEFORE = 4  # lanes before one, on which its detector may lie
 def kept_programs(
     net: SumoNet, network: Network, lights: Iterable[tuple[str, int]], flows: Flows
 ) -> list[Json]:
-    """Of each light that is not timed by seconds alone: kind, offset, phases, parameters, ways and lanes for its
-    detectors, and for its nodes what says who gives way."""
+    """Of each program that is not seconds alone: its light, kind, offset, phases, parameters, ways and lanes for its
+    detectors, and for the light's nodes what says who gives way. Those that are not in force come last."""
     nodes = defaultdict(list)
     for light, node in lights:
-        if net.programs[light].kind != STATIC:
+        if net.programs[light].kind != STATIC or light in net.earlier:
             nodes[light].append(node)
     at_junction = connections_of(net) if nodes else {}
     before = lanes_before(net) if nodes else {}
     found = []
-    for light, numbers in sorted(nodes.items()):
-        program, own = net.programs[light], [one for one in net.connections if one.light == light]
+    programs = [(light, net.programs[light]) for light in sorted(nodes) if net.programs[light].kind != STATIC]
+    programs += [(light, one) for light in sorted(nodes) for one in net.earlier.get(light, ())]
+    for light, program in programs:
+        numbers, own = nodes[light], [one for one in net.connections if one.light == light]
         phases = zip(program.phases, program.bounds, program.following, strict=True)
         junctions = [(number, network.nodes[number]) for number in numbers]
         found.append({
             "light": light,
+            "program": program.name,
+            **({} if program is net.programs[light] else {"idle": True}),
             "kind": program.kind,
             "offset": program.offset,
             "phases": [[seconds, state, *bounds, list(then)] for (seconds, state), bounds, then in phases],

@@ -2,10 +2,14 @@
 from collections.abc import Sequence
 from dataclasses import dataclass, field
 
+from streetsim.actuated.kept import bounds_of
+from streetsim.base.files import Json
 from streetsim.simulation.errors import TraCIException
 from streetsim.simulation.lights import Light, Phases
 from streetsim.traci import constants as tc
 from streetsim.traci.domain import Domain
+
+TYPES = {"static": 0, "actuated": 3, "NEMA": 4, "delay_based": 5}  # SUMO's numbers of the kinds of programs
 
 
 @dataclass
@@ -54,12 +58,14 @@ class TrafficLight(Domain):
 
     def at(self, name: str) -> tuple[Light, int, float]:
         """The light, the index of its phase, and the seconds that are left of it by its program."""
-        light = self.now().control.light(name)
-        return light, *light.at(self.now().clock)
+        light, clock = self.now().control.light(name), self.now().clock
+        if (driven := self.now().control.driven(name)) is not None:
+            return light, driven.logic.index(), float(driven.logic.switch(clock) - clock)
+        return light, *light.at(clock)
 
     def getRedYellowGreenState(self, name: str) -> str:
-        light, index, _ = self.at(name)
-        return light.phases[index][1]
+        self.now().control.light(name)
+        return self.now().control.state(name)
 
     def getPhase(self, name: str) -> int:
         return self.at(name)[1]
@@ -89,12 +95,18 @@ class TrafficLight(Domain):
         """The program that runs, and those of the files that do not, from their first phase."""
         light, index, _ = self.at(name)
         others = ((program, *told) for program, told in light.programs.items() if program != light.program)
-        return logic(light.program, light.phases, light.names, index), *(logic(*told, 0) for told in others)
+        kept = {one.get("program"): one for one in self.now().map.programs if one["light"] == name}
+        return (
+            logic(light.program, light.phases, light.names, index, kept.get(light.program)),
+            *(logic(*told, 0, kept.get(told[0])) for told in others),
+        )
 
     getCompleteRedYellowGreenDefinition = getAllProgramLogics
 
     def getPhaseName(self, name: str) -> str:
         light, index, _ = self.at(name)
+        if (driven := self.now().control.driven(name)) is not None and driven.logic.phase_name():
+            return driven.logic.phase_name()
         return light.names[index] if index < len(light.names) else ""
 
     def setPhaseName(self, name: str, text: str) -> None:
@@ -125,11 +137,15 @@ class TrafficLight(Domain):
         self.now().control.hold(name, shown[:index] + state + shown[index + 1 :])
 
     def setProgram(self, name: str, programID: str) -> None:
-        """Shows a program of the files or one that was set before, as far as its cycle is at this clock."""
+        """Shows a program of the files or one that was set before, as far as its cycle is at this clock; one that
+        detectors drive as far as they have brought it meanwhile."""
         light, session = self.now().control.light(name), self.now()
         if programID not in light.programs:
             raise TraCIException(f"Traffic light '{name}' has no program {programID!r}")
         phases, names = light.programs[programID]
+        if session.control.drive(name, programID):
+            light.phases, light.program, light.names = list(phases), programID, list(names)
+            return
         session.control.show_program(name, phases, 0, programID, names)
         light.begin = session.facts.offsets.get((name, programID), 0.0)
         session.control.show_cycle(name)
@@ -146,12 +162,13 @@ class TrafficLight(Domain):
     setCompleteRedYellowGreenDefinition = setProgramLogic
 
 
-def logic(program: str, phases: Phases, names: Sequence[str], index: int) -> Logic:
-    """A program as scripts read it; phases last as long as they are told,
-    so the least and the longest time are that."""
+def logic(program: str, phases: Phases, names: Sequence[str], index: int, kept: Json | None = None) -> Logic:
+    """A program as scripts read it; kept: what the map has of it, with least and longest times. Phases of others last
+    as long as they are told, so both are that."""
     named = [*names, *[""] * (len(phases) - len(names))]
+    bounds = [bounds_of(one) for one in kept["phases"]] if kept else [(duration, duration) for duration, _ in phases]
     told = (
-        Phase(duration, state, duration, duration, (), name)
-        for (duration, state), name in zip(phases, named, strict=True)
+        Phase(duration, state, *own, (), name)
+        for (duration, state), own, name in zip(phases, bounds, named, strict=True)
     )
-    return Logic(program, 0, index, tuple(told))
+    return Logic(program, TYPES.get(kept["kind"], 0) if kept else 0, index, tuple(told))

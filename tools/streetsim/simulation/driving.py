@@ -1,0 +1,33 @@
+"""The lights of a simulation that detectors drive."""
+from collections.abc import Iterator
+
+from streetsim.actuated.driver import Driver, Senses
+from streetsim.actuated.lights import LISTED, Lights, idle_lights
+from streetsim.base import limits
+from streetsim.base.client import Client
+from streetsim.model.mapping import Map
+from streetsim.model.runs import Command
+
+
+class Driving:
+    """They are looked at while the simulation goes on."""
+
+    def __init__(self, lights: Lights, mapping: Map, client: Client) -> None:
+        self.lights = lights
+        left = limits.METERS - len(mapping.detectors) - lights.meters
+        idle = idle_lights(mapping, left) if lights is not LISTED else ()
+        self.driver = Driver(lights.driven, mapping, idle)
+        self.senses = Senses(client.read, lambda place: client.lane(*place))
+
+    def begin(self, clock: int) -> Iterator[Command]:
+        """The detectors and signals at the begin."""
+        yield from self.driver.meters(0)
+        yield from self.driver.begin(clock)
+
+    def steps(self, clock: int, steps: int) -> int:
+        """At most so many steps, until the next look at a light."""
+        return max(1, min(steps, self.driver.due() - clock))
+
+    def look(self, clock: int) -> list[Command]:
+        """What is to be sent before the next step."""
+        return list(self.driver.look(clock, self.senses))
