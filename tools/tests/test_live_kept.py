@@ -40,8 +40,8 @@ SCRIPT = """
   await session.goOn();
   for (const [what, value] of deeds) {
     if (what === "undo") await session.without(session.changes[value]);
-    else if (what === "change") await session.change(value.cmd, [{ clock: session.clock + value.later, command: value }]);
-    else await session.advance(value);
+    else if (what === "go") await session.advance(value);
+    else await session.change(value.cmd, [{ clock: session.clock + value.later, command: value }]);
   }
   await session.look();
   const { clock, count, changes, pending, detectors, ledger, sent, lanes } = session;
