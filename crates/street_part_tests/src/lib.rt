@@ -7,6 +7,8 @@
 #[cfg(test)]
 mod buffers;
 #[cfg(test)]
+mod callers;
+#[cfg(test)]
 mod draws;
 #[cfg(test)]
 mod gaps;

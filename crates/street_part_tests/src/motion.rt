@@ -1,7 +1,7 @@
 //! Motion with values reckoned by hand.
 
 ghost use Rattle.std.specs.Prelude.{◌≡◌, ◌-◌, ◌<◌, ℕ, [], IfOk, OnOk, length, All};
-ghost use Rattle.street_rule.specs.Prelude.{IsReady};
+ghost use Rattle.street_rule.specs.Prelude.{odds_of, IsReady, IsRoad};
 ghost use Rattle.street_yard.specs.Prelude.{list_at, rear_at, AllAbove, IsLane};
 ghost use Rattle.street_gap.specs.Prelude.{IsWithin};
 
@@ -10,10 +10,10 @@ use crate::nets::{link, node};
 use std::alloc::Global;
 use std::process::Abort;
 use std::test::Fail;
-use street_base::{Car, CarNo, CellNo, LinkIx, Plan, Size, Speed, Starved};
+use street_base::{Car, CarNo, CellNo, LinkIx, Plan, Size, Speed, Starved, Step};
 use street_gap::Closures;
 use street_net::Network;
-use street_rule::{Dice, Leaver, Road, RoadLane, Watch, motion_pass};
+use street_rule::{Dice, Leaver, Road, RoadLane, Watch, lane_pass, motion_pass};
 use street_yard::{Key, ListId, Yard};
 
 /// Two nodes and a link of 40 cells between them, whose limit is 5.
@@ -381,4 +381,48 @@ fn check_leaves_whole(rt: &(impl Abort + AllocGlobal), network: &Network) -> Res
 fn long_vehicles_leave_whole(rt: HostRuntime) -> Result<(), Fail> {
     let network = one_link(rt.alloc())?;
     check_leaves_whole(&rt, &network)
+}
+
+/// One step of a link of one lane: nobody changes lane, and all vehicles move.
+fn drive_link(yard: &mut Yard, road: &Road<'_>, dice: &mut Dice, step: Step) -> Option<Leaver>
+    requires lanes { length road.now.lanes ≡ 1 }
+    requires road { IsRoad yard.old road.now }
+    requires dice { dice.old ≡ odds_of road.now.network }
+{
+    let exit_is_open = true;
+    lane_pass(yard, road, step, dice);
+    motion_pass(yard, road, 0, step, exit_is_open, dice, &mut [])
+}
+
+/// A vehicle that stands alone in cell 0 is in cell 1 a step later.
+fn check_drive_link<'a>(
+    rt: &(impl Abort + AllocGlobal),
+    network: &'a Network,
+    closures: &'a Closures,
+) -> Result<(), Fail>
+    requires { IsWithin closures.now 40 }
+{
+    let mut yard = empty(rt);
+    let first = Standing { cell: 0, speed: 0 };
+    let key = add(rt, &mut yard, 0, first, size_of(rt, 1));
+    let lane = RoadLane {
+        list: ListId(0),
+        closures,
+    };
+    let spec = network.spec();
+    assert!(rt; spec.links.as_slice().len() == 1);
+    assert!(rt; spec.seed == 0 && spec.dawdle == 0 && spec.change == 0);
+    let mut dice = Dice::new(rt.alloc(), 0, 0, 0, 1)?;
+    let road = Road::new(network, LinkIx::new(0), lane, None);
+    assert!(rt; road.length() == 40);
+    assert!(rt; drive_link(&mut yard, &road, &mut dice, 0).is_none());
+    assert!(rt; seen(&yard, key) == Some((1, 1)));
+    Ok(())
+}
+
+#[test]
+fn a_link_of_one_lane_is_driven(rt: HostRuntime) -> Result<(), Fail> {
+    let network = one_link(rt.alloc())?;
+    let closures = closed(&rt, 39, 39)?;
+    check_drive_link(&rt, &network, &closures)
 }
