@@ -1,8 +1,13 @@
-//! Lines: a whole text of lines served one after another, by an engine, or at a desk with one caller's pass.
+//! Lines: a whole text of lines served one after another, by an engine, at a desk with one caller's pass, or as a session that is
+//! kept.
 //!
 //! What a text of lines gives is `Goes` of `specs/Runs`, what a fault leaves is `Breaks` of `specs/Faults`, and what the
 //! machine serves is `MachineServes` of `specs/Engines`. What a desk serves is `DeskServes` of `specs/Sessions`; where it has
 //! one session alone, what is served is `AloneServes` there. Scripts are sessions on threads of their own ([`run_scripts`]).
+//!
+//! Without a desk, and with no end of calls, an engine serves ([`run_engine`], or [`run_team`] for several workers). A session that
+//! is kept ([`run_kept`]) writes each line that changed something into a log before its reply goes out, and goes on from such
+//! lines ([`run_again`]): `specs/Kept`, `specs/Again`.
 //!
 //! What a line says, and what a reply's line is, stands in `street_text`, and what a stream counts in `street_stream`; their
 //! functions are shown here too.

@@ -1,8 +1,9 @@
 //! What the program `streetsim` does, as a library: the words of its command line, its runs, and its faults.
 //!
-//! [`options`] says what a list of words asks for. A run serves standard input or scripts, replays a tape or upgrades it, each
-//! with its files, and ends with the first thing that goes wrong in it, told as a [`Fault`]. The texts of faults, the status
-//! that each ends with, and which one that of a run, a replay or an upgrade is, stand in `specs/Faults`.
+//! [`options`] says what a list of words asks for. A run serves standard input or scripts at a desk, serves standard input with no
+//! desk and no end of calls (`--endless`) or as a session that is kept in a file (`--keep`), replays a tape or upgrades it. Each
+//! ends with the first thing that goes wrong in it, told as a [`Fault`]. The texts of faults, the status that each ends with, and
+//! which one that of a run, a replay or an upgrade is, stand in `specs/Faults`.
 #![tactic(auto)]
 
 mod clients;

@@ -1,7 +1,8 @@
 //! The program `streetsim`: commands come as lines of JSON from standard input or from scripts, and replies go out as lines.
 //!
 //! All calls go through a desk, which keeps a journal of them; the journal can be kept as a tape, and a tape replayed or
-//! upgraded. Where no end of calls is asked for there is no desk.
+//! upgraded. Where no end of calls is asked for (`--endless`), and where the session itself is kept in a file and goes on from it
+//! (`--keep`), there is no desk.
 #![tactic(auto)]
 
 ghost use Rattle.std.specs.Prelude.{◌≡◌, OnOk, IfErr};

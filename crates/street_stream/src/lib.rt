@@ -2,9 +2,9 @@
 //! that cuts reads into lines and hands them on, and the tally of what was done.
 //!
 //! Where a text is cut into lines stands in `specs/Lines`, what a stream counts in `specs/Streams`, what a run of lines gives and
-//! what one that broke leaves in `specs/HandledLines`, and what causes each fault in `specs/Faults`. What a log holds that is
-//! written before all else, and what a fault leaves of it, stands in `specs/Logs`, and a text that is handled a part at a time
-//! in `specs/OpenTexts`.
+//! what one that broke leaves in `specs/HandledLines`, what causes each fault in `specs/Faults`, and which calls of reader and
+//! writer a run makes, and no others, in `specs/Calls`. What a log holds that is written before all else, and what a fault leaves of
+//! it, stands in `specs/Logs`, and a text that is handled a part at a time in `specs/OpenTexts`.
 #![tactic(auto)]
 
 mod answer;
