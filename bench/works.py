@@ -4,11 +4,12 @@
 Usage: bench/works.py PROGRAM --work FOLDER [--seeds 1-2] [--only NAME,..] [--edges EDGE,..] [--sides sumo,here] \
 [--merge none]
        bench/works.py PROGRAM --work FOLDER --street
-       bench/works.py PROGRAM --work FOLDER --drawn SEED
+       bench/works.py PROGRAM --work FOLDER --drawn SEED [--share 0.9]
 
 --street: one lane of a street of two is closed for an hour, at 800 to 1,600 vehicles an hour and four places; and what
 passes at 2,400. --drawn: works on streets and towns that unseen_nets makes from a seed, and what they add to the trips
-of those who pass their edge meanwhile; nobody is teleported in SUMO.
+of those who pass their edge meanwhile; nobody is teleported in SUMO. --share: of what the open lanes pass that comes to
+them, as far as no approach has more than 0.9 of what it can pass (else 0.5 to 0.95 are drawn, up to 0.7).
 
 Of each network and number of lanes the edges of 120 m and more are put in order by the vehicles that pass them, and of
 so many equal parts of these (of the busier half, where there are several lanes) the middle one is taken; lane, length
@@ -153,6 +154,7 @@ def main():
     words.add_argument("--edges", help="of the networks' edges with works, these alone")
     words.add_argument("--street", action="store_true", help="the table of one street of two lanes")
     words.add_argument("--drawn", type=int, metavar="SEED", help="the table of streets and towns from a seed")
+    words.add_argument("--share", type=float, help="of what the open lanes pass, of the drawn works")
     words.add_argument("--merge", choices=["turns", "none"], default="turns", help="before works, of these networks")
     words.add_argument("--sides", default="sumo,here", help="whose cells the rows have")
     args = words.parse_args()
@@ -160,7 +162,10 @@ def main():
     folder, program = args.work.resolve(), Path(args.program).resolve()
     if args.street or args.drawn is not None:
         seeds = numbers(args.seeds)
-        rows = street_rows(folder, program, seeds) if args.street else drawn_rows(args.drawn, folder, program, seeds)
+        if args.street:
+            rows = street_rows(folder, program, seeds)
+        else:
+            rows = drawn_rows(args.drawn, folder, program, seeds, args.share)
         for row in rows:
             print(row, flush=True)
         return

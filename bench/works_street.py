@@ -178,7 +178,9 @@ def street_row(case: Case, hourly: int, place: int, program: str, seeds: range) 
 
 DRAWN = ("street", "street", "street", "street", "street", "arterial", "town", "turn-lanes")
 FIRST, LAST, OVER = 600, 3000, 7200
-LEAST, FEW = (150, 100), 200  # metres of an edge with works, the first where there is one; vehicles that pass it
+LEVEL = 0.9
+# Metres of an edge with works, and vehicles that pass it: the first where there is one.
+LEAST, FEW = (150, 100), (200, 100, 50)
 
 
 @dataclass(frozen=True)
@@ -202,19 +204,20 @@ class Drawn:
         return found
 
 
-def drawn(seed: int, number: int, work: Path) -> Drawn:
-    """A network of a kind, and works on one lane of an edge of two or more lanes that many pass."""
+def drawn(seed: int, number: int, work: Path, share: float | None = None) -> Drawn:
+    """A network of a kind, and works on one lane of an edge of two or more lanes that many pass. share: of what the
+    open lanes pass that comes to them, where no approach has above LEVEL of what it can pass; else it is drawn."""
     kind, draws = DRAWN[number], random.Random(f"works {seed} {number}")
-    made = make(kind, seed + number, work, 0.7)
+    made = make(kind, seed + number, work, LEVEL if share else 0.7)
     net = read_net(made.net)
     through = Counter(edge for way in ways(made) for edge in way)
-    able = next(filter(None, (edges_for(net, through, least) for least in LEAST)))
+    able = next(filter(None, (edges_for(net, through, least, few) for few in FEW for least in LEAST)))
     able.sort(key=lambda edge: (-through[edge.getID()], edge.getID()))
     edge = able[draws.randrange(max(1, len(able) // 3))]
     length = min(draws.choice((50, 100, 200)), int(edge.getLength()) - 2 * FREE - 21)
     begin = draws.randrange(FREE + 20, int(edge.getLength()) - FREE - length + 1)
     lanes = edge.getLaneNumber()
-    wanted = draws.uniform(0.5, 0.95) * PASSES * (lanes - 1)
+    wanted = (draws.uniform(0.5, 0.95) if share is None else share) * PASSES * (lanes - 1)
     if through[edge.getID()] > wanted:
         made = make(kind, seed + number, work, vehicles=round(made.vehicles * wanted / through[edge.getID()]))
         through = Counter(edge for way in ways(made) for edge in way)
@@ -222,10 +225,11 @@ def drawn(seed: int, number: int, work: Path) -> Drawn:
     return Drawn(made, works, lanes, through[edge.getID()] / (PASSES * (lanes - 1)))
 
 
-def edges_for(net, through: Counter, least: int) -> list:
-    """The edges of sumolib's network that may have works."""
+def edges_for(net, through: Counter, least: int, few: int) -> list:
+    """The edges of sumolib's network that may have works: of so many metres, and passed by so many vehicles, at
+    least."""
     able = [edge for edge in net.getEdges() if edge.getLaneNumber() >= 2 and edge.getLength() >= least]
-    return [edge for edge in able if through[edge.getID()] >= FEW]
+    return [edge for edge in able if through[edge.getID()] >= few]
 
 
 def ways(made: Made) -> list[list[str]]:
@@ -234,12 +238,12 @@ def ways(made: Made) -> list[list[str]]:
     return ways_of(made.folder / "demand.rou.xml")
 
 
-def drawn_rows(seed: int, folder: Path, program: str, seeds: range):
+def drawn_rows(seed: int, folder: Path, program: str, seeds: range, share: float | None):
     """A row for each of the networks of a seed: seconds that works add for those who pass their edge meanwhile."""
     yield "| Network | works | of what the open lanes pass | SUMO adds, s | here | longest stand | |"
     yield "|---|---|---|---|---|---|---|"
     for number in range(len(DRAWN)):
-        yield drawn_row(drawn(seed, number, folder), program, seeds)
+        yield drawn_row(drawn(seed, number, folder, share), program, seeds)
 
 
 def drawn_row(one: Drawn, program: str, seeds: range) -> str:

@@ -17,7 +17,7 @@ from streetsim.simulation.detours import Detours
 from streetsim.simulation.errors import NotHere
 from streetsim.simulation.fleet import NOWHERE, Place
 from streetsim.simulation.simulation import Simulation as Running
-from streetsim.works.sites import why_parallel, with_works
+from streetsim.works.sites import Asking, why_parallel, with_works
 
 __all__ = ["NOWHERE", "ListedScenario", "NotHere", "Scenario", "TrafficLight"]
 
@@ -49,7 +49,7 @@ class Scenario(Running):
         self, run: FilePath, mapping: FilePath, program: str | None = None, workers: int = 1,
         joint: Iterable[str] = (), rounds: int = ROUNDS,
     ) -> None:  # fmt: skip
-        source, read, _ = with_works(*read_with_map(run, mapping), mapping, [], joint)
+        source, read, _ = with_works(*read_with_map(run, mapping), mapping, [], Asking(tuple(joint)))
         super().__init__(source, read, rounds, program, workers)
         for told in self.driving.lights.notes():
             warnings.warn(told, stacklevel=2)
@@ -137,7 +137,7 @@ class Scenario(Running):
         lines = [Line(0, "", {"plan": plan, "depart": departs[name]}) for name, plan in plans.items()]
         run = Run("", Line(0, "", {"dawdle": 0, **self.source.load.command}), enters=lines)
         records = Records(ends=[*self.vehicles(self.fleet.cars.values())])
-        return list(rows.trips(records, run, replace(self.map, cars=list(plans), links_of={})))
+        return list(rows.trips(records, run, replace(self.map, cars=list(plans))))
 
     def write_trips(self, path: FilePath) -> None:
         """Writes these rows as a table."""

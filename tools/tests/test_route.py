@@ -73,6 +73,18 @@ class Routing(unittest.TestCase):
         both = Router(GRAPH, costs, {number[name]: [(0, 150)] for name in "bc"})
         self.assertEqual(both.search(number["a"], number["d"], 100.0), ((), FAR))
 
+    def test_a_movement_that_is_barred_for_a_time(self):
+        """From a to b nobody turns who would come there before 150 s; from elsewhere b is open."""
+        costs, number = costs_with({way("c", "d"): [30] * 4}), GRAPH.number
+        a, b, d = (number[name] for name in "abd")
+        router, path = Router(GRAPH, costs, {(a, b): [(0, 150)]}), tuple(map(number.get, "abd"))
+        self.assertEqual(router.search(a, d, 100.0)[0], tuple(map(number.get, "acd")))
+        self.assertEqual(router.search(a, d, 160.0)[0], path)
+        self.assertEqual(router.search(b, d, 100.0)[0], path[1:])
+        met = [router.met(*one) for one in ((path, 100.0), (path, 160.0), (path[1:], 100.0))]
+        self.assertEqual(met, [1, None, None])
+        self.assertEqual(router.clocks(path, 100.0)[1], 150.0, "who has that way waits")
+
     def test_a_trip_of_one_edge(self):
         router = Router(GRAPH, costs_with({way("a"): [20] * 4}))
         found = router.found(Wish(7, 0, 0, 50.0, (0,)))

@@ -60,6 +60,19 @@ class TurningOff(unittest.TestCase):
         seconds = [20.0 if movement == numbers("qr") else 10.0 for movement in GRAPH.movements]
         self.assertEqual(self.turned(shut=(31, 1000), seconds=seconds), numbers("pqwz"))
 
+    def test_a_movement_that_is_barred(self):
+        """From r one turns to x alone, and from q to w as well."""
+        for way, expected in (("rx", "pqwz"), ("qr", "pqwz"), ("pq", "pyz")):
+            path = numbers("pqrxz")
+            trip = Trip("t", 0.0, path[0], path[-1], "", path, 0.0)
+            closing = Closing({numbers(way): [(0, 1000)]}, frozenset(), FREE)
+            self.assertEqual(turn_off([trip], closing, GRAPH, flat_costs(GRAPH, FREE), True), 1)
+            self.assertEqual(trip.path, numbers(expected))
+        trip = Trip("t", 0.0, numbers("r")[0], X, "", numbers("rx"), 0.0)
+        closing = Closing({numbers("rx"): [(0, 1000)]}, frozenset(), FREE)
+        with self.assertRaisesRegex(Fault, "'t' has no way but to turn from edge 'r' to 'x', whose lane is closed"):
+            turn_off([trip], closing, GRAPH, flat_costs(GRAPH, FREE), True)
+
     def test_no_way_round(self):
         for names, told in (
             ("pqrx", "'t' ends on edge 'x' while it is closed"),
@@ -195,6 +208,32 @@ class WithWorks(Commands):
         self.assertIn("20 vehicles, 20 arrived", told)
         lines = [json.loads(line) for line in (self.folder / "a.jsonl").read_text().splitlines()]
         self.assertEqual([(one["at"], one["cmd"]) for one in lines if "at" in one], [(120, "close"), (900, "reopen")])
+
+    def test_who_loses_the_only_lane(self):
+        """The left lane leads to the short way and the right one to the far way. With --lost bar all go there who come
+        while the left one is closed at its end, whether they know of it or not; else none does."""
+        ends = {"in": ("W", "A"), "short": ("A", "B"), "far": ("A", "M"), "long": ("M", "B"), "out": ("B", "E")}
+        metres = {"far": 450.0, "long": 450.0}
+        edges = [
+            (name, *ends[name], [lane(name, at, metres.get(name, 300.0)) for at in range(1 + (name == "in"))])
+            for name in ends
+        ]
+        ways = [("in", 1, "short"), ("in", 0, "far"), ("far", 0, "long"), ("long", 0, "out"), ("short", 0, "out")]
+        self.given(net(edges, [(*way, 0, "") for way in ways]), flow(60, 1200))
+        works = ("--close", "in_1:100-300:00:05-00:15", "--iterations", 2, "--gap", 1)
+        only = "works on in_1 close the only lane from which 3\\d vehicles turn to short while they last: "
+        led = "these are led from in_0, for that time alone"
+        for words, told in (((), led), (("--lost", "bar"), "ways round are")):
+            _, said = self.route(*works, "--knowing", "0,1", *words)
+            self.assertRegex(said, only + told)
+            for share in ("0", "1"):
+                ways = self.routes(f"out-{share}")
+                for at in range(60):
+                    if 300 <= 20 * at <= 840 or not 240 <= 20 * at <= 900:
+                        barred = 300 <= 20 * at <= 840 and words
+                        self.assertIn("far" if barred else "short", ways[f"f.{at}"], (words, share, at))
+        setting = json.loads((self.folder / "out/knowing-1/setting.json").read_text())
+        self.assertEqual((setting["lost"], setting["not_trusted"]), ("bar", []))
 
     def test_ways_before_that_are_given(self):
         self.given(two_ways(), flow(10, 100))

@@ -2,6 +2,7 @@
 import csv
 import json
 import unittest
+from dataclasses import replace
 
 from support import PROGRAM, Case, needs_simulator
 from test_pictures import needs_matplotlib
@@ -182,11 +183,11 @@ class Movements(unittest.TestCase):
 
     def test_who_loses_the_only_lane(self):
         run, lost = self.lost(20, 39)
-        [told] = told_of(lost, self.MAP, False)
+        [told] = told_of(lost, self.MAP, "lead")
         self.assertEqual(
             told,
-            "works on a_1 close the only lane from which 2 vehicles turn to c while they last: these are led from a_0 "
-            "(--lost wait: they wait until the works end)",
+            "works on a_1 close the only lane from which 2 vehicles turn to c while they last: these are led from a_0, "
+            "from which all may turn in the whole run (--lost wait: they wait until the works end)",
         )
         self.assertEqual(self.lost(20, 30)[1], [], "they come back to the lane behind the works")
         self.assertEqual(self.lost(20, 39, lane=0)[1], [], "the other lane leads there too")
@@ -195,10 +196,47 @@ class Movements(unittest.TestCase):
         run, lost = self.lost(20, 39)
         signal = {"cmd": "signal", "node": 1, "offset": 0, "phases": [[30, [[0, 0, 1], [0, 0, 2], [0, 1, 2]]]]}
         run.first = [Line(2, json.dumps(signal), signal)]
-        made = waiting(run, lost)
+        made = waiting(run, self.MAP, lost)
         self.assertEqual(made.load.command["turns"], [[0, 0, 1, 0], [0, 1, 1, 1], [0, 1, 2, 0]])
         self.assertEqual(json.loads(made.first[0].text)["phases"], [[30, [[0, 0, 1], [0, 1, 2]]]])
-        self.assertIn("these wait until the works end", *told_of(lost, self.MAP, True))
+        self.assertIn("these wait until the works end", *told_of(lost, self.MAP, "wait"))
+
+
+class Pockets(unittest.TestCase):
+    """The same where the right lane (link 0) and the left one (1) are links of their own; the left one leads to c."""
+
+    MAP = mapped(
+        link("a"), replace(link("a"), lanes=(1,)), link("b"), link("c"),
+        turns=[turn(0, 0, 2), turn(1, 0, 3), turn(0, 0, 3, added=True)],
+    )  # fmt: skip
+    LINKS = [replace(one, lanes=(at,)) for at, one in enumerate(MAP.links[:2])] + MAP.links[2:]
+
+    def setUp(self):
+        self.map = replace(self.MAP, links=self.LINKS)
+
+    def lost(self, *closures):
+        return lost_movements(run_of([[0, 2], [1, 3], [1, 3]]), self.map, closures)
+
+    def test_who_is_led_over_the_link_beside(self):
+        lost = self.lost(Closure(1, 0, 10, 39, 0, 900))
+        for how, searched, told in (
+            ("lead", False, "these are led from a_0, for that time alone (--lost wait: they wait until the works end)"),
+            ("wait", False, "these wait until the works end"),
+            ("bar", True, "ways round are searched for those who come meanwhile"),
+        ):
+            before = "works on a_1 close the only lane from which 2 vehicles turn to c while they last: "
+            self.assertEqual(list(told_of(lost, self.map, how, searched)), [before + told])
+        [told] = told_of(lost, self.map, "bar")
+        self.assertIn("these have no way, and wait until the works end; streetsim-route --close .. --lost bar", told)
+
+    def test_those_alone_who_come_meanwhile(self):
+        self.assertEqual(self.lost(Closure(1, 0, 10, 39, 3, 900)), [])
+        [lost] = self.lost(Closure(1, 0, 10, 39, 3, 900), Closure(1, 0, 0, 39, 2, 3))
+        self.assertEqual((lost.way, lost.vehicles), (("a", "c"), 1))
+
+    def test_where_nothing_is_lost_or_all_is_closed(self):
+        self.assertEqual(self.lost(Closure(1, 0, 10, 35, 0, 900)), [], "they come back behind the works")
+        self.assertEqual(self.lost(Closure(1, 0, 10, 39, 0, 9), Closure(0, 0, 10, 39, 0, 9)), [], "told otherwise")
 
 
 class Crowding(unittest.TestCase):

@@ -68,10 +68,10 @@ class Works(Case):
         self.tool("import", *words, "-o", self.folder / "run.jsonl", "--map", self.folder / "map.json", "--strict")
         return self.folder / "run.jsonl", self.folder / "map.json"
 
-    def run_with(self, run, mapped, *closed, status=0):
+    def run_with(self, run, mapped, *closed, status=0, more=()):
         """What is said, and the mean trip of those who arrived, and how many did."""
         words = [word for text in closed for word in ("--close", text)]
-        words += ["--until", 1200, "--rescue", 0, "--out", self.folder / "out", "--program", PROGRAM]
+        words += ["--until", 1200, "--rescue", 0, "--out", self.folder / "out", "--program", PROGRAM, *more]
         told = self.tool("run", run, "--map", mapped, *words, status=status)[1]
         if status:
             return told
@@ -90,6 +90,27 @@ class Works(Case):
         self.assertIn("edges a", told)
         # From its begin on: who comes on the closed lane leaves it in the first cells.
         self.assertLess(abs(self.run_with(run, mapped, "a_1:0-300:60-1200")[1] - mean), 10)
+
+    def test_who_loses_the_only_lane(self):
+        """The left lane alone leads to to1, and its works begin 100 m from the edge's begin: 50 come meanwhile."""
+        run, mapped = self.imported()
+        _, mean, _ = self.run_with(run, mapped)
+        told, led, arrived = self.run_with(run, mapped, "a_1:100-300:60-900")
+        self.assertEqual(arrived, 100)
+        self.assertLess(abs(led - mean), 10)
+        self.assertIn("these are led from a_0, for that time alone", told)
+        self.assertNotIn("joint", told)
+        works = [works_of("a_1:100-300:60-400", read_map(mapped))]
+        made, mapping, _ = with_works(read_run(run), read_map(mapped), mapped, works)
+        [shut] = shut_links(sites_of(works, mapping), mapping)
+        through = Counter(line.command["depart"] < 380 for line in made.enters if shut in line.command["plan"])
+        self.assertLess(through[True], 5, "those alone who are past before the works")
+        self.assertGreater(through[False], 10, "who comes when they are over has the lane again")
+        for how, words in (("wait", "these wait until the works end"), ("bar", "these have no way")):
+            told, late, arrived = self.run_with(run, mapped, "a_1:100-300:60-900", more=("--lost", how))
+            self.assertEqual((arrived, "joint" in told), (100, False))
+            self.assertGreater(late, mean + 100)
+            self.assertIn(words, told)
 
     def test_three_lanes(self):
         """Of three lanes two are closed: one is joint with the open one, and who has the other takes a turn before."""

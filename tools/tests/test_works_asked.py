@@ -73,10 +73,17 @@ class Asked(AskedCase):
         self.assertIn("--close 'a_1:9-5:300-900': ", told)
 
     def test_words(self):
+        works = ["--close", "a_0:100-200:300-900"]
         for words, why in (
             (["--close", ""], "--close"),
             (["--merge", "zip"], "--merge: invalid choice: 'zip' (choose from 'turns', 'none')"),
-            (["--lost", "bar"], "--lost: invalid choice: 'bar' (choose from 'lead', 'wait')"),
+            (["--lost", "turn"], "--lost: invalid choice: 'turn' (choose from 'lead', 'wait', 'bar')"),
+            (["--lost", "wait"], "--lost is of road works: give --close too"),
+            (["--works-limit", "30"], "--works-limit is of road works: give --close too"),
+            ([*works, "--works-limit", "x"], "--works-limit: 'x'"),
+            ([*works, "--works-limit", "4"], "--works-limit: '4' is not 5 to 130"),
+            ([*works, "--works-limit", "60"], "--works-limit 60 needs the import anew: 60 km/h on a: its limit is 50"),
+            (["--close", "a_0:100-120:300-900", "--works-limit", "30"], "edge 'a': works to 120 m are too short"),
             (["--joint", "x"], "--joint: the map has no edge or lane 'x'"),
             (["--joint", "to0"], "--joint: edge 'to0' has one lane, and none beside it"),
         ):
@@ -87,6 +94,9 @@ class Asked(AskedCase):
         for text, why in (
             ('merge = "zip"\n[variant.a]\n', "merge = 'zip' is neither 'turns' nor 'none'"),
             ('[variant.a]\nmerge = "zip"\n', "variant 'a': merge = 'zip' is neither 'turns' nor 'none'"),
+            ('lost = "turn"\n[variant.a]\n', "lost = 'turn' is none of 'lead', 'wait', 'bar'"),
+            ("[variant.a]\nworks_limit = 30\n", "close = [..] is needed, and no route"),
+            ("[variant.a]\nworks_limit = 3\n", "works_limit = 3 is not 5 to 130 km/h"),
             ('[variant.a]\nclose = "a_0:100-200:300-900"\n', "is no list of texts"),
             ('[variant.a]\nclose = ["a_0:100-200:300"]\n', HOW),
         ):
@@ -97,6 +107,8 @@ class Asked(AskedCase):
         for text, why in (("a_0:9-5:0-9", HOW), ("a_0:0-9:0-900,b_0:0-9:0-900", "the map has no lane 'b_0'")):
             told = self.refused("route", *words, "--program", "/bin/cat", "--close", text)
             self.assertIn(why, told)
+        told = self.refused("route", *words, "--program", "/bin/cat", "--lost", "bar")
+        self.assertEqual(told, "streetsim-route: --lost is of road works: give --close too\n")
 
     def test_pages(self):
         words = ["--map", self.map_path, "--program", "/bin/cat", "--no-open", "--joint", "to0"]

@@ -118,6 +118,16 @@ def add_merge(made: argparse.ArgumentParser) -> None:
     )
 
 
+def add_lost(made: argparse.ArgumentParser) -> None:
+    """The word that says what those do who lose their only lane by road works."""
+    made.add_argument(
+        "--lost",
+        choices=["lead", "wait", "bar"],
+        help="those whose only lane for a turn is closed are led from the lane beside it; or wait until the works end; "
+        "or the turn is barred, and streetsim-route finds their ways (default lead)",
+    )
+
+
 def add_rounds(made: argparse.ArgumentParser, default: int | None = ROUNDS, usual: str = "default %(default)s") -> None:
     """The word that says by how many rounds vehicles give way without a light; usual: what its help says of its
     default."""

@@ -1,6 +1,7 @@
 """streetsim-import: SUMO networks and routes to streetsim's commands."""
 import argparse
 import sys
+from dataclasses import replace
 from typing import Any
 
 from streetsim.base import limits
@@ -48,6 +49,13 @@ def parser() -> argparse.ArgumentParser:
     add_names(made)
     made.add_argument("--warnings", metavar="FILE", help="a table of all that is said, with all names (.csv)")
     made.add_argument("--strict", action="store_true", help="end with status 1 where vehicles were skipped")
+    made.add_argument(
+        "--slow",
+        default="",
+        metavar="EDGE:METRES-METRES:KMH",
+        help="a lower limit on a stretch of an edge, which becomes up to three that follow each other; several with "
+        "commas between",
+    )
     add_options(made)
     return made
 
@@ -180,7 +188,7 @@ def main(arguments: list[str]) -> int:
     outputs = {"-o": words.output, "--map": words.map, **({"--warnings": words.warnings} if words.warnings else {})}
     refuse_equal(outputs, [*sources.paths(), *([words.names] if words.names else [])])
     place_of(words.output), place_of(words.map)
-    report, options = Report(), options_of(words)
+    report, options = Report(), replace(options_of(words), slow=tuple(listed(words.slow)))
     with Slow(f"importing {words.net}"):
         made = read_and_converted(sources, options, report, told)
     mapping = write_run(words.output, words.map, made, report, sources, words.names)

@@ -9,7 +9,7 @@ from streetsim.base.files import Fault, place_of, refuse_equal
 from streetsim.base.progress import Slow, Stopping
 from streetsim.base.report import Report
 from streetsim.base.seeds import seeds_of
-from streetsim.base.words import Parser, add_lights, add_rounds, files_of, listed, time_within, within
+from streetsim.base.words import Parser, add_lights, add_lost, add_rounds, files_of, listed, time_within, within
 from streetsim.cli.import_ import add_options, options_of
 from streetsim.cli.signals import add_machines
 from streetsim.model import trust
@@ -126,6 +126,7 @@ def add_works(made: argparse.ArgumentParser) -> None:
         metavar="EDGE",
         help="edges on which the others are told (default: the last before the works)",
     )
+    add_lost(made)
     made.add_argument(
         "--before",
         metavar="FILE",
@@ -176,7 +177,7 @@ def check_words(words: argparse.Namespace) -> None:
             raise Fault(f"{path}: there is no folder {os.path.dirname(place_of(path))}")
     if os.path.exists(words.out) and not os.path.isdir(words.out):
         raise Fault(f"{words.out}: exists and is no folder")
-    for name in ("knowing", "sign", "before"):
+    for name in ("knowing", "sign", "before", "lost"):
         if getattr(words, name) and not words.close:
             raise Fault(f"--{name} is of road works: give --close too")
     words.close = [one for text in words.close for one in listed(text)]
@@ -216,7 +217,7 @@ def job_of(words: argparse.Namespace) -> Job:
         ),
         asked=Asked(words.iterations, words.gap, words.share, seeds_of(words.seeds, "--seeds"), words.tried),
         check=seeds_of(words.check, "--check"),
-        works=Closed(words.close, words.sign, words.knowing or [1.0], words.before),
+        works=Closed(words.close, words.sign, words.lost or "lead", words.knowing or [1.0], words.before),
         target=Target(words.output, words.run, words.map, words.out),
         words={**{name: getattr(words, name) for name in KEPT}, **files},
     )

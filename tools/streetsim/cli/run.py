@@ -2,8 +2,11 @@
 import argparse
 
 from streetsim.base import limits, program
-from streetsim.base.words import Parser, add_jobs, add_lights, add_merge, add_rounds, add_run, time_within, within
+from streetsim.base.words import (
+    Parser, add_jobs, add_lights, add_lost, add_merge, add_rounds, add_run, time_within, within,
+)
 from streetsim.outputs.kinds import KINDS, kinds_of
+from streetsim.sumo.slowing import LIMITS
 
 
 def parser() -> argparse.ArgumentParser:
@@ -83,12 +86,12 @@ def add_lanes(made: argparse.ArgumentParser) -> None:
         "several with commas between, or by the word again",
     )
     add_merge(made)
+    add_lost(made)
     made.add_argument(
-        "--lost",
-        choices=["lead", "wait"],
-        default="lead",
-        help="those whose only lane for a turn is closed are led from the lane beside it, or wait until the works end "
-        "(default %(default)s)",
+        "--works-limit",
+        type=within(LIMITS[0], LIMITS[-1]),
+        metavar="KMH",
+        help="the limit along the works of --close, for the whole run; their edges are imported anew in parts",
     )
     made.add_argument(
         "--joint",

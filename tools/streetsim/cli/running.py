@@ -24,7 +24,7 @@ from streetsim.run.asking import told_of_polls
 from streetsim.run.ending import first_guess
 from streetsim.run.settings import Settings
 from streetsim.works.asked import all_works
-from streetsim.works.sites import with_works
+from streetsim.works.sites import Asking, with_works
 
 DETECTORS = {"e1": "inductionLoop", "e2": "laneAreaDetector"}  # SUMO's names, by the kind of output
 # What a run writes where a word asks for it.
@@ -39,8 +39,12 @@ def run_by(words: argparse.Namespace) -> int:
     run, mapping = read_with_map(words.run, words.map)
     settings = settings_of(words, run)
     refuse_unknown(words, settings, mapping)
+    for name in ("lost", "works_limit"):
+        if getattr(words, name) and not words.close:
+            raise Fault(f"--{name.replace('_', '-')} is of road works: give --close too")
     works = all_works(words.close, mapping, run.start(), words.until)
-    run, mapping, told = with_works(run, mapping, words.map, works, listed(words.joint), words.lost == "wait")
+    asking = Asking(tuple(listed(words.joint)), words.lost or "lead", words.works_limit)
+    run, mapping, told = with_works(run, mapping, words.map, works, asking)
     print(*told, sep="\n", end="\n" if told else "", file=sys.stderr)
     if settings.until <= run.start():
         raise Fault(f"--until {settings.until}: the run starts at {run.start()}")

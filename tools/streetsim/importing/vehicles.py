@@ -30,7 +30,7 @@ def vehicles_with_ways(
     trips = read_trips(paths, net, graph, types, options, report).all
     lost: set[str] = set()
     if any(not trip.path for trip in trips):
-        free, capacity = times_without_routes(net, graph, replace(options, joint=()))
+        free, capacity = times_without_routes(net, graph, replace(options, joint=(), led=(), slow=()))
 
         def search(wishes: Sequence[Wish], costs: Costs) -> list[Found]:
             router = Router(graph, costs)

@@ -6,7 +6,7 @@ from streetsim.base.files import FilePath
 from streetsim.live.page import own_lines, page_of
 from streetsim.model.mapping import Map
 from streetsim.model.runs import Run
-from streetsim.works.sites import with_works
+from streetsim.works.sites import Asking, with_works
 
 
 @dataclass(slots=True)
@@ -20,7 +20,7 @@ class Joining:
 
     def made(self) -> tuple[Run, Map, list[str]]:
         """The run and its map with these lanes joint, and what there is to say."""
-        run, mapping, told = with_works(self.run, self.mapping, self.map_path, [], self.names)
+        run, mapping, told = with_works(self.run, self.mapping, self.map_path, [], Asking(self.names))
         return run, replace(mapping, sources=self.mapping.sources), told
 
     def page(self, engine: bytes | None = None) -> tuple[bytes, list[bytes], list[str]]:

@@ -74,7 +74,7 @@ class Map:
     detectors: list[Detector] = field(default_factory=list)  # of additional files
     told: list[list[str]] = field(default_factory=list)  # the same as a table, base.report.Report.rows
     yields: list[Waiting] = field(default_factory=list)  # who gives way without a light
-    links_of: dict[str, list[int]] = field(default_factory=dict)  # edge: links
+    links_of: dict[str, list[int]] = field(default_factory=dict, init=False)  # edge: links
     sources: Json = field(default_factory=dict)  # the files of the import, as model.sources keeps them
     kinds: Json = field(default_factory=dict)  # of the vehicles, as sumo.demand.kinds_of
     location: Json = field(default_factory=dict)  # where the network lies: offset, projection

@@ -11,6 +11,7 @@ from streetsim.ways.graph import Graph
 from streetsim.ways.router import FAR, Path, Router, Shut
 from streetsim.ways.trips import Trip
 from streetsim.works.asked import Works, sites_of
+from streetsim.works.movements import closed_ends, closures_at, lost_ways
 from streetsim.works.sites import shut_links
 
 
@@ -18,13 +19,24 @@ Times = tuple[float, float]  # first and last second
 
 
 @dataclass(frozen=True, slots=True)
+class Shutting:
+    """Works as they are asked for. sign: edges on which those who do not know of them are told; lost: what those do who
+    lose their only lane, of works.movements.LOST."""
+
+    close: Sequence[str]
+    sign: Sequence[str]
+    lost: str = "lead"
+
+
+@dataclass(frozen=True, slots=True)
 class Closing:
-    """Works as the router sees them. shut: times by edge; signs: edges on which those who do not know of the works are
-    told of them; free: seconds of movements without traffic."""
+    """Works as the router sees them. shut: times by edge, and by movement where these are barred; signs: edges on which
+    those who do not know of the works are told of them; free: seconds of movements without traffic."""
 
     shut: Shut
     signs: frozenset[int]
     free: Sequence[float]
+    asked: Shutting = Shutting((), ())
 
 
 def shut_edges(
@@ -44,6 +56,12 @@ def shut_edges(
     return found
 
 
+def barred_ways(works: Iterable[Works], graph: Graph, mapping: Map) -> dict[tuple[int, int], list[Times]]:
+    """By the numbers of both edges the times in which works have closed the only lanes of a movement."""
+    lost = lost_ways(closed_ends(closures_at(sites_of(works, mapping)), mapping), mapping)
+    return {(graph.number[edge], graph.number[after]): list(times) for (edge, after), times in lost.items()}
+
+
 def common(one: Iterable[Times], other: Collection[Times]) -> list[Times]:
     """The times that are in both."""
     both = [(max(first, begin), min(last, end)) for first, last in one for begin, end in other]
@@ -60,23 +78,25 @@ def turn_off(trips: Iterable[Trip], closing: Closing, graph: Graph, costs: Costs
     """Those who would come to a shut edge turn off before it, and go on by the way that is shortest without traffic;
     gives how many have other ways than before. strict: where there is no way that is a Fault, and else they wait."""
     router, without, turned = Router(graph, costs, closing.shut), flat_costs(graph, closing.free), 0
-    free = {edge: Router(graph, without, {**closing.shut, edge: [(-FAR, FAR)]}) for edge in closing.shut}
+    free = {what: Router(graph, without, {**closing.shut, what: [(-FAR, FAR)]}) for what in closing.shut}
     for trip in trips:
         place = router.met(trip.path, trip.entry)
         if place is None:
             continue
-        path = way_round(trip, place, closing.signs, router, free[trip.path[place]])
+        edge, way = trip.path[place], (trip.path[place - 1], trip.path[place])
+        path = way_round(trip, place, closing.signs, router, free[edge if edge in free else way])
         if not path and strict:
-            raise Fault(f"trip {trip.name!r} {why_not(trip.path, place, graph)}")
+            why = (why_not if edge in free else no_other)(trip.path, place, graph)
+            raise Fault(f"trip {trip.name!r} {why}")
         turned += bool(path) and path != trip.path
         trip.path = path or trip.path
     return turned
 
 
 def way_round(trip: Trip, shut: int, signs: Collection[int], router: Router, free: Router) -> Path:
-    """The way of a trip that turns off on its first edge with a sign, or at the last crossing before the shut edge,
-    which is at a place of its path; empty where there is none. free: without the shut edge at any time, as who comes
-    later than without traffic would come to it again."""
+    """The way of a trip that turns off on its first edge with a sign, or at the last crossing before what is shut: the
+    edge at a place of its path, or the movement to it; empty where there is none. free: without this at any time, as
+    who comes later than without traffic would come to it again."""
     clocks = router.clocks(trip.path[:shut], trip.entry)
     signed = (at for at in range(shut) if trip.path[at] in signs)
     for at in (*signed, *reversed(range(shut))):
@@ -95,3 +115,12 @@ def why_not(path: Path, place: int, graph: Graph) -> str:
             "or change the times of the works"
         )
     return f"has no way round edge {edge!r} while it is closed"
+
+
+def no_other(path: Path, place: int, graph: Graph) -> str:
+    """Why a trip can not drive that has no way but over a barred movement, to the edge at a place of its path."""
+    edge, after = (graph.edges[path[at]] for at in (place - 1, place))
+    return (
+        f"has no way but to turn from edge {edge!r} to {after!r}, whose lane is closed: take it out, or have --lost "
+        "lead or wait"
+    )

@@ -11,12 +11,13 @@ from statistics import fmean
 from streetsim.base.files import Fault
 from streetsim.base.seeds import interval
 from streetsim.model import trust
-from streetsim.routes.closing import Closing, knows, shut_edges, why_not
+from streetsim.routes.closing import Closing, Shutting, Times, barred_ways, knows, shut_edges, why_not
 from streetsim.routes.loading import Town
 from streetsim.routes.search import Asked, Iteration, Judged, Search
 from streetsim.sessions.prepared import all_gone
 from streetsim.ways.empty import map_without_routes
 from streetsim.ways.graph import Graph
+from streetsim.ways.router import Way
 from streetsim.ways.trips import Trip, Trips
 from streetsim.works.closures import closures_of
 from streetsim.works.crowding import beyond_joint
@@ -117,17 +118,27 @@ def check_works(texts: Sequence[str], signs: Sequence[str], trips: Sequence[Trip
             raise Fault(f"trip {trip.name!r} {why_not((trip.origin,), 0, town.graph)}")
 
 
-def closing_of(texts: Sequence[str], signs: Sequence[str], graph: Graph, before: Search, judged: Judged) -> Closing:
-    """The works of some --close and --sign as a router sees them, by the run of ways without works that was judged."""
+def closing_of(asked: Shutting, graph: Graph, before: Search, judged: Judged) -> Closing:
+    """Works as a router sees them, by the run of ways without works that was judged."""
     mapping = judged.loaded.mapping
-    shut = shut_edges([works_of(text, mapping) for text in texts], graph, mapping, before.town.dawdle)
-    return Closing(shut, frozenset(graph.number[name] for name in signs), judged.loaded.free)
+    works = [works_of(text, mapping) for text in asked.close]
+    shut: dict[int | Way, Sequence[Times]] = {}
+    shut.update(shut_edges(works, graph, mapping, before.town.dawdle).items())
+    if asked.lost == "bar":
+        shut.update(barred_ways(works, graph, mapping).items())
+    return Closing(shut, frozenset(graph.number[name] for name in asked.sign), judged.loaded.free, asked)
+
+
+def town_with_works(town: Town, asked: Shutting) -> Town:
+    """The same town with works."""
+    made = copy.copy(town)
+    made.works, made.lost = tuple(asked.close), asked.lost
+    return made
 
 
 def diverted(
     before: Diverted,
     closing: Closing,
-    texts: Sequence[str],
     asked: Asked,
     check: range,
     shares: Sequence[float],
@@ -135,8 +146,7 @@ def diverted(
 ) -> Iterator[Diverted]:
     """What each share of drivers who know of the works gives; all begin with the ways before."""
     first = before.search
-    town = copy.copy(first.town)
-    town.works = tuple(texts)
+    town = town_with_works(first.town, closing.asked)
     for share in shares:
         trips = [
             dataclasses.replace(trip, changes=trip.changes and knows(trip.name, share, asked.seeds[0]))

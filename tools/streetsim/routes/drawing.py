@@ -54,7 +54,7 @@ def flows(pyplot: Pyplot, before: Diverted, one: Diverted) -> Figure:
     links, graph = before.judged.loaded.mapping.links, before.search.town.graph
     there, here = (Counter(edge for trip in case.trips for edge in set(trip.path)) for case in (before, one))
     number = [graph.number[link.edge] for link in links]
-    closed = set(one.search.closing.shut) if one.search.closing else set()
+    closed = {what for what in one.search.closing.shut if isinstance(what, int)} if one.search.closing else set()
     works = [middle(link.shape) for link, edge in zip(links, number, strict=True) if edge in closed]
     values = [[counts[edge] for edge in number] for counts in (there, here)]
     figure, axes = pyplot.subplots(1, 3, figsize=(13, 4.4), layout="constrained")

@@ -9,7 +9,10 @@ from statistics import fmean
 from streetsim.base.files import whole_file, whole_folder
 from streetsim.base.progress import Stopping
 from streetsim.model.tables import write_table
-from streetsim.routes.diverting import SHARES, Diverted, closing_of, diverted, placed, share_rows, within_gap
+from streetsim.routes.closing import Shutting
+from streetsim.routes.diverting import (
+    SHARES, Diverted, closing_of, diverted, placed, share_rows, town_with_works, within_gap,
+)
 from streetsim.routes.drawing import draw
 from streetsim.routes.loading import Town, write_loaded
 from streetsim.routes.results import FLOWS, NAME, figures, flow_rows, write_results
@@ -27,13 +30,11 @@ AT_WISH = (
 
 
 @dataclass(frozen=True, slots=True)
-class Closed:
+class Closed(Shutting):
     """Road works as they are asked for, and who knows of them."""
 
-    close: Sequence[str]
-    sign: Sequence[str]  # edges at which those turn off who do not know of them
-    knowing: Sequence[float]  # shares of drivers who do
-    before: str | None  # a file of ways without the works
+    knowing: Sequence[float] = (1.0,)  # shares of drivers who do
+    before: str | None = None  # a file of ways without the works
 
 
 @dataclass(frozen=True, slots=True)
@@ -80,8 +81,10 @@ def found_routes(job: Job, workers: Team, stopping: Stopping) -> list[Diverted]:
     before = Diverted(None, job.trips.all, search, judged)
     if not works.close:
         return [before]
-    closing = closing_of(works.close, works.sign, job.town.graph, search, judged)
-    return [before, *diverted(before, closing, works.close, job.asked, job.check, works.knowing, told)]
+    for text in town_with_works(job.town, works).told_of_lost(job.trips.all):
+        print(f"warning: {text}", file=sys.stderr)
+    closing = closing_of(works, job.town.graph, search, judged)
+    return [before, *diverted(before, closing, job.asked, job.check, works.knowing, told)]
 
 
 def write(job: Job, all_: Sequence[Diverted]) -> None:
@@ -118,6 +121,7 @@ def setting_of(job: Job, one: Diverted, before: Diverted) -> dict:
     setting |= {"until": job.ground.until, "iteration": one.search.best.number, "not_trusted": list(one.doubts())}
     if works.close:
         setting |= {"close": works.close, "knowing": one.share, "sign": works.sign, "before": works.before}
+        setting["lost"] = works.lost
         setting |= {"without_works": figures(before.judged)}
     return setting
 

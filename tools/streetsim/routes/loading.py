@@ -18,7 +18,7 @@ from streetsim.ways.minor import Minor
 from streetsim.ways.seconds import free_seconds
 from streetsim.ways.trips import Trip, vehicles_of
 from streetsim.works.asked import works_of
-from streetsim.works.sites import closed, lanes_to_join
+from streetsim.works.sites import closed, lanes_to_join, lanes_to_lead
 
 
 @dataclass(slots=True)
@@ -38,6 +38,7 @@ class Town:
         self.graph: Graph = graph_of_net(net)
         self.minor = Minor(self.graph, net)
         self.works: tuple[str, ...] = ()  # as streetsim-run --close takes them
+        self.lost = "lead"  # what those do who lose their only lane by them, of works.movements.LOST
 
     @property
     def dawdle(self) -> float:
@@ -49,13 +50,14 @@ class Town:
         routes, so it is imported anew; Fault where a trip cannot drive."""
         run, mapping = self.imported(trips, ())
         if self.works:
-            run, mapping = self.with_works(trips, run, mapping)
+            run, mapping, _ = self.with_works(trips, run, mapping)
         free = free_seconds(self.graph, mapping, [line.command for line in run.first], self.dawdle)
         return Loaded(run, mapping, free)
 
-    def imported(self, trips: Sequence[Trip], joint: Sequence[str]) -> tuple[Run, Map]:
-        """The run and its map, with some further lanes joint."""
-        report, options = Report(), replace(self.options, joint=(*self.options.joint, *joint))
+    def imported(self, trips: Sequence[Trip], joint: Sequence[str], led: Sequence[str] = ()) -> tuple[Run, Map]:
+        """The run and its map, with some further lanes joint; led: lanes whose turns the links beside get."""
+        report = Report()
+        options = replace(self.options, joint=(*self.options.joint, *joint), led=(*self.options.led, *led))
         network, lights, commands, names = converted(
             self.net, self.types, vehicles_of(trips, self.graph), options, report
         )
@@ -67,16 +69,24 @@ class Town:
         refuse_over_limits(network, lines[0].text, names)
         return run_of("the routes", lines), map_of(network, lights, names, report)
 
-    def with_works(self, trips: Sequence[Trip], run: Run, mapping: Map) -> tuple[Run, Map]:
-        """The run and its map with the town's works, imported anew where lanes must be joint."""
+    def with_works(self, trips: Sequence[Trip], run: Run, mapping: Map) -> tuple[Run, Map, list[str]]:
+        """The run and its map with the town's works, imported anew where lanes must be joint or led from beside, and
+        what is said of those who lose their only lane."""
         works = [works_of(text, mapping) for text in self.works]
-        if names := lanes_to_join(works, mapping):
-            run, mapping = self.imported(trips, names)
-        return closed(run, mapping, works)
+        led = lanes_to_lead(works, mapping) if self.lost == "lead" else []
+        if (names := lanes_to_join(works, mapping)) or led:
+            run, mapping = self.imported(trips, names, led)
+        return closed(run, mapping, works, self.lost, searched=True)
+
+    def told_of_lost(self, trips: Sequence[Trip]) -> list[str]:
+        """What is said of those of some trips with ways who lose their only lane by the town's works."""
+        return self.with_works(trips, *self.imported(trips, ()))[2]
 
 
 def read_town(net_path: str, additional: Sequence[str], options: Options, report: Report) -> Town:
-    """The network of a file, with the programs and types of additional ones."""
+    """The network of a file, with the programs and types of additional ones; Fault where edges of it are in parts."""
+    if options.slow:
+        raise Fault("ways are searched on whole edges: import the run without --slow")
     net, types = read_net(net_path, options.classes, report), Types(options.seed, report)
     for path in additional:
         read_additional(path, net, types, report)

@@ -8,6 +8,7 @@ from streetsim.base.report import Report
 from streetsim.model.mapping import Map
 from streetsim.model.runs import Run
 from streetsim.model.sources import digest_of, sources_of
+from streetsim.routes.closing import Shutting
 from streetsim.routes.diverting import Diverted, closing_of, diverted
 from streetsim.routes.loading import read_town
 from streetsim.routes.search import Asked, Iteration, Search
@@ -33,13 +34,14 @@ class Wished:
     rounds: int  # by which vehicles give way
     seeds: Sequence[int]  # of the study
     driven: bool  # detectors drive lights
+    lost: str = "lead"  # what those do who lose their only lane, of works.movements.LOST
 
 
 def routed(run: Run, mapping: Map, map_path: str, wished: Wished, where: str) -> tuple[Run, Map, list[str]]:
     """The run and its map with ways by feedback for the vehicles of its import, and what speaks against them; with
     works, round these. where: the variant, for what is told."""
     sources = sources_of(mapping.sources, map_path, run.path)
-    options = options_again(mapping, wished.joint)
+    options = options_again(mapping, joint=wished.joint)
     town = read_town(sources.net, sources.additional, options, Report())
     trips = read_trips([*sources.routes, *sources.trips], town.net, town.graph, town.types, options, Report())
     trips.all = connected(trips.all, town.net, town.graph, options.ignore_route_errors, Report())
@@ -56,8 +58,9 @@ def routed(run: Run, mapping: Map, map_path: str, wished: Wished, where: str) ->
         search.start(ASKED.seeds[0])
         if wished.close:
             before = Diverted(None, trips.all, search, search.judged(CHECK))
-            closing = closing_of(wished.close, (), town.graph, search, before.judged)
-            search = next(diverted(before, closing, wished.close, ASKED, CHECK, [wished.knowing], told)).search
+            asked = Shutting(wished.close, (), wished.lost)
+            closing = closing_of(asked, town.graph, search, before.judged)
+            search = next(diverted(before, closing, ASKED, CHECK, [wished.knowing], told)).search
         else:
             search.improve(ASKED)
     loaded = search.town.loaded(search.trips)

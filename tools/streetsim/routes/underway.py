@@ -52,7 +52,7 @@ class WaysRound:
     def __init__(self, mapping: Map, dawdle: float) -> None:
         """dawdle: the chance to go on by a cell less, 0 to 1."""
         links = [replace(link, edge=str(at)) for at, link in enumerate(mapping.links)]
-        self.mapping, self.by_link, self.dawdle = mapping, replace(mapping, links=links, links_of={}), dawdle
+        self.mapping, self.by_link, self.dawdle = mapping, replace(mapping, links=links), dawdle
         self.graph = graph_of_map(self.by_link)
 
     def found(

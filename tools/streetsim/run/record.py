@@ -18,7 +18,7 @@ from streetsim.run.ending import Ending
 from streetsim.run.records import Records, Tell
 from streetsim.run.settings import Settings
 from streetsim.run.worked import Works
-from streetsim.works.closures import closures_of
+from streetsim.works.closures import begun_here, closures_of
 from streetsim.works.queues import reach_of
 
 
@@ -52,7 +52,8 @@ class Recorder(Desk):
         self.areas = {(one.link, one.lane) for one in self.records.areas.detectors}
         until = limits.CLOCK if settings.open_end else settings.until
         pace = [seconds / link.cells for seconds, link in zip(self.free_flow.driving, mapping.links, strict=True)]
-        self.works = Works(closures_of(run, until), mapping, settings.merging, pace if self.notes_works else ())
+        begun = begun_here(closures_of(run, until), mapping)
+        self.works = Works(begun, mapping, settings.merging, pace if self.notes_works else ())
         self.records.works = self.works.watched
         self.driver = Driver(settings.lights.driven, mapping)
 

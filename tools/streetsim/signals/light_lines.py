@@ -11,6 +11,7 @@ from streetsim.signals.plans import Light, Timing
 from streetsim.sumo.additional import read_additional
 from streetsim.sumo.net import Program, SumoNet, connections_of, read_net
 from streetsim.sumo.signals import LitNode, movements_of_junction, signal
+from streetsim.sumo.slowing import slowed
 from streetsim.sumo.types import Types
 from streetsim.sumo.yielding import hourly_flows
 
@@ -23,13 +24,14 @@ class Driven:
 
 
 def read_plans(paths: Sequence[str], mapping: Map) -> SumoNet:
-    """The network of the first file, with the signal programs of it and of the others, of which the last counts."""
+    """The network of the first file, with the signal programs of it and of the others, of which the last counts; edges
+    are in parts as in the map."""
     report = Report()
     net = read_net(paths[0], tuple(mapping.options["classes"]), report)
     types = Types(mapping.options.get("seed", 1), report)
     for path in paths[1:]:
         read_additional(path, net, types, report)
-    return net
+    return slowed(net, [], mapping.options.get("slow", ()), report)[0]
 
 
 class LightLines:

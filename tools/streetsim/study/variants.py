@@ -25,11 +25,13 @@ from streetsim.signals.light_lines import LightLines, read_plans
 from streetsim.signals.plans import light_of
 from streetsim.signals.town import Reading, lights_of, read_pair
 from streetsim.sumo.net import actuated
+from streetsim.sumo.slowing import LIMITS
 from streetsim.works.asked import all_works
-from streetsim.works.sites import lanes_to_join, with_works
+from streetsim.works.movements import LOST
+from streetsim.works.sites import Asking, lanes_to_join, with_works
 
-KEYS = {"run", "map", "until", "seeds", "base", "rounds", "merge", "lights", "variant"}
-VARIANT = {"run", "map", "plans", "close", "merge", "lights", "dawdle", "route", "knowing"}
+KEYS = {"run", "map", "until", "seeds", "base", "rounds", "merge", "lights", "lost", "variant"}
+VARIANT = {"run", "map", "plans", "close", "merge", "lights", "lost", "works_limit", "dawdle", "route", "knowing"}
 
 
 @dataclass(slots=True)
@@ -149,13 +151,14 @@ def read_variant(
     told: list[str] = []
     found: list[str] = []
     drives = variant.get("lights", study.get("lights")) != "listed" and "plans" not in variant
+    lanes, lost = tuple(joint[pair_of(study, variant)]), variant.get("lost", study.get("lost", "lead"))
     if variant.get("route"):
-        close, knowing, lanes = variant.get("close", ()), variant.get("knowing", 1.0), joint[pair_of(study, variant)]
+        close, knowing = variant.get("close", ()), variant.get("knowing", 1.0)
         seeds = seeds_of(study["seeds"], f"{path}: seeds")
-        wished = Wished(close, knowing, lanes, simulator, until, study["rounds"], seeds, drives)
+        wished = Wished(close, knowing, lanes, simulator, until, study["rounds"], seeds, drives, lost)
         run, mapping, found = routed(run, mapping, map_path, wished, where)
     else:
-        run, mapping, told = with_works(run, mapping, map_path, works, joint[pair_of(study, variant)])
+        run, mapping, told = with_works(run, mapping, map_path, works, Asking(lanes, lost, variant.get("works_limit")))
     lights = driven_lights(run, mapping) if drives and mapping.actuated else LISTED
     told += lights.notes()
     print(*(f"{where}: {text}" for text in told), sep="\n", end="\n" if told else "", file=sys.stderr)
@@ -192,6 +195,12 @@ def check_types(where: str, value: Json) -> None:
         raise Fault(f"{where}: knowing = {value['knowing']!r} is not 0 to 1")
     if value.get("merge", "turns") not in ("turns", "none"):
         raise Fault(f"{where}: merge = {value['merge']!r} is neither 'turns' nor 'none'")
+    if value.get("lost", "lead") not in LOST:
+        raise Fault(f"{where}: lost = {value['lost']!r} is none of {', '.join(map(repr, LOST))}")
+    if type(limit := value.get("works_limit", LIMITS[0])) is not int or limit not in LIMITS:
+        raise Fault(f"{where}: works_limit = {limit!r} is not {LIMITS[0]} to {LIMITS[-1]} km/h")
+    if "works_limit" in value and (value.get("route") or not value.get("close")):
+        raise Fault(f"{where}: works_limit is of works without a search for ways: close = [..] is needed, and no route")
     if value.get("lights", "actuated") not in ("actuated", "listed"):
         raise Fault(f"{where}: lights = {value['lights']!r} is neither 'actuated' nor 'listed'")
     if "knowing" in value and not (value.get("route") and value.get("close")):

@@ -16,6 +16,7 @@ from streetsim.sumo.network import Network, Options
 from streetsim.sumo.programs import kept_programs
 from streetsim.sumo.rules import warn_of_rules
 from streetsim.sumo.signals import movements, signals
+from streetsim.sumo.slowing import slowed
 from streetsim.sumo.types import Sizes, Types
 from streetsim.sumo.yielding import equivalents, hourly_flows
 
@@ -37,6 +38,8 @@ def run_and_map(made: Made, report: Report) -> tuple[list[str], Map]:
 def converted(net: SumoNet, types: Types, vehicles: Sequence[Vehicle], options: Options, report: Report) -> Made:
     """The network, lights, commands and names of a run, of a network that was read and vehicles in order of
     departure."""
+    if options.slow:
+        net, vehicles = slowed(net, vehicles, options.slow, report)
     flows = hourly_flows(vehicles)
     network = Network(net, options, report, flows)
     found = movements(net, network, flows, report)
@@ -102,8 +105,7 @@ def map_of(network: Network, lights: list[tuple[str, int]], names: list[str], re
     )
 
 
-def options_again(mapping: Map, joint: Iterable[str]) -> Options:
-    """The options of the import that made a map, with more lanes joint."""
+def options_again(mapping: Map, **more: Iterable[str]) -> Options:
+    """The options of the import that made a map, with more in some of them: joint, led, slow."""
     known: Json = {name: tuple(value) if isinstance(value, list) else value for name, value in mapping.options.items()}
-    known["joint"] = (*known.get("joint", ()), *joint)
-    return Options(**known)
+    return Options(**{**known, **{name: (*known.get(name, ()), *values) for name, values in more.items()}})

@@ -34,6 +34,8 @@ class Edge:
     priority: int
     lanes: list[Lane]  # those that one of the classes may use, from the right
     street: str = ""  # its name, or that of its first lane with one
+    is_cut: bool = False  # whether it is a part, and the next one begins where it ends
+    is_slow: bool = False  # whether it is a part with a lower limit
 
 
 @dataclass(slots=True)

@@ -18,8 +18,10 @@ Targets = Mapping[LaneKey, set[str]]  # the next edges to which a lane leads
 
 OTHER_SPEED = 0.1  # of a lane's speed, by which a limit may be off
 FREE_LIMITS = range(1, limits.LIMIT + 1)  # cells a step
+SLOW = FREE_LIMITS[1:]  # of a part with a lower limit: where all go on by one cell a step a lane passes 1,050 an hour
 MISSING_TURN = 0.5  # what a change between parallel links costs that SUMO has no connection for
 WRONG_LANE = 100.0  # the same from lanes that do not lead to an edge to which others wait for a gap
+AT_CUT = 1.5  # seconds that a vehicle alone loses between two parts of an edge; the first has fewer cells for it
 CROWDING = 0.2  # what a link costs each of whose lanes carries as much as its edge's links do on average
 CROWDING_BESIDE = 2.0  # the same where links of an edge lead to a common one and on some of them vehicles wait for gaps
 
@@ -43,6 +45,8 @@ class Options:
     ignore_route_errors: bool = False  # leaves out vehicles whose route has edges without a connection
     # Edges, or lanes by SUMO's names, whose lanes are to be joint with the ones beside them.
     joint: tuple[str, ...] = ()
+    led: tuple[str, ...] = ()  # lanes that are to be closed, whose turns the links beside them get
+    slow: tuple[str, ...] = ()  # lower limits on stretches of edges, as slowing.slow_of reads them
 
 
 @dataclass(slots=True)
@@ -91,8 +95,8 @@ class Network:
         self.links_of: dict[str, list[int]] = {}
         self.place_of: dict[LaneKey, tuple[int, int]] = {}  # link and lane
         following, waiting = next_edges(net, flows)
-        self.closing = closing_lanes(net, options.joint)
-        bundles = bundles_of(edges, following, waiting, self.closing, report)
+        self.closing = closing_lanes(net, (*options.joint, *options.led))
+        bundles = bundles_of(edges, following, waiting, closing_lanes(net, options.joint), report)
         for edge in edges:
             self.links_of[edge.name] = list(range(len(self.links), len(self.links) + len(bundles[edge.name])))
             for lanes in bundles[edge.name]:
@@ -384,7 +388,9 @@ def link_of(
     edge: Edge, lanes: Sequence[Lane], number: Mapping[str, int], options: Options, in_ring: bool
 ) -> Link:
     """The link of some lanes of an edge; number: of each junction."""
-    limit, cells = limit_and_cells(lanes[0], options.dawdle / 1000, in_ring)
+    limit, cells = limit_and_cells(lanes[0], options.dawdle / 1000, in_ring, SLOW if edge.is_slow else FREE_LIMITS)
+    if edge.is_cut:
+        cells = max(1, cells - round(AT_CUT * (limit - options.dawdle / 1000)))
     return Link(
         edge.name,
         tuple(lane.index for lane in lanes),
@@ -398,16 +404,16 @@ def link_of(
     )
 
 
-def limit_and_cells(lane: Lane, dawdle: float, in_ring: bool) -> tuple[int, int]:
-    """The limit of a lane in cells a step, and its cells; dawdle: a chance, 0 to 1. Where no limit is near its speed it
-    has so many that one alone takes as long as in SUMO; but for a roundabout's, which is made up for at its
-    junctions."""
+def limit_and_cells(lane: Lane, dawdle: float, in_ring: bool, free_limits: range = FREE_LIMITS) -> tuple[int, int]:
+    """The limit of a lane in cells a step, one of free_limits, and its cells; dawdle: a chance, 0 to 1. Where no limit
+    is near its speed it has so many cells that one alone takes as long as in SUMO; but for a roundabout's, which is
+    made up for at its junctions."""
     wished = lane.speed / limits.CELL_METRES + dawdle
-    limit = min(range(1, limits.LIMIT + 1), key=lambda cells: abs(cells - wished))
+    limit = min(free_limits, key=lambda cells: abs(cells - wished))
     free = (limit - dawdle) * limits.CELL_METRES
     if in_ring or not lane.speed or abs(free - lane.speed) <= OTHER_SPEED * lane.speed:
         return limit, limits.cells_of(lane.metres)
-    limit = min(FREE_LIMITS, key=lambda cells: abs(log((cells - dawdle) * limits.CELL_METRES / lane.speed)))
+    limit = min(free_limits, key=lambda cells: abs(log((cells - dawdle) * limits.CELL_METRES / lane.speed)))
     return limit, max(1, round(lane.metres / lane.speed * (limit - dawdle)))
 
 

@@ -11,7 +11,9 @@ from streetsim.ways.graph import END, Graph
 FAR = 1e9  # seconds: no way
 
 Path = tuple[int, ...]
-Shut = Mapping[int, Sequence[tuple[float, float]]]  # by edge: from when until when nobody can pass it
+Way = tuple[int, int]  # an edge and the next
+# By edge, or by movement: from when until when nobody can enter it, or come to the next edge by it.
+Shut = Mapping[int | Way, Sequence[tuple[float, float]]]
 
 
 class Wish(NamedTuple):
@@ -40,6 +42,9 @@ class Router:
 
     def __init__(self, graph: Graph, costs: Costs, shut: Shut | None = None) -> None:
         self.graph, self.table, self.shut = graph, Table(costs), shut or {}
+        ways = [way for way in self.shut if isinstance(way, tuple)]
+        # By edge: those to which one may not turn at times.
+        self.barred = {edge: {after for before, after in ways if before == edge} for edge, _ in ways}
         self.least = [costs.least(movement) for movement in range(len(graph.movements))]
         self.arcs: list[list[tuple[int, array]] | None] = [None] * len(graph.edges)
         self.target, self.bounds = END, [FAR]
@@ -92,9 +97,12 @@ class Router:
             part = int(now * inverse)
             if part > last:
                 part = last
+            barred = self.barred.get(edge, ())
             for following, row in self.arcs_of(edge):
                 then = now + row[part]
-                if then < best.get(following, FAR) and not (following in shut and self.opened(following, then) > then):
+                if then < best.get(following, FAR) and not (
+                    (following in shut or following in barred) and self.entered((edge, following), then) > then
+                ):
                     best[following] = then
                     before[following] = edge
                     heappush(heap, (then + bounds[following], -then, following))
@@ -113,24 +121,28 @@ class Router:
         found, movement_of = [clock], self.graph.movement_of
         for way in pairwise((*path, END)):
             reached = found[-1] + self.table.at(movement_of[way], found[-1])
-            found.append(self.opened(way[1], reached) if self.shut else reached)
+            found.append(self.entered(way, reached) if self.shut else reached)
         return found
 
-    def opened(self, edge: int, clock: float) -> float:
-        """When one may enter an edge that is reached at a clock; at once where it is open."""
-        return next((end for begin, end in self.shut.get(edge, ()) if begin <= clock < end), clock)
+    def opened(self, what: int | Way, clock: float) -> float:
+        """When one may enter an edge, or take a movement, that is reached at a clock; at once where it is open."""
+        return next((end for begin, end in self.shut.get(what, ()) if begin <= clock < end), clock)
+
+    def entered(self, way: Way, clock: float) -> float:
+        """When one comes to the second of two edges, where it would be reached at a clock."""
+        return max(self.opened(way[1], clock), self.opened(way, clock))
 
     def met(self, path: Path, clock: float) -> int | None:
-        """The place of the first edge of a path, from a clock on, that is reached while it is shut; none where none
-        is."""
-        if self.shut.keys().isdisjoint(path):
+        """The place of the first edge of a path, from a clock on, that is reached while it is shut, or by a movement
+        while this is; none where none is."""
+        if self.shut.keys().isdisjoint((*path, *pairwise(path))):
             return None
         if self.opened(path[0], clock) != clock:
             return 0
         clocks, movement_of = self.clocks(path, clock), self.graph.movement_of
         for at, way in enumerate(pairwise(path)):
             reached = clocks[at] + self.table.at(movement_of[way], clocks[at])
-            if self.opened(way[1], reached) != reached:
+            if self.entered(way, reached) != reached:
                 return at + 1
         return None
 

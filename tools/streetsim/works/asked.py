@@ -23,6 +23,9 @@ class Works:
     end: int
     first: int  # second
     last: int
+    # Whether they begin on the part of the edge before, whose lane they close to its end: so one cell stays open here,
+    # for who has left that lane when they begin.
+    goes_on: bool = False
 
 
 @dataclass(slots=True)
@@ -62,7 +65,7 @@ def works_of(text: str, mapping: Map) -> Works:
     metres = mapping.links[place[0]].metres
     if int(found[3]) > math.ceil(metres):
         raise Fault(f"--close {text!r}: the lane ends at {metres:g} m")
-    return Works(text, found[1], int(found[2]), int(found[3]), *clocks)
+    return Works(text, found[1], int(found[2]), int(found[3]), clocks[0], clocks[1])
 
 
 def clock_of(text: str) -> int | None:
@@ -78,7 +81,8 @@ def sites_of(works: Iterable[Works], mapping: Map) -> list[Site]:
     found = []
     for one in works:
         link, lane = places[one.lane]
-        found.append(Site(one, link, lane, mapping.links[link].closed_between(one.begin, one.end)))
+        first, last = mapping.links[link].closed_between(one.begin, one.end)
+        found.append(Site(one, link, lane, (min(1, last) if one.goes_on else first, last)))
     return found
 
 

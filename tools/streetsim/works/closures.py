@@ -1,6 +1,6 @@
 """The stretches of lanes that a run closes, and when."""
 from collections.abc import Iterable
-from dataclasses import dataclass
+from dataclasses import dataclass, replace
 
 from streetsim.model.mapping import Map
 from streetsim.model.runs import Command, Line, Run
@@ -16,12 +16,13 @@ class Closure:
     last: int
     begin: int  # clock of the close
     end: int
+    beyond: float = 0.0  # metres for which it goes on, on the next part of the edge
 
     def metres(self, mapping: Map) -> tuple[float, float]:
         """From where to where it is closed, from the link's begin."""
         link = mapping.links[self.link]
         size = link.metres / link.cells
-        return self.first * size, (self.last + 1) * size
+        return self.first * size, (self.last + 1) * size + self.beyond
 
 
 def closures_of(run: Run, until: int) -> list[Closure]:
@@ -38,6 +39,24 @@ def closures_of(run: Run, until: int) -> list[Closure]:
             found.append(Closure(*key, open_.pop(key), min(clock, until)))
     found += [Closure(*key, clock, until) for key, clock in open_.items()]
     return sorted((one for one in found if one.begin < one.end), key=lambda one: (one.begin, one.link, one.lane))
+
+
+def begun_here(closures: Iterable[Closure], mapping: Map) -> list[Closure]:
+    """Those that do not go on from another one, on the part of an edge before theirs: what lies before these is seen
+    there."""
+    closures = list(closures)
+    begins = {(one.link, one.lane, one.begin, one.end): one for one in closures if one.first <= 1}
+    further: dict[Closure, Closure] = {}
+    for one in closures:
+        if one.last == mapping.links[one.link].cells - 1:
+            edge = mapping.links[one.link].edge
+            ways = [turn for turn in mapping.turns if (turn.link, turn.lane) == (one.link, one.lane)]
+            parts = [turn for turn in ways if mapping.links[turn.next].edge.rpartition(".")[0] == edge]
+            places = [(turn.next, turn.next_lane, one.begin, one.end) for turn in parts]
+            further.update((one, begins[place]) for place in places if place in begins)
+    going_on = set(further.values())
+    begun = [one for one in closures if one not in going_on]
+    return [replace(one, beyond=further[one].metres(mapping)[1]) if one in further else one for one in begun]
 
 
 def commands_in(timed: Iterable[tuple[int, Line]]) -> Iterable[tuple[int, Command]]:

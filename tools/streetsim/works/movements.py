@@ -1,80 +1,140 @@
-"""Movements that lose their lane: works close the only lane from which SUMO's network lets them turn.
+"""Movements that lose their lane: works close the only lanes from which SUMO's network lets them turn.
 
-On a joint link each lane leads to each next link, as the import adds turns. So who loses a lane is led from the one
-beside it; or the added turns of these movements are left out, and who would take them waits until the works end.
+Turns cannot come and go in a run. So where the closed lanes are a link of their own, as before a turn pocket, the plans
+of those who come while the works last lead over the lanes beside, which have the turn for them alone. On a joint link
+each lane leads to each next link for the whole run, as the import adds turns. Or nobody is led: who would turn there
+waits until the works end, and may have been given another way before.
 """
 import json
 from collections import defaultdict
-from collections.abc import Iterable, Iterator, Sequence
+from collections.abc import Collection, Iterable, Iterator, Mapping, Sequence
 from dataclasses import dataclass, replace
 from functools import partial
+from itertools import product
 
 from streetsim.base.report import some
-from streetsim.model.mapping import Map
+from streetsim.model.mapping import Map, Place
 from streetsim.model.runs import Command, Line, Run
+from streetsim.works.asked import Site
 from streetsim.works.closures import Closure
 from streetsim.works.crowding import coming
 
 BEHIND = 4  # cells behind works in which one can still come back to the lane
+LOST = ("lead", "wait", "bar")  # what those do who lose their lane
 
 Turn = tuple[int, int, int]  # link, lane, next link
+Way = tuple[str, str]  # an edge and the next
+Times = tuple[int, int]  # first and last second
 
 
 @dataclass(slots=True, frozen=True)
 class Lost:
     """A movement that loses its lanes."""
 
-    closure: Closure
-    next: int  # link
-    lanes: tuple[int, ...]  # from which SUMO's network lets one turn
-    others: tuple[int, ...]  # from which turns were added
+    way: Way
+    lanes: tuple[Place, ...]  # from which SUMO's network lets one turn, all closed
+    others: tuple[Place, ...]  # open ones from which turns were added
     vehicles: int  # that come while the works last
 
+    def is_joint(self) -> bool:
+        """Whether it is led from the other lane of its link."""
+        return bool(self.others) and self.others[0][0] == self.lanes[0][0]
 
-def lost_movements(run: Run, mapping: Map, closures: Sequence[Closure]) -> list[Lost]:
+
+def lost_movements(run: Run, mapping: Map, closures: Iterable[Closure]) -> list[Lost]:
     """The movements that vehicles of the run take while works reach the end of all lanes that lead there."""
-    own: defaultdict[tuple[int, int], set[int]] = defaultdict(set)
-    added: defaultdict[tuple[int, int], set[int]] = defaultdict(set)
-    for turn in mapping.turns:
-        (added if turn.added else own)[turn.link, turn.next].add(turn.lane)
+    ended, added = closed_ends(closures, mapping), lanes_of(mapping, True)
     found = []
-    for closure in ending(closures, mapping):
-        for (link, following), lanes in own.items():
-            if link == closure.link and lanes == {closure.lane}:
-                count = coming(run, mapping, (link, following), closure.begin, closure.end)
-                others = added[link, following] - lanes
-                if count and others:
-                    found.append(Lost(closure, following, tuple(lanes), tuple(sorted(others)), count))
+    for way, times in lost_ways(ended, mapping).items():
+        lanes, others = lanes_of(mapping, False)[way], sorted(added.get(way, set()) - ended.keys())
+        count = sum(coming_on(way, run, mapping, *one) for one in times)
+        if count:
+            found.append(Lost(way, tuple(sorted(lanes)), tuple(others), count))
     return found
 
 
-def ending(closures: Iterable[Closure], mapping: Map) -> Iterator[Closure]:
-    """Closures of links of two lanes behind which nobody can come back to the lane."""
+def closures_at(sites: Iterable[Site]) -> list[Closure]:
+    """What works close, and when."""
+    return [Closure(site.link, site.lane, *site.cells, site.works.first, site.works.last) for site in sites]
+
+
+def closed_ends(closures: Iterable[Closure], mapping: Map) -> dict[Place, list[Times]]:
+    """When lanes are closed so near to their end that nobody can come back to them behind the works."""
+    found: defaultdict[Place, list[Times]] = defaultdict(list)
     for one in closures:
-        link = mapping.links[one.link]
-        if len(link.lanes) == 2 and link.cells - 1 - one.last < BEHIND:
-            yield one
+        if mapping.links[one.link].cells - 1 - one.last < BEHIND:
+            found[one.link, one.lane].append((one.begin, one.end))
+    return found
 
 
-def told_of(lost: Iterable[Lost], mapping: Map, waits: bool) -> Iterator[str]:
-    """What is said of each; waits: whether its vehicles wait until the works end."""
+def lanes_of(mapping: Map, added: bool) -> dict[Way, set[Place]]:
+    """The lanes from which each movement starts, by turns of SUMO's network or by those that were added to it."""
+    found: defaultdict[Way, set[Place]] = defaultdict(set)
+    for turn in mapping.turns:
+        if turn.added == added:
+            found[mapping.links[turn.link].edge, mapping.links[turn.next].edge].add((turn.link, turn.lane))
+    return found
+
+
+def lost_ways(ended: Mapping[Place, Sequence[Times]], mapping: Map) -> dict[Way, list[Times]]:
+    """The movements that start from closed ends alone, and when; but for edges that are closed on all lanes."""
+    found = {}
+    for way, lanes in lanes_of(mapping, False).items():
+        links = mapping.links_of[way[0]]
+        every = {(link, lane) for link in links for lane in range(len(mapping.links[link].lanes))}
+        if lanes <= ended.keys() and not every <= ended.keys():
+            if times := list(in_common(ended[lane] for lane in lanes)):
+                found[way] = times
+    return found
+
+
+def in_common(times: Iterable[Sequence[Times]]) -> Iterator[Times]:
+    """The times that are in one of each."""
+    for together in product(*times):
+        first, last = max(first for first, _ in together), min(last for _, last in together)
+        if first < last:
+            yield first, last
+
+
+def coming_on(way: Way, run: Run, mapping: Map, first: int, last: int) -> int:
+    """How many vehicles would come to an edge between two seconds and go on to the next, were nobody in their way."""
+    pairs = product(*(mapping.links_of[edge] for edge in way))
+    return sum(coming(run, mapping, pair, first, last) for pair in pairs)
+
+
+def told_of(lost: Iterable[Lost], mapping: Map, how: str, searched: bool = False) -> Iterator[str]:
+    """What is said of each; how: of LOST; searched: whether ways round are searched where the movement is barred."""
     for one in lost:
-        link = mapping.links[one.closure.link]
-        lane, beside = (f"{link.edge}_{link.lanes[at]}" for at in (one.lanes[0], one.others[0]))
-        what = (
-            f"works on {lane} close the only lane from which {one.vehicles:,} vehicles turn to "
-            f"{some([mapping.links[one.next].edge])} while they last"
-        )
-        yield (
-            f"{what}: these wait until the works end"
-            if waits
-            else f"{what}: these are led from {beside} (--lost wait: they wait until the works end)"
-        )
+        lanes = some([mapping.lane_name(*lane) for lane in one.lanes])
+        only = "the only lane" if len(one.lanes) == 1 else "the only lanes"
+        who = f"{one.vehicles:,} vehicles turn to {one.way[1]} while they last"
+        yield f"works on {lanes} close {only} from which {who}: {done_with(one, mapping, how, searched)}"
 
 
-def waiting(run: Run, lost: Sequence[Lost]) -> Run:
-    """The run without the turns by which those who lose their lane would be led from the one beside."""
-    gone = {(one.closure.link, lane, one.next) for one in lost for lane in one.others}
+def done_with(one: Lost, mapping: Map, how: str, searched: bool) -> str:
+    """What those do who lose their lane."""
+    if how == "lead" and one.others:
+        beside = mapping.lane_name(*min(one.others, key=partial(apart, one.lanes[0], mapping)))
+        time = "from which all may turn in the whole run" if one.is_joint() else "for that time alone"
+        return f"these are led from {beside}, {time} (--lost wait: they wait until the works end)"
+    if how == "bar":
+        ways = "ways round are searched for those who come meanwhile"
+        none = "with --lost bar these have no way, and wait until the works end; streetsim-route --close .. --lost bar"
+        return ways if searched else f"{none} finds ways for them, and --lost lead leads them from the lane beside"
+    return "these wait until the works end" + (", as no lane beside leads there" if how == "lead" else "")
+
+
+def apart(place: Place, mapping: Map, other: Place) -> int:
+    """How many lanes of an edge lie between two of them."""
+    one, beside = (mapping.links[link].lanes[lane] for link, lane in (place, other))
+    return abs(one - beside)
+
+
+def waiting(run: Run, mapping: Map, lost: Iterable[Lost]) -> Run:
+    """The run without the turns by which those who lose their lane would be led from the one beside on its link."""
+    left = {(place, one.way[1]) for one in lost if one.is_joint() for place in one.others}
+    turns = ((turn, mapping.links[turn.next].edge) for turn in mapping.turns)
+    gone = {(turn.link, turn.lane, turn.next) for turn, edge in turns if ((turn.link, turn.lane), edge) in left}
     if not gone:
         return run
     load = {**run.load.command, "turns": [turn for turn in run.load.command["turns"] if tuple(turn[:3]) not in gone]}
@@ -83,7 +143,7 @@ def waiting(run: Run, lost: Sequence[Lost]) -> Run:
     return replace(run, load=rewritten(run.load, load), first=first, timed=timed)
 
 
-def without(line: Line, gone: set[Turn]) -> Line:
+def without(line: Line, gone: Collection[Turn]) -> Line:
     """A line in which no signal shows green for turns that are gone; other lines stay."""
     if line.command["cmd"] != "signal":
         return line

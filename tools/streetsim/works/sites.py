@@ -3,16 +3,18 @@
 Nobody changes lane between parallel links, so who has the closed one in its plan would stand before the works until
 they end. So an edge with works is imported anew as joint links of two lanes each, a closed lane beside an open one.
 Where a link is closed on all of its lanes and its edge has another one, the plans of those who may come there meanwhile
-take that.
+take that. So it is too, without joint lanes, where works that begin near the edge's begin close the only lanes of a
+movement to their end, as on a turn pocket.
 """
 import json
 from collections import Counter, defaultdict
-from collections.abc import Iterable, Iterator
-from dataclasses import replace
+from collections.abc import Collection, Iterable, Iterator, Sequence
+from contextlib import contextmanager
+from dataclasses import dataclass, replace
 from itertools import product
 
 from streetsim.base import limits
-from streetsim.base.files import Fault, FilePath
+from streetsim.base.files import Fault, FilePath, Json
 from streetsim.base.progress import Slow
 from streetsim.base.report import Report, some
 from streetsim.importing.convert import convert
@@ -22,37 +24,62 @@ from streetsim.model.runs import Command, Line, Run, run_of_texts
 from streetsim.model.sources import sources_of
 from streetsim.sumo.converting import options_again, run_and_map
 from streetsim.works.asked import Site, Works, really_closed, sites_of
-from streetsim.works.closures import closures_of
+from streetsim.works.closures import begun_here, closures_of
 from streetsim.works.crowding import crowded
-from streetsim.works.movements import lost_movements, told_of, waiting
+from streetsim.works.lowering import limits_of, moved, told_of_limits
+from streetsim.works.movements import Way, closed_ends, closures_at, lost_movements, lost_ways, told_of, waiting
 
 LATE = 300  # seconds that who stands in queues may be late, beside as much as it drives
+NEAR = 150  # metres of an edge before works on a lane to its end, up to which who loses the lane needs not merge
+
+
+@dataclass(slots=True, frozen=True)
+class Asking:
+    """What a run with works is asked for beside them. others: lanes and edges that are to be joint as well, as if they
+    had works; lost: what those do who lose their only lane, of movements.LOST."""
+
+    others: Collection[str] = ()
+    lost: str = "lead"
+    limit: int | None = None  # km/h along works
 
 
 def with_works(
-    run: Run, mapping: Map, map_path: FilePath, works: list[Works], others: Iterable[str] = (), waits: bool = False
+    run: Run, mapping: Map, map_path: FilePath, works: list[Works], asking: Asking = Asking()
 ) -> tuple[Run, Map, list[str]]:
-    """The run and its map with works, and what there is to say; others: lanes and edges that are to be joint as well,
-    as if they had works; waits: whether those who lose their only lane wait until the works end."""
-    names = parallel_names(others, mapping)
+    """The run and its map with works, and what there is to say."""
+    told: list[str] = []
+    if asking.limit and works:
+        slow = limits_of(works, mapping, asking.limit)
+        told += told_of_limits(slow, mapping)
+        works = list(moved(works, slow, mapping))
+        with imported_for(f"--works-limit {asking.limit}", ""):
+            run, mapping = imported_anew(run, mapping, map_path, slow=[one.text() for one in slow])
+    names = parallel_names(asking.others, mapping)
     names += [name for name in lanes_to_join(works, mapping) if name not in names]
-    told = []
+    led = [name for name in lanes_to_lead(works, mapping) if asking.lost == "lead" and name not in names]
+    if names or led:
+        with imported_for(some([*names, *led]), joined_by([*names, *led])):
+            run, mapping = imported_anew(run, mapping, map_path, joint=names, led=led)
     if names:
-        run, mapping = with_joint_lanes(run, mapping, map_path, names)
         told.append(f"joint for this run, so that vehicles change lane: edges {some(sorted(edges_of(names, mapping)))}")
-    run, _ = closed(run, mapping, works)
-    sites, closures = sites_of(works, mapping), closures_of(run, limits.CLOCK)
-    lost = lost_movements(run, mapping, closures) if sites else []
-    told += [*really_closed(sites, mapping), *all_closed(run, mapping, shut_links(sites, mapping))]
-    told += [*crowded(run, mapping, closures if sites else ()), *told_of(lost, mapping, waits)]
-    return waiting(run, lost) if waits else run, mapping, told
-
-
-def closed(run: Run, mapping: Map, works: list[Works]) -> tuple[Run, Map]:
-    """The run with works on a map whose lanes are joint where they must be, and that same map."""
+    run, mapping, lost = closed(run, mapping, works, asking.lost)
     sites = sites_of(works, mapping)
+    told += [*really_closed(sites, mapping), *all_closed(run, mapping, shut_links(sites, mapping))]
+    told += [*crowded(run, mapping, begun_here(closures_of(run, limits.CLOCK), mapping) if sites else ()), *lost]
+    return run, mapping, told
+
+
+def closed(run: Run, mapping: Map, works: list[Works], how: str, searched: bool = False) -> tuple[Run, Map, list[str]]:
+    """The run with works on a map whose lanes are joint where they must be, that same map, and what is said of those
+    who lose their only lane. how: of movements.LOST; searched: whether their ways are searched."""
+    sites = sites_of(works, mapping)
+    closures = closures_at(sites)
+    lost = lost_movements(run, mapping, closures)
     timed = sorted([*run.timed, *(line for site in sites for line in lines_of(site))], key=lambda pair: pair[0])
-    return round_works(replace(run, timed=timed), mapping, shut_links(sites, mapping)), mapping
+    stay = frozenset[Way]() if how == "lead" else frozenset(lost_ways(closed_ends(closures, mapping), mapping))
+    made = round_works(replace(run, timed=timed), mapping, shut_links(sites, mapping), stay)
+    told = list(told_of(lost, mapping, how, searched))
+    return made if how == "lead" else waiting(made, mapping, lost), mapping, told
 
 
 def lines_of(site: Site) -> Iterator[tuple[int, Line]]:
@@ -95,13 +122,35 @@ def parallel_names(names: Iterable[str], mapping: Map) -> list[str]:
 
 
 def lanes_to_join(works: Iterable[Works], mapping: Map) -> list[str]:
-    """The lanes with works of edges where a link is shut that has others beside it, but for those that are joint."""
+    """The lanes with works of edges where a link is shut that has others beside it, but for those that are joint, and
+    for those whose vehicles need not merge."""
+    apart = lanes_to_lead(works, mapping)
+    return [site.works.lane for site in in_the_way(works, mapping) if site.works.lane not in apart]
+
+
+def lanes_to_lead(works: Iterable[Works], mapping: Map) -> list[str]:
+    """Of the lanes that would be joint those that works close to their end from near the begin of the edge on, where a
+    movement has no other lane: who turns there can be led over the links beside from the begin of the edge."""
+    works = list(works)
+    sites = in_the_way(works, mapping)
+    ended = closed_ends(closures_at(sites_of(works, mapping)), mapping)
+    edges = {edge for edge, _ in lost_ways(ended, mapping)}
+    near = [site for site in sites if site.works.begin <= NEAR and (site.link, site.lane) in ended]
+    return list(dict.fromkeys(site.works.lane for site in near if mapping.links[site.link].edge in edges))
+
+
+def in_the_way(works: Iterable[Works], mapping: Map) -> list[Site]:
+    """Works on edges where a link is shut that has others beside it, each lane once, but for lanes that are joint."""
     sites = sites_of(works, mapping)
     edges = {mapping.links[link].edge for link in shut_links(sites, mapping)}
-    many = {edge for edge in edges if len(mapping.links_of[edge]) > 1}
-    lanes = dict.fromkeys(site.works.lane for site in sites if mapping.links[site.link].edge in many)
     known = mapping.options.get("joint", ())
-    return [name for name in lanes if name not in known and name.rpartition("_")[0] not in known]
+    found = {
+        site.works.lane: site
+        for site in reversed(sites)
+        if (edge := mapping.links[site.link].edge) in edges and len(mapping.links_of[edge]) > 1
+        if site.works.lane not in known and edge not in known
+    }
+    return [found[name] for name in dict.fromkeys(site.works.lane for site in sites) if name in found]
 
 
 def why_parallel(mapping: Map, lane: str) -> str | None:
@@ -119,23 +168,43 @@ def why_parallel(mapping: Map, lane: str) -> str | None:
     )
 
 
-def with_joint_lanes(run: Run, mapping: Map, map_path: FilePath, names: list[str]) -> tuple[Run, Map]:
-    """The run and its map, imported anew with more lanes joint; names: of these lanes, or of edges. The sources are
-    found from the map's path; a Fault where they, or the run, have changed since."""
-    try:
-        sources = sources_of(mapping.sources, map_path, run.path)
-        options = options_again(mapping, names)
-        with Slow(f"importing {sources.net} anew"):
-            report = Report()
-            made = convert(sources.net, sources.additional, sources.routes, options, report, sources.trips)
-            lines, anew = run_and_map(made, report)
-            anew.names = mapping.names
-    except Fault as fault:
-        raise Fault(
-            f"{some(names)}: nobody changes lane between the parallel links of an edge, so its lanes must be joint, "
-            f"which needs the import anew: {fault}. Run streetsim-import with --joint {','.join(names)}"
-        ) from None
+def imported_anew(run: Run, mapping: Map, map_path: FilePath, **more: Iterable[str]) -> tuple[Run, Map]:
+    """The run and its map, imported anew with more in some options, as `options_again` has them. The sources are found
+    from the map's path; a Fault where they, or the run, have changed since."""
+    sources = sources_of(mapping.sources, map_path, run.path)
+    options = options_again(mapping, **more)
+    with Slow(f"importing {sources.net} anew"):
+        report = Report()
+        made = convert(sources.net, sources.additional, sources.routes, options, report, sources.trips)
+        lines, anew = run_and_map(made, report)
+    anew.sources, anew.names = mapping.sources, named_in_parts(mapping, anew)
     return run_of_texts(run.path, lines), anew
+
+
+def named_in_parts(mapping: Map, anew: Map) -> Json:
+    """The names of streets and junctions of a map, and of the parts that its edges have in another."""
+    own = mapping.names.get("edges", {})
+    parts = {edge: own.get(edge.rpartition(".")[0]) for edge in anew.links_of if edge not in mapping.links_of}
+    if not any(parts.values()):
+        return mapping.names
+    return {**mapping.names, "edges": {**own, **{edge: name for edge, name in parts.items() if name}}}
+
+
+@contextmanager
+def imported_for(what: str, why: str) -> Iterator[None]:
+    """Has a fault of an import say what it is for; why: it is needed, and what else could be done."""
+    try:
+        yield
+    except Fault as fault:
+        raise Fault(f"{what}: {why.format(fault)}" if why else f"{what} needs the import anew: {fault}") from None
+
+
+def joined_by(names: Sequence[str]) -> str:
+    """Why lanes, or edges, need an import, and by which words one is made."""
+    return (
+        "nobody changes lane between the parallel links of an edge, so its lanes must be joint, which needs the import "
+        f"anew: {{}}. Run streetsim-import with --joint {','.join(names)}"
+    )
 
 
 def edges_of(names: Iterable[str], mapping: Map) -> set[str]:
@@ -143,13 +212,15 @@ def edges_of(names: Iterable[str], mapping: Map) -> set[str]:
     return {name if name in mapping.links_of else name.rpartition("_")[0] for name in names}
 
 
-def round_works(run: Run, mapping: Map, shut: dict) -> Run:
-    """The run where who may come to a shut link takes another one of its edge; shut: as `shut_links` gives it."""
+def round_works(run: Run, mapping: Map, shut: dict, stay: Collection[Way] = ()) -> Run:
+    """The run where who may come to a shut link takes another one of its edge; shut: as `shut_links` gives it; stay:
+    movements for which nobody does."""
     ways: defaultdict[tuple[int, int], list[int]] = defaultdict(list)
     use: Counter[int] = Counter()
     enters = list(run.enters)
     for turn in mapping.turns:
-        ways[turn.link, turn.next].append(turn.lane)
+        if not turn.added or (mapping.links[turn.link].edge, mapping.links[turn.next].edge) not in stay:
+            ways[turn.link, turn.next].append(turn.lane)
     free_flow = FreeFlow(mapping, run.load.command.get("dawdle", 0) / 1000)
     for place, line in enumerate(enters):
         if shut.keys().isdisjoint(line.command["plan"]):

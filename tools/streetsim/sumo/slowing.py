@@ -1,0 +1,178 @@
+"""A lower limit on a stretch of an edge, as along road works.
+
+A limit is a link's own, for the whole run. So the edge is cut into up to three that follow each other, of which one has
+the limit. The first keeps the edge's name; the others are called after it and the metre at which they begin.
+"""
+import re
+from collections.abc import Iterable, Sequence
+from dataclasses import dataclass, replace
+from itertools import accumulate, pairwise
+from math import dist
+
+from streetsim.base.files import Fault
+from streetsim.base.report import Report
+from streetsim.model.detectors import E2
+from streetsim.sumo.demand import Vehicle
+from streetsim.sumo.detectors import SumoDetector, tell_beyond
+from streetsim.sumo.net import Connection, Edge, Lane, Point, SumoNet
+
+FORM = re.compile(r"(.+):(\d+)-(\d+):(\d+)")
+KMH = 3.6  # of one metre a second
+LIMITS = range(5, 131)  # km/h that may be asked for
+LEAST = 30  # metres, below which an edge has no part of its own before or behind the stretch
+
+
+@dataclass(slots=True, frozen=True)
+class Slow:
+    """A lower limit on a stretch of an edge."""
+
+    edge: str
+    begin: int  # metres
+    end: int
+    kmh: int
+
+    def text(self) -> str:
+        """As `slow_of` reads it."""
+        return f"{self.edge}:{self.begin}-{self.end}:{self.kmh}"
+
+
+@dataclass(slots=True, frozen=True)
+class Part:
+    """What an edge becomes between two places."""
+
+    name: str
+    begin: float  # metres
+    end: float
+    slow: bool
+
+
+def slow_of(text: str) -> Slow:
+    """The limit that EDGE:METRES-METRES:KMH asks for; Fault where the text is none."""
+    found = FORM.fullmatch(text)
+    if not found or int(found[2]) >= int(found[3]) or int(found[4]) not in LIMITS:
+        many = f"{LIMITS[0]} to {LIMITS[-1]}"
+        raise Fault(f"--slow {text!r}: expected EDGE:METRES-METRES:KMH, metres that rise and {many} km/h")
+    return Slow(found[1], *map(int, found.groups()[1:]))
+
+
+def parts_of(slow: Slow, metres: float) -> list[Part]:
+    """The parts of an edge of so many metres, in order; none shorter than LEAST stands before or behind the slow
+    one."""
+    begin = slow.begin if slow.begin >= LEAST else 0
+    end = slow.end if metres - slow.end >= LEAST else metres
+    places = list(dict.fromkeys((0, begin, end, metres)))
+    return [Part(f"{slow.edge}.{at}" if at else slow.edge, at, to, at == begin) for at, to in pairwise(places)]
+
+
+def slowed(
+    net: SumoNet, vehicles: Sequence[Vehicle], texts: Iterable[str], report: Report
+) -> tuple[SumoNet, list[Vehicle]]:
+    """The network with edges in parts, and the vehicles with these in their routes; texts: of limits, one for an
+    edge."""
+    made, parts = net, dict[str, list[Part]]()
+    for slow in map(slow_of, texts):
+        check(slow, net, parts)
+        parts[slow.edge] = parts_of(slow, net.edges[slow.edge].lanes[0].metres)
+        made = with_parts(made, slow, parts[slow.edge], report)
+    names = {edge: tuple(part.name for part in some) for edge, some in parts.items()}
+    return made, [driven_over(one, names) for one in vehicles]
+
+
+def check(slow: Slow, net: SumoNet, known: Iterable[str]) -> None:
+    """Refuses a limit that the network cannot have."""
+    where = f"{slow.kmh} km/h on {slow.edge}"
+    if slow.edge not in net.edges:
+        raise Fault(f"{where}: the import has no edge {slow.edge!r}")
+    if slow.edge in known:
+        raise Fault(f"{where}: it has another lower limit")
+    lane = net.edges[slow.edge].lanes[0]
+    if slow.end > lane.metres + 1:
+        raise Fault(f"{where}: the edge ends at {lane.metres:g} m")
+    if slow.kmh > round(KMH * lane.speed, 1):
+        raise Fault(f"{where}: its limit is {KMH * lane.speed:.0f} km/h, which is lower")
+    if taken := [part.name for part in parts_of(slow, lane.metres)[1:] if {part.name} & {*net.edges, *net.junctions}]:
+        raise Fault(f"{where}: the network has a {taken[0]!r} already")
+
+
+def driven_over(vehicle: Vehicle, parts: dict[str, tuple[str, ...]]) -> Vehicle:
+    """The vehicle with the parts in the place of each edge that has some."""
+    if parts.keys().isdisjoint(vehicle.edges):
+        return vehicle
+    return replace(vehicle, edges=tuple(name for edge in vehicle.edges for name in parts.get(edge, (edge,))))
+
+
+def with_parts(net: SumoNet, slow: Slow, parts: Sequence[Part], report: Report) -> SumoNet:
+    """The network with one edge in parts, whose names are free."""
+    whole, last = net.edges[slow.edge], parts[-1].name
+    made = {part.name: edge_of(part, parts, whole, slow) for part in parts}
+    edges: dict[str, Edge] = {}
+    for name, edge in net.edges.items():
+        edges |= made if name == slow.edge else {name: edge}
+    between = [
+        Connection(one.name, other.name, lane.index, lane.index, None, 0, "M", speed=lane.speed)
+        for one, other in pairwise(parts)
+        for lane in whole.lanes
+    ]
+    connections = [replace(one, source=last) if one.source == slow.edge else one for one in net.connections]
+    inner = {part.name: made[part.name].lanes[0].shape[0] for part in parts[1:]}
+    more = {part.name for part in parts}
+    left_out = [name for name in net.closed_lanes if name.rpartition("_")[0] == slow.edge]
+    return replace(
+        net,
+        junctions={**net.junctions, **inner},
+        types={**net.types, **dict.fromkeys(inner, "priority")},
+        yields={**net.yields, **{name: {} for name in inner}},
+        edges=edges,
+        connections=[*connections, *between],
+        closed_ways={(last if one == slow.edge else one, other) for one, other in net.closed_ways},
+        closed_lanes=net.closed_lanes | {f"{part}_{name.rpartition('_')[2]}" for name in left_out for part in more},
+        roundabouts=net.roundabouts | more if slow.edge in net.roundabouts else net.roundabouts,
+        detectors=[moved(one, slow.edge, parts, report) for one in net.detectors],
+    )
+
+
+def edge_of(part: Part, parts: Sequence[Part], whole: Edge, slow: Slow) -> Edge:
+    """A part as an edge of its own."""
+    begin = whole.begin if part == parts[0] else part.name
+    end = whole.end if part == parts[-1] else parts[parts.index(part) + 1].name
+    lanes = [lane_of(lane, part, parts[-1].end, slow) for lane in whole.lanes]
+    return Edge(part.name, begin, end, whole.priority, lanes, whole.street, part != parts[-1], part.slow)
+
+
+def lane_of(lane: Lane, part: Part, metres: float, slow: Slow) -> Lane:
+    """A lane of a part; metres: of the whole edge."""
+    speed = min(lane.speed, slow.kmh / KMH) if part.slow else lane.speed
+    begin, end = part.begin / metres, part.end / metres
+    return Lane(lane.index, speed, (end - begin) * lane.metres, cut(lane.shape, begin, end))
+
+
+def cut(shape: Sequence[Point], begin: float, end: float) -> list[Point]:
+    """A line from one share of its length to another, 0 to 1."""
+    ways = list(accumulate((dist(*pair) for pair in pairwise(shape)), initial=0.0))
+    first, last = begin * ways[-1], end * ways[-1]
+    inside = [point for point, way in zip(shape, ways, strict=True) if first < way < last]
+    return [point_at(shape, ways, first), *inside, point_at(shape, ways, last)]
+
+
+def point_at(shape: Sequence[Point], ways: Sequence[float], way: float) -> Point:
+    """The point of a line after some of its way; ways: of its points."""
+    at = next((at for at in range(1, len(ways)) if ways[at] >= way), len(ways) - 1)
+    (x, y), (other_x, other_y), metres = shape[at - 1], shape[at], ways[at] - ways[at - 1]
+    share = (way - ways[at - 1]) / metres if metres else 0.0
+    return x + share * (other_x - x), y + share * (other_y - y)
+
+
+def moved(one: SumoDetector, edge: str, parts: Sequence[Part], report: Report) -> SumoDetector:
+    """A detector, on the part of the edge on which it begins if it lies there."""
+    name, _, index = one.lane.rpartition("_")
+    if name != edge:
+        return one
+    metres = parts[-1].end
+    begin = one.begin + metres if one.begin < 0 else one.begin
+    end = one.end + metres if one.end is not None and one.end < 0 else one.end
+    part = [part for part in parts if part.begin <= max(0.0, begin)][-1]
+    lane, is_last = f"{part.name}_{index}", part == parts[-1]
+    if one.kind == E2 and not is_last and (end is None or end > part.end):
+        tell_beyond(one.name, lane, report)
+        end = part.end
+    return replace(one, lane=lane, begin=begin - part.begin, end=None if end is None else end - part.begin)

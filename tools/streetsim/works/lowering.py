@@ -1,0 +1,70 @@
+"""A lower limit along works: their edges are imported anew as links in series, of which one has the limit.
+
+Vehicles merge on the first of these, where the works begin; the next one, with the limit for the whole run, begins
+shortly behind that and ends with them, so that the queue before them stands where all is as it was.
+"""
+from collections import defaultdict
+from collections.abc import Iterable, Iterator, Sequence
+from dataclasses import replace
+
+from streetsim.base import limits
+from streetsim.base.files import Fault
+from streetsim.model.mapping import Map
+from streetsim.sumo.slowing import Part, Slow, parts_of
+from streetsim.works.asked import Works
+
+FIRST = 15  # metres of works without the limit: two cells, in which vehicles see that the lane is closed
+OPEN = round(limits.SIZE * limits.CELL_METRES)  # metres that stay open where works begin with the edge
+
+
+def limits_of(works: Iterable[Works], mapping: Map, kmh: int) -> list[Slow]:
+    """The lower limit along works on each edge; Fault where it cannot be had there."""
+    stretches: defaultdict[str, dict[tuple[int, int], None]] = defaultdict(dict)
+    known = {text.partition(":")[0] for text in mapping.options.get("slow", ())}
+    for one in works:
+        stretches[edge_of(one, mapping)][one.begin, one.end] = None
+    found = []
+    for edge, places in stretches.items():
+        where, (begin, end) = f"--works-limit {kmh}: edge {edge!r}", next(iter(places))
+        first = max(begin, OPEN) + FIRST
+        if len(places) > 1:
+            raise Fault(f"{where} has works on several stretches, and can have one limit on one of them")
+        if known & {edge, edge.rpartition(".")[0]}:
+            raise Fault(f"{where} has another lower limit since its import (--slow)")
+        if end < first + FIRST:
+            raise Fault(f"{where}: works to {end} m are too short for a limit, which would begin at {first} m")
+        found.append(Slow(edge, first, end, kmh))
+    return found
+
+
+def edge_of(works: Works, mapping: Map) -> str:
+    """The edge of works whose lane the map has."""
+    place = mapping.place_of(works.lane)
+    assert place is not None
+    return mapping.links[place[0]].edge
+
+
+def parts_on(slow: Slow, mapping: Map) -> list[Part]:
+    """The parts of an edge with a lower limit; mapping: of the whole edges."""
+    return parts_of(slow, mapping.links[mapping.links_of[slow.edge][0]].metres)
+
+
+def moved(works: Iterable[Works], slow: Sequence[Slow], mapping: Map) -> Iterator[Works]:
+    """The works on the parts of their edges, where they begin and where they go on; mapping: of the whole edges."""
+    limited = {one.edge: one for one in slow}
+    for one in works:
+        limit = limited[edge_of(one, mapping)]
+        index, part = one.lane.rpartition("_")[2], next(part for part in parts_on(limit, mapping) if part.slow)
+        yield replace(one, end=limit.begin)
+        yield replace(one, lane=f"{part.name}_{index}", begin=0, end=one.end - limit.begin, goes_on=True)
+
+
+def told_of_limits(slow: Iterable[Slow], mapping: Map) -> Iterator[str]:
+    """Says which limit holds where; mapping: of the whole edges."""
+    for one in slow:
+        parts = parts_on(one, mapping)
+        part = next(part for part in parts if part.slow)
+        yield (
+            f"edge {one.edge}: {one.kmh} km/h from {part.begin:.0f} to {part.end:.0f} m for the whole run, as a limit "
+            f"cannot change in a run; its parts are {', '.join(other.name for other in parts)}"
+        )
