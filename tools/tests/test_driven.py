@@ -1,11 +1,16 @@
 """Lights that detectors drive under scripts, scenarios and searches for routes."""
+import json
 import os
 import unittest
 
-from support import PROGRAM, Case, needs_simulator
+from support import PROGRAM, Case, needs_package, needs_simulator
 from test_actuated import PHASES, street
 from test_nema import street as ringed
+from test_page_works import NODE, in_node
 from streetsim import traci
+from streetsim.base.client import line_of
+from streetsim.live.driven import DrivenEngine
+from streetsim.live.page import data_of, own_lines
 from streetsim.model.mapping import read_map
 from streetsim.model.runs import read_run
 from streetsim.routes.watching import Ground
@@ -119,6 +124,54 @@ class Runs(Case):
         self.assertEqual([one.name for one in ground.lights(read, found).driven], ["L"])
         listed = Ground(PROGRAM, None, None, 300, 3600, driven=False)
         self.assertEqual(listed.lights(read, found).going_by(found), ["L"])
+
+    def test_a_page(self):
+        # As above: 30 s of green, 3 of yellow, 20 of red, 5 of green; a reply to steps has what is shown from then on.
+        run, mapping = map(str, self.imported())
+        read = read_run(run), read_map(mapping)
+        engine = DrivenEngine(PROGRAM, own_lines(read[0]), lambda: (*read, []))
+        self.addCleanup(engine.close)
+        self.assertNotIn(b"error", b"".join(engine.begin()))
+        step, count, shown = b'{"cmd":"advance","steps":1}\n', b'{"cmd":"count"}\n', []
+        for _ in range(6):
+            replies = [*map(json.loads, engine.ask([step, count] * 10))]
+            self.assertTrue(all("admitted" in one for one in replies[1::2]))
+            shown += [(one["clock"], len(one["shown"])) for one in replies[::2] if "shown" in one]
+        self.assertEqual(shown, [(1, 1), (30, 1), (33, 1), (53, 1), (58, 1)])
+        # Of many steps at once the same; a plan that is set ends it, and one that is refused does not.
+        [reply] = map(json.loads, engine.ask([b'{"cmd":"advance","steps":22}\n']))
+        self.assertEqual((reply["clock"], len(reply["shown"])), (82, 2))
+        plan = {"cmd": "signal", "node": 1, "offset": 0, "phases": [[0, []]]}
+        self.assertIn(b"error", engine.ask([line_of(plan)])[0])
+        self.assertEqual(len(json.loads(engine.ask([b'{"cmd":"advance","steps":8}\n'])[0])["shown"]), 2)
+        self.assertNotIn(b"error", engine.ask([line_of({**plan, "phases": [[60, []]]})])[0])
+        self.assertNotIn(b"shown", engine.ask([b'{"cmd":"advance","steps":300}\n'])[0])
+
+    def test_a_page_that_cannot_drive_says_so(self):
+        run, mapping = self.imported()
+        out = self.folder / "page.html"
+        module = self.write("page.wasm", "")
+        _, told = self.tool("live", run, "--map", mapping, "--program", module, "-o", out)
+        self.assertIn("lights show their listed seconds, as nobody looks at detectors", told)
+        read = read_run(str(run)), read_map(str(mapping))
+        self.assertEqual((data_of(*read)["driven"], data_of(*read)["listed"]), ([], ["L"]))
+        self.assertEqual(data_of(*read, driven=True)["driven"], ["L"])
+
+
+@needs_package("nodejs", NODE)
+class Page(unittest.TestCase):
+    def test_what_is_shown_until_a_plan_is_set(self):
+        act = """
+        const signals = [{ node: 1, offset: 0, phases: [] }];
+        const data = { links: [], signals, works: [], timed: [], start: 0, cars: [], departs: [], free: [] };
+        const session = new Session({ begin: async () => [] }, data, "");
+        session.begin().then(() => {
+          session.took({ line: "x" }, '{"clock":1,"shown":[{"cmd":"signal","node":1,"offset":9,"phases":[]}]}');
+          const seen = [session.clock, session.shown.get(1).offset, session.sent[0][1]];
+          session.takePlan({ node: 1, offset: 4, phases: [] });
+          console.log(JSON.stringify([...seen, session.shown.size]));
+        });"""
+        self.assertEqual(in_node(act, {}), [1, 9, '{"clock":1}', 0])
 
 
 if __name__ == "__main__":

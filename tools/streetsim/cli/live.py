@@ -5,15 +5,19 @@ import sys
 import webbrowser
 from pathlib import Path
 
+from streetsim.actuated.lights import driven_lights
 from streetsim.base.files import Fault, whole_file
 from streetsim.base.program import find_program
+from streetsim.base.report import some
 from streetsim.base.words import Parser, listed, within
 from streetsim.live.bridge import HOST, Bridge
+from streetsim.live.driven import DrivenEngine
 from streetsim.live.engine import Engine
 from streetsim.live.joining import Joining
 from streetsim.live.kept import KeptEngine
 from streetsim.live.programs import NATIVE, VARIABLE, is_built, is_whole_built, module_of, program_of
-from streetsim.model.runs import read_with_map
+from streetsim.model.mapping import Map
+from streetsim.model.runs import Run, read_with_map
 
 PROVED = "The program is proved"
 GIVEN = "Nothing is known of a proof of the program that was given"
@@ -50,13 +54,23 @@ def parser() -> Parser:
     return made
 
 
-def engines_of(words: argparse.Namespace, lines: list[bytes], start: int) -> list[Engine]:
+def engines_of(words: argparse.Namespace, lines: list[bytes], joining: Joining) -> list[Engine]:
     """Of the traffic as it is, which may be kept, and as it was without changes."""
     if not words.keep:
         program = program_of(words.program)
+        if joining.driven:
+            return [DrivenEngine(program, lines, joining.made) for _ in ("as it is", "as it was")]
         return [Engine(program, lines), Engine(program, lines)]
     program = find_program(words.program)
-    return [KeptEngine(program, lines, Path(words.keep), start), Engine(program, lines)]
+    return [KeptEngine(program, lines, Path(words.keep), joining.run.start()), Engine(program, lines)]
+
+
+def lights_told(run: Run, mapping: Map, driven: bool) -> list[str]:
+    """What there is to say of lights that SUMO times by detectors."""
+    if driven or not mapping.actuated:
+        return list(driven_lights(run, mapping).notes()) if driven else []
+    why = "nobody looks at detectors where a session is kept, or in a page of one file"
+    return [f"lights show their listed seconds, as {why}: {some(mapping.actuated)}"]
 
 
 def serve(bridge: Bridge, opens: bool) -> None:
@@ -74,15 +88,18 @@ def main(arguments: list[str]) -> int:
         raise Fault("--keep is of a page that is served, and -o writes one file")
     kept = find_program(words.program) if words.keep else ""
     proved = is_whole_built(kept) if kept else is_built(words.program, bool(words.output))
-    joining = Joining(*read_with_map(words.run, words.map), words.map, proved, bool(kept), tuple(listed(words.joint)))
+    run, mapping = read_with_map(words.run, words.map)
+    driven = bool(mapping.programs) and not words.keep and not words.output
+    joining = Joining(run, mapping, words.map, proved, bool(kept), driven, tuple(listed(words.joint)))
     page, lines, told = joining.page(module_of(words.program) if words.output else None)
+    told += lights_told(*joining.made()[:2], driven)
     print(*told, sep="\n", end="\n" if told else "", file=sys.stderr)
     if words.output:
         with whole_file(words.output) as file:
             file.write(page.decode())
         print(f"{len(page):,} bytes, for Chromium and its kin. {PROVED if proved else GIVEN}; {CLAIM}")
         return 0
-    engines = engines_of(words, lines, joining.run.start())
+    engines = engines_of(words, lines, joining)
     try:
         with Bridge(engines, page, words.port, None if words.keep else joining.join) as bridge:
             serve(bridge, not words.no_open)

@@ -58,7 +58,9 @@ function chooseLight(node) {
     made: () => new Bars(session.plans.get(node), movements, known), light, clock: () => session.clock, wide: at("chosen").clientWidth || 300,
     set: command => setPlan(name, command), save: (lightName, text) => saveAs(`${lightName}.add.xml`, text, "application/xml"),
   });
-  at("chosen").replaceChildren(editor.element, element("div", { id: "planTold", role: "status" }));
+  const isDriven = own.driven.includes(light?.name) && !session.changes.some(one => one.commands.some(({ command }) => command.cmd === "signal" && command.node === node));
+  const told = isDriven ? "Detectors drive this light: its bars have the listed seconds. A plan that is set takes their place." : "";
+  at("chosen").replaceChildren(editor.element, element("div", { id: "planTold", role: "status" }, told));
 }
 
 // A plan that is set again in the same second takes the place of the one before: dragging makes one change.

@@ -16,6 +16,7 @@ class Joining:
     map_path: FilePath
     proved: bool = False  # whether the page's program is the one that ./build --page made
     kept: bool = False  # whether its session is kept in a file
+    driven: bool = False  # whether the bridge drives lights by detectors
     names: tuple[str, ...] = ()  # of the lanes and edges that are joint beside those of the import
 
     def made(self) -> tuple[Run, Map, list[str]]:
@@ -26,7 +27,8 @@ class Joining:
     def page(self, engine: bytes | None = None) -> tuple[bytes, list[bytes], list[str]]:
         """The page, the run's own lines, and what there is to say."""
         run, mapping, told = self.made()
-        return page_of(run, mapping, engine, self.map_path, self.proved, self.kept), own_lines(run), told
+        page = page_of(run, mapping, engine, self.map_path, self.proved, self.kept, self.driven)
+        return page, own_lines(run), told
 
     def join(self, names: Iterable[str]) -> tuple[bytes, list[bytes]]:
         """The page and the lines with more lanes joint; where that is refused all is as before."""

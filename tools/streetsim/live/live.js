@@ -99,7 +99,9 @@ function frame(time) {
 function claim(data) {
   const program = data.proved ? "The proved program" : "A program of which this page does not know whether it is proved";
   const yields = data.yields ? " Without a light nobody gives way on this page: streetsim-run finds the gaps between those who go first, and says what that costs." : "";
-  return `${program} ${data.single ? CLAIMS.module : CLAIMS.bridge}${yields}`;
+  const driven = data.driven.length ? ` Detectors drive ${data.driven.length === 1 ? "one light" : `${data.driven.length} lights`}, until a plan is set there.` : "";
+  const listed = data.listed.length ? ` ${data.listed.length === 1 ? "One light shows" : `${data.listed.length} lights show`} listed seconds on this page, where SUMO's detectors would time ${data.listed.length === 1 ? "it" : "them"}: ${data.listed.slice(0, 5).join(", ")}${data.listed.length > 5 ? ", .." : ""}.` : "";
+  return `${program} ${data.single ? CLAIMS.module : CLAIMS.bridge}${yields}${driven}${listed}`;
 }
 
 async function engineOf(packed) {

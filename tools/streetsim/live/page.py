@@ -5,6 +5,7 @@ import json
 from pathlib import Path
 from typing import Any
 
+from streetsim.actuated.lights import LISTED, driven_lights
 from streetsim.base.files import Fault, FilePath
 from streetsim.live.facts import departures_and_ends, streets_and_areas
 from streetsim.model.mapping import Map
@@ -57,11 +58,13 @@ def nodes_of(run: Run, mapping: Map, areas: dict[str, list]) -> list[dict[str, A
 
 
 def data_of(
-    run: Run, mapping: Map, single: bool = False, map_path: FilePath = "", proved: bool = False, kept: bool = False
+    run: Run, mapping: Map, single: bool = False, map_path: FilePath = "", proved: bool = False, kept: bool = False,
+    driven: bool = False,
 ) -> dict[str, Any]:
     """What the page knows of a run beside the replies: names, shapes, turns,
     signal plans and the lines that are sent later. single: whether it is one file; proved: whether its program is the
-    one that ./build made; kept: whether the bridge keeps its session."""
+    one that ./build made; kept: whether the bridge keeps its session; driven: whether it drives lights by detectors."""
+    lights = driven_lights(run, mapping) if driven and mapping.programs else LISTED
     streets, areas = streets_and_areas(mapping, map_path) if map_path else ({}, {})
     departs, free = departures_and_ends(run, mapping)
     return {
@@ -80,6 +83,8 @@ def data_of(
         "single": single,
         "proved": proved,
         "kept": kept,
+        "driven": [one.name for one in lights.driven],
+        "listed": lights.going_by(mapping),
     }
 
 
@@ -90,10 +95,10 @@ def packed(value: bytes) -> str:
 
 def page_of(
     run: Run, mapping: Map, engine: bytes | None = None, map_path: FilePath = "", proved: bool = False,
-    kept: bool = False,
+    kept: bool = False, driven: bool = False,
 ) -> bytes:
     """The page: with an engine it is one file that runs by itself; else it asks the bridge that serves it."""
-    known = data_of(run, mapping, engine is not None, map_path, proved, kept)
+    known = data_of(run, mapping, engine is not None, map_path, proved, kept, driven)
     parts = {
         "@DATA@": packed(json.dumps(known, separators=(",", ":")).encode()),
         "@LINES@": packed(b"".join(own_lines(run))),

@@ -39,12 +39,13 @@ class Session {
     this.pending = []; // commands of changes whose second is still to come, {clock, command}
     this.ledger = new Ledger(this.data);
     this.plans = new Map();
+    this.shown = new Map(); // what detectors have lights show now, by node
     for (const command of this.data.signals) this.takePlan(command);
     const at = replies.findIndex(reply => refusalOf(reply));
     return at < 0 ? "" : `line ${at + 1} of the run: ${refusalOf(replies[at])}`;
   }
 
-  takePlan({ node, offset, phases }) { this.plans.set(node, { node, offset, phases }); }
+  takePlan({ node, offset, phases }) { this.plans.set(node, { node, offset, phases }); this.shown.delete(node); }
 
   // The lines of so many steps, or of those until lanes with works are to be looked at: timed lines of the run are sent as their second comes.
   linesOf(steps) {
@@ -110,7 +111,8 @@ class Session {
   took({ line, timed, own, counts }, reply) {
     const read = JSON.parse(reply);
     if (counts) { this.count = read; this.ledger.note(read); return; }
-    this.sent.push([line, reply]);
+    for (const one of read.shown ?? []) this.shown.set(one.node, one);
+    this.sent.push([line, read.shown ? JSON.stringify({ clock: read.clock }) : reply]);
     if (own) { if (refusalOf(read)) throw new Error(refusalOf(read)); return; }
     if (timed) { this.timed++; if (!refusalOf(read)) this.did(JSON.parse(line), read); return; }
     if (refusalOf(read)) throw new Error(refusalOf(read));

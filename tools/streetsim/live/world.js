@@ -45,7 +45,7 @@ class World {
     if (this.series.length > MOST_SERIES) this.series.shift();
   }
 
-  greensAt(node) { const plan = this.session.plans.get(node); return plan && plan.phases.length ? phaseAt(plan, this.session.clock) : null; }
+  greensAt(node) { const plan = this.session.shown.get(node) ?? this.session.plans.get(node); return plan && plan.phases.length ? phaseAt(plan, this.session.clock) : null; }
 }
 
 const standing = lane => lane.state.cells.filter(car => car[2] === 0).length + lane.state.buffer.length;

@@ -1,0 +1,98 @@
+"""The engine of a page whose lights detectors drive: it looks at them between the steps that the page asks for."""
+import json
+from collections.abc import Callable, Iterable
+from typing import Any
+
+from streetsim.actuated.driver import Driver, Senses
+from streetsim.actuated.lights import driven_lights
+from streetsim.base.client import line_of
+from streetsim.base.files import Fault
+from streetsim.live.engine import Engine
+from streetsim.model.mapping import Map
+from streetsim.model.runs import Command, Run
+
+Made = Callable[[], tuple[Run, Map, list[str]]]  # the run that the page shows, and its map
+ADVANCE, SIGNAL = b'{"cmd":"advance"', b'{"cmd":"signal"'
+
+
+class DrivenEngine(Engine):
+    """The reply to an advance has what lights show since the one before: "shown", signal commands. A light whose plan
+    the page sets is driven no more, until all is begun anew."""
+
+    def __init__(self, program: str, lines: list[bytes], made: Made) -> None:
+        super().__init__(program, lines)
+        self.made, self.driver, self.clock = made, Driver((), made()[1]), 0
+        self.nodes: dict[int, str] = {}  # the lights that are driven
+        self.shown: list[Command] = []  # that the page was not told of
+
+    def begin(self, anew: bool = False) -> list[bytes]:
+        replies = super().begin(anew)
+        run, mapping, _ = self.made()
+        lights = driven_lights(run, mapping)
+        with self.lock:
+            names = {one.name for one in lights.driven}
+            self.nodes = {node: light for light, node in mapping.signals if light in names}
+            self.driver, self.clock, self.shown = Driver(lights.driven, mapping), run.start(), []
+            self.show([*self.driver.meters(0), *self.driver.begin(self.clock)])
+        return replies
+
+    def ask(self, lines: Iterable[bytes]) -> list[bytes]:
+        with self.lock:
+            if self.client is None:
+                raise Fault("nothing is running: reload the page")
+            replies: list[bytes] = []
+            waiting: list[bytes] = []  # that are sent together, as no light is looked at between them
+            for line in lines:
+                steps = steps_of(line)
+                if line.startswith(SIGNAL) or (steps and (self.shown or self.clock + steps >= self.driver.due())):
+                    replies += self.client.exchange(waiting)
+                    waiting = []
+                    replies.append(self.advance(steps) if steps else self.set_plan(line))
+                else:
+                    waiting.append(line)
+                    self.clock += steps
+            return replies + list(self.client.exchange(waiting))
+
+    def advance(self, steps: int) -> bytes:
+        """So many steps, with the looks at lights that are due on the way."""
+        assert self.client is not None
+        target, reply = self.clock + steps, {}
+        while self.clock < target:
+            part = max(1, min(target, self.driver.due()) - self.clock)
+            [text] = self.client.exchange([b'{"cmd":"advance","steps":%d}\n' % part])
+            reply = json.loads(text)
+            if "clock" not in reply or "short" in reply:
+                return text
+            self.clock = reply["clock"]
+            client = self.client
+            senses = Senses(client.read, lambda place: client.lane(*place))
+            self.show(self.driver.look(self.clock, senses))
+        told: dict[str, Any] = {**reply, **({"shown": self.shown} if self.shown else {})}
+        self.shown = []
+        return line_of(told)
+
+    def show(self, commands: Iterable[Command]) -> None:
+        """Sends detectors and signals of lights."""
+        assert self.client is not None
+        for command in commands:
+            list(self.client.exchange([line_of(command)]))
+            self.shown += [command] if command["cmd"] == "signal" else []
+
+    def set_plan(self, line: bytes) -> bytes:
+        """A plan of the page's, which takes a light from its detectors unless it is refused."""
+        assert self.client is not None
+        [text] = self.client.exchange([line])
+        if b'"error"' not in text and b'"starved"' not in text:
+            self.driver.release(self.nodes.get(json.loads(line)["node"], ""))
+        return text
+
+
+def steps_of(line: bytes) -> int:
+    """The steps of an advance; 0 of another line, or of one that is no command."""
+    if not line.startswith(ADVANCE):
+        return 0
+    try:
+        steps = json.loads(line)["steps"]
+    except (ValueError, KeyError):
+        return 0
+    return steps if isinstance(steps, int) else 0
