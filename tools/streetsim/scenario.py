@@ -10,6 +10,7 @@ from streetsim.base.files import FilePath
 from streetsim.base.words import ROUNDS
 from streetsim.model import tables
 from streetsim.model.runs import Line, Run, read_with_map
+from streetsim.model.stops import why_unmade
 from streetsim.run import rows
 from streetsim.run.records import Records
 from streetsim.simulation.calls import METRES, Calls, LaneCalls, SimulationCalls, StretchCalls, VehicleCalls
@@ -51,7 +52,7 @@ class Scenario(Running):
     ) -> None:  # fmt: skip
         source, read, _ = with_works(*read_with_map(run, mapping), mapping, [], Asking(tuple(joint)))
         super().__init__(source, read, rounds, program, workers)
-        for told in self.driving.lights.notes():
+        for told in filter(None, (*self.driving.lights.notes(), why_unmade(len(self.map.visits)))):
             warnings.warn(told, stacklevel=2)
         self.detours = Detours(self)
         # Of vehicles that may not have departed: (depart, number, name), the earliest first.

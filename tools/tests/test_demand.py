@@ -77,8 +77,8 @@ class Demand(Case):
                 "skipped: 1 vehicles: a person, which streetsim does not have",
                 "skipped: 1 vehicles: depart='triggered' is no time",
                 "skipped: 1 vehicles: two edges of the route have no connection",
-                "warning: 1 stops of vehicles or routes are not made: x (who stands in others' way: streetsim-run "
-                "--close, for as long)",
+                "warning: 1 stops of vehicles are not made, without duration and until, with which SUMO's vehicle "
+                "stands for good: x at a_0 (who stands in others' way: streetsim-run --close, for as long)",
                 "warning: 1 edges became parallel links of one or two lanes, between which nobody changes lane: a "
                 "(--joint EDGES joins their lanes)",
                 "warning: no vehicle drives",
@@ -88,13 +88,14 @@ class Demand(Case):
 
     def test_what_is_not_done_is_told_with_names(self):
         report = Report()
-        stop = '<stop lane="a_0" duration="9"/>'
+        stop = '<stop lane="a_0" duration="9" parking="true"/>'
         route = f'<route id="line" edges="a b">{stop}{stop}</route>'
         buses = '<flow id="bus" number="1" end="9" route="line"/>'
         vehicle = f'<vehicle id="v" depart="3"><route edges="a b"/>{stop}</vehicle>'
         self.assertEqual(self.enters(route + buses + vehicle, report=report), [("bus.0", 0), ("v", 3)])
         [row] = [row for row in report.rows() if "stops" in row[1]]
-        self.assertEqual(row[:3], ["changes results", "3 stops of vehicles or routes are not made: line, v", "line v"])
+        told = "3 stops of vehicles are not made, in a bay beside the lane (parking): bus.0 at a_0, bus.0 at a_0, v at"
+        self.assertEqual(row[:2], ["changes results", f"{told} a_0"])
         report = Report()
         self.assertEqual(self.enters('<vehicel id="v" depart="3"/>', report=report), [])
         self.assertEqual(

@@ -14,7 +14,7 @@ from support import TOOLS, Case
 # users' own programs, and begin a run by the words of the command streetsim-import.
 LAYERS = (
     *("base", "model", "results", "pictures", "gis", "reports"),
-    *("sumo", "ways", "importing", "works", "actuated", "run", "sessions", "junctions", "outputs"),
+    *("sumo", "ways", "importing", "works", "actuated", "buses", "run", "sessions", "junctions", "outputs"),
     *("routes", "signals", "study", "counts", "live", "cli", "simulation", "scenario", "traci", "env"),
     *("client", "files"),  # base's, by the names that users' programs have for them
 )

@@ -18,6 +18,7 @@ from streetsim.live.kept import KeptEngine
 from streetsim.live.programs import NATIVE, VARIABLE, is_built, is_whole_built, module_of, program_of
 from streetsim.model.mapping import Map
 from streetsim.model.runs import Run, read_with_map
+from streetsim.model.stops import why_unmade
 
 PROVED = "The program is proved"
 GIVEN = "Nothing is known of a proof of the program that was given"
@@ -93,6 +94,7 @@ def main(arguments: list[str]) -> int:
     joining = Joining(run, mapping, words.map, proved, bool(kept), driven, tuple(listed(words.joint)))
     page, lines, told = joining.page(module_of(words.program) if words.output else None)
     told += lights_told(*joining.made()[:2], driven)
+    told = [*told, *filter(None, [why_unmade(len(mapping.visits))])]
     print(*told, sep="\n", end="\n" if told else "", file=sys.stderr)
     if words.output:
         with whole_file(words.output) as file:

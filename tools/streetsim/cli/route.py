@@ -14,6 +14,7 @@ from streetsim.cli.import_ import add_options, options_of
 from streetsim.cli.signals import add_machines
 from streetsim.model import trust
 from streetsim.model.sources import digest_of
+from streetsim.model.stops import why_unmade
 from streetsim.routes.diverting import check_works, give_ways
 from streetsim.routes.job import AFTER, Closed, Job, Target, found_routes, tell, write
 from streetsim.routes.loading import read_town
@@ -203,6 +204,8 @@ def job_of(words: argparse.Namespace) -> Job:
     if words.before:
         before = read_trips([words.before], town.net, town.graph, town.types, town.options, Report())
         give_ways(trips.all, before, town.graph, words.before)
+    if unmade := why_unmade(sum(len(trip.stops) for trip in trips.all)):
+        report.warn(f"{unmade}; they are not in the routes that are written")
     print(*report.lines(), sep="\n", end="\n" if any(report.lines()) else "", file=sys.stderr)
     last = int(trips.all[-1].depart)
     until = min(limits.CLOCK, last + AFTER) if words.until is None else words.until

@@ -21,6 +21,7 @@ def parser() -> argparse.ArgumentParser:
     add_lanes(made)
     add_outputs(made)
     add_lights(made)
+    add_buses(made)
     made.add_argument("--program", help=program.HELP)
     made.add_argument("--workers", type=within(1, 64), default=1, help="of the simulator (default %(default)s)")
     return made
@@ -98,6 +99,16 @@ def add_lanes(made: argparse.ArgumentParser) -> None:
         default="",
         metavar="NAMES",
         help="edges or lanes, with commas between, that are joint as if they had road works, for a run to compare with",
+    )
+
+
+def add_buses(made: argparse.ArgumentParser) -> None:
+    """The words that say how buses go."""
+    made.add_argument(
+        "--stops",
+        choices=["made", "none"],
+        default="made",
+        help="made: vehicles stop where and as long as SUMO's files say; none: they drive by (default %(default)s)",
     )
 
 

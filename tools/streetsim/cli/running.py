@@ -13,11 +13,12 @@ from streetsim.base.jobs import side_by_side
 from streetsim.base.progress import UnderWay
 from streetsim.base.seeds import interval, seeds_of
 from streetsim.base.words import listed
+from streetsim.buses.planned import planned
 from streetsim.model import trust
 from streetsim.model.folder import NAME
 from streetsim.model.mapping import Map
 from streetsim.model.runs import Run, read_with_map, seeded
-from streetsim.model.tables import PHASES_FILE, SEEDS, WORKS_FILE, write_table
+from streetsim.model.tables import PHASES_FILE, SEEDS, STOPS_FILE, WORKS_FILE, write_table
 from streetsim.outputs.folder import Figures, Making, first_poll, one_run
 from streetsim.outputs.kinds import KINDS
 from streetsim.run.asking import told_of_polls
@@ -29,7 +30,7 @@ from streetsim.works.sites import Asking, with_works
 DETECTORS = {"e1": "inductionLoop", "e2": "laneAreaDetector"}  # SUMO's names, by the kind of output
 # What a run writes where a word asks for it.
 AT_WISH = (
-    *(PHASES_FILE, WORKS_FILE, "movements.csv", "approaches.csv", "junctions.csv"),
+    *(PHASES_FILE, STOPS_FILE, WORKS_FILE, "movements.csv", "approaches.csv", "junctions.csv"),
     *(f"sumo/{kind}.xml" for kind in KINDS),
 )
 
@@ -51,6 +52,8 @@ def run_by(words: argparse.Namespace) -> int:
     if not settings.open_end:
         refuse_no_poll(settings, run.start())
     making = making_of(words)
+    if words.stops == "made":
+        settings = replace(settings, buses=planned(run, mapping))
     if words.lights == "actuated" and mapping.actuated:
         settings = replace(settings, lights=driven_lights(run, mapping))
     if told_of := told_of_polls(run, mapping, settings):

@@ -41,7 +41,7 @@ def vehicles_with_ways(
         report.skipped[NO_WAY] += len(lost)
     names = graph.names
     return [
-        Vehicle(trip.name, trip.depart, names(trip.path), trip.type, trip.route)
+        Vehicle(trip.name, trip.depart, names(trip.path), trip.type, trip.route, trip.stops, trip.line)
         for trip in trips
         if trip.name not in lost
     ]

@@ -46,6 +46,12 @@ class Folder:
             raise Fault(f"{self.path}: no works in this run (streetsim-run --close)")
         return tables.read_table(f"{self.path}/{tables.WORKS_FILE}", tables.WORKS)
 
+    def stops(self) -> list[dict[str, str]]:
+        """The rows of stops.csv; Fault where nobody stopped."""
+        if not os.path.exists(f"{self.path}/{tables.STOPS_FILE}"):
+            raise Fault(f"{self.path}: no stops of vehicles in this run")
+        return tables.read_table(f"{self.path}/{tables.STOPS_FILE}", tables.STOPS)
+
     def phases(self) -> list[dict[str, str]]:
         if not os.path.exists(f"{self.path}/{tables.PHASES_FILE}"):
             raise Fault(f"{self.path}: detectors drive no light in this run")

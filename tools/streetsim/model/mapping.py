@@ -5,6 +5,7 @@ from dataclasses import asdict, dataclass, field
 from streetsim.base import limits
 from streetsim.base.files import Fault, FilePath, Json, read_json
 from streetsim.model.detectors import Detector
+from streetsim.model.stops import Visit
 from streetsim.model.waiting import Waiting, waiting_of
 
 Place = tuple[int, int]  # a link and a lane of it
@@ -83,6 +84,7 @@ class Map:
     programs: list[Json] = field(default_factory=list)  # of actuated lights, as sumo.programs.kept_programs
     # Of edges and junctions that have one: {"edges": {id: name}, "junctions": {id: name}}; model.names tells them.
     names: Json = field(default_factory=dict)
+    visits: list[Visit] = field(default_factory=list)  # stops that vehicles are to make
 
     def __post_init__(self) -> None:
         for number, link in enumerate(self.links):
@@ -120,6 +122,7 @@ class Map:
             **({"rings": self.rings} if self.rings else {}),
             **({"programs": self.programs} if self.programs else {}),
             **({"names": self.names} if self.names else {}),
+            **({"visits": [list(asdict(visit).values()) for visit in self.visits]} if self.visits else {}),
         }
 
 
@@ -139,6 +142,7 @@ def map_from(path: FilePath, value: Json) -> Map:
         more |= {"location": value.get("location", {}), "actuated": value.get("actuated", [])}
         more |= {"rings": value.get("rings", []), "programs": value.get("programs", [])}
         more |= {"names": value.get("names", {})}
+        more["visits"] = [Visit(*visit) for visit in value.get("visits", ())]
         more |= {key: value[key] for key in KEYS if key not in ("links", "turns")}
         return Map(links=links, turns=turns, **more)
     except (KeyError, TypeError, ValueError) as fault:

@@ -22,6 +22,8 @@ STOP_LINE, BEFORE_WORKS = "stop line", "works"  # what a queue stands before
 QUEUES = ("time", "edge", "lane", "vehicles", "metres", "before")
 PHASES_FILE = "phases.csv"
 PHASES = ("begin", "light", "phase", "state", "seconds", "ended")
+STOPS_FILE = "stops.csv"
+STOPS = ("id", "line", "stop", "edge", "lane", "arrival", "departure", "dwell_s", "until", "late_s", "state")
 WORKS_FILE = "works.csv"
 WORKS = (
     *("begin", "end", "edge", "lane", "from_m", "to_m", "vehicles", "capacity_per_hour", "mean_delay_s"),
@@ -31,6 +33,7 @@ SUMMARY = ("time", "entered", "waiting", "on_cells", "in_buffers", "arrived", "t
 SEEDS = ("seed", "vehicles", "arrived", "mean_trip_s", "rescues")
 # All else is numbers.
 TEXTS = {"id", "edge", "state", "junction", "control", "approach", "to", "movement", "los", "before", "light", "ended"}
+TEXTS |= {"line", "stop"}
 LOST = ("vehicles", "vehicles_per_hour", "control_delay_s", "error_s", "stopped_delay_s", "stops_per_vehicle")
 QUEUED = ("queue_50_m", "queue_95_m", "queue_max_m", "storage_m")
 MOVEMENTS = (

@@ -12,8 +12,10 @@ from streetsim.base import limits
 from streetsim.base.client import Client
 from streetsim.base.files import whole_file
 from streetsim.base.jobs import side_by_side
-from streetsim.base.report import COLUMNS
+from streetsim.base.report import COLUMNS, some
 from streetsim.base.serving import serving
+from streetsim.buses.fleet import Done
+from streetsim.buses.planned import NONE
 from streetsim.junctions.reporting import write_junctions
 from streetsim.model import tables, trust
 from streetsim.model.folder import NAME
@@ -21,6 +23,7 @@ from streetsim.model.mapping import Map, Place
 from streetsim.model.names import Names, write_named
 from streetsim.model.runs import Line, Run
 from streetsim.model.sources import digest_of
+from streetsim.model.stops import MISSED, OTHER_LANE
 from streetsim.model.tables import Entry, write_table
 from streetsim.outputs.writing import Outputs
 from streetsim.run import rows
@@ -79,12 +82,13 @@ def one_run(making: Making, run: Run, mapping: Map, settings: Settings, folder: 
         recorder = Recorder(sim, run, mapping, settings, lanes_file, tell)
         records = recorder.record()
     sent = replace(run, timed=records.sent)
-    made = Recorded(sent, mapping, replace(recorder.settings, lights=LISTED), records, start, folder, making.jobs)
+    settled = replace(recorder.settings, lights=LISTED, buses=NONE)
+    made = Recorded(sent, mapping, settled, records, start, folder, making.jobs)
     count_further(made)
     trips = list(rows.trips(records, run, mapping))
     if making.kinds:
         write_sumo_outputs(made, making.kinds, trips)
-    told = [*settings.lights.notes(), *notes(made)]
+    told = [*settings.lights.notes(), *settings.buses.notes(), *stop_notes(records.stops, mapping), *notes(made)]
     beyond: list[str] = []
     if making.junctions is not None:
         more, beyond = write_junctions(made, making.junctions or settings.period)
@@ -131,6 +135,9 @@ def write_tables(made: Recorded, trips: Sequence[Entry]) -> None:
     write_table(f"{folder}/warnings.csv", COLUMNS, mapping.told)
     if records.phases:
         write_table(f"{folder}/{tables.PHASES_FILE}", tables.PHASES, records.phases)
+    if records.stops:
+        of_stops = rows.stops(records, made.run, mapping)
+        write_named(f"{folder}/{tables.STOPS_FILE}", tables.STOPS, of_stops, names)
     if records.works:
         of_works = figures.rows(records.works, mapping, made.run.start(), made.settings.period)
         write_named(f"{folder}/{tables.WORKS_FILE}", tables.WORKS, of_works, names)
@@ -174,6 +181,14 @@ def notes(made: Recorded) -> Iterator[str]:
         yield f"lanes were never polled: the run ended at {records.clock:,} s, and the first poll is at {first:,} s"
     if records.unsent:
         yield f"{records.unsent:,} lines were not sent, as their clock is after --until"
+
+
+def stop_notes(stops: Sequence[Done], mapping: Map) -> Iterator[str]:
+    """Which stops were made on the lane beside, or not at all."""
+    for state, told in ((OTHER_LANE, "were made on the lane beside"), (MISSED, "were passed: no lane had room")):
+        names = [f"{mapping.cars[one.visit.vehicle]} at {one.visit.stop}" for one in stops if one.state == state]
+        if names:
+            yield f"{len(names):,} of {len(stops):,} stops {told}: {some(names)}"
 
 
 def write_setting(

@@ -6,8 +6,10 @@ from typing import Any
 
 from streetsim.actuated.driver import Driver, Senses
 from streetsim.base import limits
-from streetsim.base.client import Client, Lane, Row, Rows, line_of, read_reply
+from streetsim.base.client import Client, Lane, Row, Rows, Vehicle, line_of, read_reply
 from streetsim.base.files import Fault
+from streetsim.buses.fleet import Fleet
+from streetsim.buses.planned import NONE
 from streetsim.model.detectors import E1, Detector
 from streetsim.model.mapping import Map, Place
 from streetsim.model.runs import Command, Line, Run
@@ -37,6 +39,7 @@ class Desk:
         # Those of a run that repeats another: it has the lines that this one sent.
         self.works, self.driver = Works([], mapping), Driver((), mapping)
         self.senses = Senses(lambda meter: self.noted([meter])[0], lambda place: self.lanes([place]).get(place))
+        self.fleet = Fleet(NONE, run, mapping)
 
     def begin(self, asking: Asking) -> None:
         """Sends the load and what is due before the first step, and places the detectors."""
@@ -85,6 +88,10 @@ class Desk:
         """Whether a car has a link in its plan; never here, where works are not looked at."""
         return False
 
+    def vehicles(self, _owners: Iterable[int]) -> list[Vehicle]:
+        """The replies on vehicles of the file; none here, where buses are not looked at."""
+        return []
+
     def advance(self, clock: int, target: int) -> int:
         """Goes on to a clock or the one before it at which a line is due or lanes are sampled; gives that clock. Those
         who depart until then enter before."""
@@ -96,7 +103,7 @@ class Desk:
             target = min(target, self.start + (at // rows + 1) * rows)
         if self.sent < len(self.run.timed):
             target = min(target, self.run.timed[self.sent][0])
-        target = min(target, self.works.next(clock) or target, self.driver.due())
+        target = min(target, self.works.next(clock) or target, self.driver.due(), max(clock + 1, self.fleet.due()))
         last = self.entered
         while last < len(self.run.enters) and self.run.needed[last] < target:
             last += 1
@@ -104,6 +111,7 @@ class Desk:
         self.records.clock = self.sim.advance(target - clock)
         self.records.calls += 1
         self.at_works(target)
+        self.send_at(target, list(map(own_line, self.fleet.look(target, self.vehicles, self.lanes))))
         self.send_at(target, list(map(own_line, self.driver.look(target, self.senses))))
         return target
 
@@ -196,5 +204,5 @@ class Desk:
 
 
 def own_line(command: Command) -> Line:
-    """A line that merging or a light sends; it is of no file."""
+    """A line that merging, a bus or a light sends; it is of no file."""
     return Line(-1, json.dumps(command, separators=(",", ":")), command)

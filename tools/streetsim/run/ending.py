@@ -6,6 +6,7 @@ from typing import Protocol
 
 from streetsim.base import limits
 from streetsim.base.client import Lane
+from streetsim.buses.fleet import Fleet
 from streetsim.model.mapping import Place
 from streetsim.model.runs import Run
 from streetsim.run.records import Records
@@ -32,6 +33,7 @@ class UnderWay(Protocol):
     start: int
     entered: int  # of the run's enters
     sent: int  # of its timed lines
+    fleet: Fleet
 
     def lanes(self, wanted: Iterable[Place]) -> dict[Place, Lane]: ...
     def end_at(self, clock: int) -> None: ...
@@ -74,7 +76,7 @@ class Ending:
         census = record.records.censuses[-1]
         figures = census.admitted, census.arrived, census.taken, census.cells, census.buffers, census.waiting
         waits = record.entered < len(record.run.enters) or record.sent < len(record.run.timed)
-        if waits or figures != self.census:
+        if waits or record.fleet.is_holding or figures != self.census:
             self.census, self.since, self.lanes = figures, clock, None
             return False
         if clock - self.since <= max(self.cycle, record.settings.lights.longest):

@@ -7,6 +7,7 @@ from streetsim.actuated.driver import Driver
 from streetsim.base import limits
 from streetsim.base.client import Client, Lane, Vehicle, line_of, read_reply
 from streetsim.base.files import Fault, TextFile
+from streetsim.buses.fleet import Fleet
 from streetsim.model.detectors import E2, Areas
 from streetsim.model.freeflow import FreeFlow
 from streetsim.model.mapping import Map, Place
@@ -56,6 +57,7 @@ class Recorder(Desk):
         self.works = Works(begun, mapping, settings.merging, pace if self.notes_works else ())
         self.records.works = self.works.watched
         self.driver = Driver(settings.lights.driven, mapping)
+        self.fleet = Fleet(settings.buses, run, mapping)
 
     def record(self) -> Records:
         """Makes the whole run."""
@@ -69,7 +71,7 @@ class Recorder(Desk):
             self.look(clock)
             self.tell(clock, self.records.censuses[-1] if self.records.censuses else None)
         self.records.ends = self.found_ends()
-        self.records.phases = self.driver.rows(clock)
+        self.records.phases, self.records.stops = self.driver.rows(clock), self.fleet.all()
         self.records.unsent = sum(line.number > 0 for _, line in self.run.timed[self.sent :])  # works may last longer
         self.records.uncounted = len(self.places) - len(asking.measured)
         known = asking.measured if asking.samples or asking.every else ()

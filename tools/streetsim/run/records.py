@@ -5,6 +5,7 @@ from contextlib import AbstractContextManager
 from dataclasses import dataclass, field
 
 from streetsim.base.client import Census, Client, Row, Vehicle
+from streetsim.buses.fleet import Done
 from streetsim.model.detectors import Areas
 from streetsim.model.mapping import Map, Place
 from streetsim.model.runs import Command, Line, Run
@@ -40,6 +41,7 @@ class Records:
     clock: int = 0
     works: list[Watched] = field(default_factory=list)  # what was seen before works
     phases: list[PhaseRow] = field(default_factory=list)  # of lights that detectors drive
+    stops: list[Done] = field(default_factory=list)  # of vehicles
     sent: list[tuple[int, Line]] = field(default_factory=list)  # timed lines, by clock, those of merging among them
 
 

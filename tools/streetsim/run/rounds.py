@@ -105,7 +105,13 @@ def gaps_of(
     if not rounds or not mapping.yields:
         return [], Yielding()
     places = places_of(mapping)
-    asked = Settings(settings.until, rescue=settings.rescue, merging=settings.merging, lights=settings.lights)
+    asked = Settings(
+        settings.until,
+        rescue=settings.rescue,
+        merging=settings.merging,
+        lights=settings.lights,
+        buses=settings.buses,
+    )
     made, yielding, wished = run, Yielding(rounds, every=EVERY), None
     for _ in range(rounds):
         with start() as sim:

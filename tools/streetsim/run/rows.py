@@ -1,4 +1,5 @@
 """The rows of a run's tables, under SUMO's names."""
+from collections import Counter
 from collections.abc import Iterable, Iterator
 
 from streetsim.base import limits
@@ -6,6 +7,7 @@ from streetsim.model.detectors import Detector
 from streetsim.model.freeflow import Alone
 from streetsim.model.mapping import Map
 from streetsim.model.runs import Run
+from streetsim.model.stops import lines_of
 from streetsim.model.tables import Entry
 from streetsim.run.edgedata import edge_rows
 from streetsim.run.records import Records
@@ -37,17 +39,43 @@ def edges(records: Records, mapping: Map) -> Iterator[Entry]:
 
 def trips(records: Records, run: Run, mapping: Map) -> Iterator[Entry]:
     """A row for each vehicle of the run file, as SUMO's tripinfo; a trip lasts from the wished departure to arrival."""
-    alone = Alone(mapping, run.load.command["dawdle"] / 1000)
+    alone, stood = Alone(mapping, run.load.command["dawdle"] / 1000), dwelt(records)
     for place, (name, line, end) in enumerate(zip(names(run, mapping), run.enters, records.ends, strict=True)):
         plan, depart = line.command["plan"], line.command["depart"]
         free = alone.trip(plan)
         arrival = end.step + 1 if end is not None and end.state == "arrived" and end.step is not None else None
         trip = (
-            (arrival, arrival - depart, f"{free:.1f}", f"{arrival - depart - free:.1f}")
+            (arrival, arrival - depart, f"{free:.1f}", f"{arrival - depart - free - stood[place]:.1f}")
             if arrival is not None
             else ("", "", f"{free:.1f}", "")
         )
         yield (name, depart, *trip, len(plan), records.rescues[place], end.state if end else "not departed")
+
+
+def dwelt(records: Records) -> Counter[int]:
+    """The seconds that vehicles stood at their stops."""
+    found: Counter[int] = Counter()
+    for one in records.stops:
+        if one.arrived is not None and one.left is not None:
+            found[one.visit.vehicle] += one.left - one.arrived
+    return found
+
+
+def stops(records: Records, run: Run, mapping: Map) -> Iterator[Entry]:
+    """A row for each stop of each vehicle, vehicle by vehicle."""
+    vehicles, lines = names(run, mapping), lines_of(mapping.kinds, len(run.enters))
+    for one in sorted(records.stops, key=lambda one: (one.visit.vehicle, one.visit.at)):
+        visit, link = one.visit, mapping.links[one.visit.link]
+        lane = link.lanes[visit.lane if one.lane is None else one.lane]
+        has_left = one.left is not None and one.arrived is not None
+        dwell = one.left - one.arrived if has_left else ""  # type: ignore[operator]
+        late = one.left - visit.until if has_left and visit.until is not None else ""  # type: ignore[operator]
+        clocks = ["" if clock is None else clock for clock in (one.arrived, one.left)]
+        until = "" if visit.until is None else visit.until
+        yield (
+            vehicles[visit.vehicle], lines[visit.vehicle], visit.stop, link.edge, lane, *clocks, dwell, until, late,
+            one.state,
+        )
 
 
 def names(run: Run, mapping: Map) -> list[str]:

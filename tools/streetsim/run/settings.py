@@ -2,6 +2,7 @@
 from dataclasses import dataclass
 
 from streetsim.actuated.lights import LISTED, Lights
+from streetsim.buses.planned import NONE, Planned
 
 
 @dataclass(frozen=True, slots=True)
@@ -15,3 +16,4 @@ class Settings:
     open_end: bool = False  # until all have arrived or nobody moves; `until` is then a guess
     merging: bool = True  # by turns before works
     lights: Lights = LISTED  # that detectors drive
+    buses: Planned = NONE  # stops that are made

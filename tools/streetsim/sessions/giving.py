@@ -27,14 +27,20 @@ def giving_session(
     **load: int,
 ) -> Session:
     """The session of a run whose vehicles give way by so many rounds. settings: its end, whether that is open, whether
-    vehicles merge before works by turns, and which lights detectors drive."""
+    vehicles merge before works by turns, which lights detectors drive,
+    and which stops are made."""
     until = settings.until
     session = session_of(program, run, until, without, **load)
     gives_way = rounds and mapping.yields
-    if not (gives_way or settings.open_end or settings.lights.driven or closures_of(run, until)):
+    if not (gives_way or settings.open_end or is_driven(settings) or closures_of(run, until)):
         return session
-    ends = settings.open_end, settings.merging, settings.lights
+    ends = settings.open_end, settings.merging, settings.lights, settings.buses
     return replace(session, giving=Giving(with_load(run, **load), mapping, until, without, rounds, *ends))
+
+
+def is_driven(of: Settings | Giving) -> bool:
+    """Whether lines are sent by what is seen while a run goes: of lights or of buses."""
+    return bool(of.lights.driven or of.buses.visits)
 
 
 def gaps(session: Session, signals: bytes, seed: int) -> tuple[list, Yielding]:
@@ -44,7 +50,7 @@ def gaps(session: Session, signals: bytes, seed: int) -> tuple[list, Yielding]:
         return [], Yielding()
     run = with_signals(with_load(giving.run, seed=seed), signals, giving.without)
     serve = partial(serving, session.program, run.path)
-    settings = Settings(giving.until, rescue=0, merging=giving.merging, lights=giving.lights)
+    settings = Settings(giving.until, rescue=0, merging=giving.merging, lights=giving.lights, buses=giving.buses)
     return gaps_of(run, giving.mapping, settings, giving.rounds, serve, lambda *_: None)
 
 
@@ -62,7 +68,7 @@ def outcome_giving_way(session: Session, signals: bytes, seed: int) -> Outcome:
         return outcome(session, signals, seed)
     lines, yielding = gaps(session, signals, seed)
     giving = session.giving
-    if giving.open_end or giving.lights.driven or closures_of(giving.run, giving.until):
+    if giving.open_end or is_driven(giving) or closures_of(giving.run, giving.until):
         found = open_outcome(session, lines, signals, seed)
     else:
         found = outcome(with_gaps(session, lines), signals, seed)
@@ -84,6 +90,7 @@ def open_outcome(session: Session, lines: list, signals: bytes, seed: int) -> Ou
         open_end=giving.open_end,
         merging=giving.merging,
         lights=giving.lights,
+        buses=giving.buses,
     )
     return outcome_of(session.program, with_lines(run, lines), giving.mapping, settings)
 

@@ -19,6 +19,7 @@ from operator import itemgetter
 from streetsim.actuated.lights import LISTED, Lights
 from streetsim.base.client import words_of
 from streetsim.base.files import Fault
+from streetsim.buses.planned import NONE, Planned
 from streetsim.model.mapping import Map
 from streetsim.model.runs import Line, Run
 from streetsim.model.sources import digest_of
@@ -183,3 +184,4 @@ class Giving:
     open_end: bool = False  # `until` is a first guess, and a run goes on until all have arrived or nobody moves
     merging: bool = True  # by turns before works
     lights: Lights = LISTED  # that detectors drive
+    buses: Planned = NONE  # stops that are made

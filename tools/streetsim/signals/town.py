@@ -10,6 +10,7 @@ from streetsim.base.files import Fault
 from streetsim.base.report import some
 from streetsim.model.mapping import Map
 from streetsim.model.runs import Line, Run, read_with_map
+from streetsim.model.stops import why_unmade
 from streetsim.run.settings import Settings
 from streetsim.sessions.giving import gaps, giving_session, outcome_giving_way, with_gaps
 from streetsim.sessions.machines import Function, Machines
@@ -127,7 +128,9 @@ def lights_of(reading: Reading, mapping: Map, net: SumoNet) -> list[str]:
 
 
 def warn_of_others(reading: Reading, town: Town) -> None:
-    """Says where the run's own signals are others than those of the plans given."""
+    """Says where the run's own signals are others than those of the plans given, and that nobody stops."""
+    if unmade := why_unmade(len(town.mapping.visits)):
+        print(f"warning: {unmade}", file=sys.stderr)
     ours = [line.command for line in town.run.first if signal_node(line) is not None]
     given = [json.loads(text) for text in town.signals(town.plan).splitlines()]
     others = [command for command in given if command not in ours]

@@ -10,6 +10,7 @@ from tempfile import TemporaryDirectory
 from streetsim.base.files import whole_file
 from streetsim.base.words import ROUNDS
 from streetsim.cli import import_ as importing
+from streetsim.model.stops import why_unmade
 from streetsim.run.rounds import Yielding
 from streetsim.simulation.errors import FatalTraCIError
 from streetsim.simulation.options import IMPORTED, LOGS, NOWHERE, options_of, warnings_of
@@ -47,6 +48,7 @@ def opened(folder: Path, options: Options) -> Session:
         session = Session(folder, facts, options, int(options.get("rounds", ROUNDS)))
         told += told_of(session.yielding) + told_of_files(facts)
         told += "".join(f"warning: {text}\n" for text in session.driving.lights.notes())
+        told += "".join(f"warning: {text}\n" for text in filter(None, [why_unmade(len(session.map.visits))]))
     finally:
         tell(told, options)
     paths = output_paths(options, facts)

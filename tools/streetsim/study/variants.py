@@ -13,6 +13,7 @@ from streetsim.base import limits
 from streetsim.base.files import Fault, Json, open_text, reading
 from streetsim.base.seeds import seeds_of
 from streetsim.base.words import MOST_ROUNDS, ROUNDS, whole_seconds
+from streetsim.buses.planned import NONE, planned
 from streetsim.model import trust
 from streetsim.model.mapping import Map, read_map
 from streetsim.model.runs import Run
@@ -30,8 +31,9 @@ from streetsim.works.asked import all_works
 from streetsim.works.movements import LOST
 from streetsim.works.sites import Asking, lanes_to_join, with_works
 
-KEYS = {"run", "map", "until", "seeds", "base", "rounds", "merge", "lights", "lost", "variant"}
-VARIANT = {"run", "map", "plans", "close", "merge", "lights", "lost", "works_limit", "dawdle", "route", "knowing"}
+KEYS = {"run", "map", "until", "seeds", "base", "rounds", "merge", "lights", "lost", "stops", "variant"}
+VARIANT = {"run", "map", "plans", "close", "merge", "lights", "lost", "works_limit", "stops", "dawdle", "route"}
+VARIANT |= {"knowing"}
 
 
 @dataclass(slots=True)
@@ -160,7 +162,9 @@ def read_variant(
     else:
         run, mapping, told = with_works(run, mapping, map_path, works, Asking(lanes, lost, variant.get("works_limit")))
     lights = driven_lights(run, mapping) if drives and mapping.actuated else LISTED
-    told += lights.notes()
+    stands = variant.get("stops", study.get("stops")) != "none"
+    buses = planned(run, mapping) if stands else NONE
+    told += [*lights.notes(), *buses.notes()]
     print(*(f"{where}: {text}" for text in told), sep="\n", end="\n" if told else "", file=sys.stderr)
     load = {"dawdle": variant["dawdle"]} if "dawdle" in variant else {}
     nodes: frozenset[int] = frozenset()
@@ -170,7 +174,7 @@ def read_variant(
         signals, sensing = signals_of(Reading(run_path, map_path, plans, until, simulator, 0, ()), run, mapping)
         nodes = frozenset(node for _, node in mapping.signals)
     merging = variant.get("merge", study.get("merge")) != "none"
-    settings = Settings(until, open_end=study["until"] is None, merging=merging, lights=lights)
+    settings = Settings(until, open_end=study["until"] is None, merging=merging, lights=lights, buses=buses)
     session = giving_session(simulator, run, mapping, settings, study["rounds"], nodes, **load)
     doubts = [*found, *trust.of_lengths(until, run, mapping), *trust.of_actuated(until, run, mapping, sensing)]
     begins = [(one.lane, one.first) for one in works]
@@ -203,6 +207,8 @@ def check_types(where: str, value: Json) -> None:
         raise Fault(f"{where}: works_limit is of works without a search for ways: close = [..] is needed, and no route")
     if value.get("lights", "actuated") not in ("actuated", "listed"):
         raise Fault(f"{where}: lights = {value['lights']!r} is neither 'actuated' nor 'listed'")
+    if value.get("stops", "made") not in ("made", "none"):
+        raise Fault(f"{where}: stops = {value['stops']!r} is neither 'made' nor 'none'")
     if "knowing" in value and not (value.get("route") and value.get("close")):
         raise Fault(f"{where}: knowing is of who goes round works: close = [..] and route = true are needed too")
 

@@ -7,6 +7,7 @@ from streetsim.base.report import Report, some
 from streetsim.sumo.demand import Demand
 from streetsim.sumo.detectors import KINDS, read_detector
 from streetsim.sumo.net import SumoNet, read_program
+from streetsim.sumo.stops import BUS_STOPS, read_bus_stop
 from streetsim.sumo.types import TAGS, Types
 
 UNDONE = {  # elements of additional files that change traffic in SUMO: what to do here
@@ -28,6 +29,8 @@ def read_additional(path: FilePath, net: SumoNet, types: Types, report: Report, 
             read_program(path, element, net, ())
         elif element.tag in TAGS:
             types.read(path, element)
+        elif element.tag in BUS_STOPS:
+            read_bus_stop(path, element, net)
         elif element.tag in KINDS:
             net.detectors += filter(None, [read_detector(path, element, report)])
         elif element.tag in DEMAND and demand is not None:

@@ -17,7 +17,7 @@ from streetsim.sumo.programs import kept_programs
 from streetsim.sumo.rules import warn_of_rules
 from streetsim.sumo.signals import movements, signals
 from streetsim.sumo.slowing import slowed
-from streetsim.sumo.types import Sizes, Types
+from streetsim.sumo.types import Types
 from streetsim.sumo.yielding import equivalents, hourly_flows
 
 # The network, its lights with their nodes, the commands of the run, the names of its vehicles.
@@ -44,12 +44,10 @@ def converted(net: SumoNet, types: Types, vehicles: Sequence[Vehicle], options: 
     network = Network(net, options, report, flows)
     found = movements(net, network, flows, report)
     network.equivalents = equivalents(one for junction in found.values() for one in junction.values())
-    sizes = Sizes(types)
-    entered, driven = enters(vehicles, net, network, sizes, report)
+    entered, driven = enters(vehicles, net, network, types, report)
     network.kinds = kinds_of(driven, types)
     network.last = max((command["depart"] for command in entered), default=options.begin)
     network.open_beside_works()
-    sizes.tell(report)
     warn_of_rules(net, network, report)
     made = signals(net, network, found, report)
     lights = [(light, command["node"]) for light, command in made if "at" not in command]
@@ -102,6 +100,7 @@ def map_of(network: Network, lights: list[tuple[str, int]], names: list[str], re
         programs=network.programs,
         rings=network.rings,
         names=network.names,
+        visits=network.visits,
     )
 
 

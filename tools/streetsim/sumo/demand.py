@@ -2,7 +2,7 @@
 import math
 import random
 from collections import Counter
-from collections.abc import Iterable, Sequence
+from collections.abc import Iterable, Mapping, Sequence
 from dataclasses import astuple, dataclass
 from itertools import pairwise
 from typing import Any
@@ -12,18 +12,19 @@ from streetsim.base import limits
 from streetsim.base.files import (
     Fault, FilePath, Json, at_least_zero, attribute, elements, filled, optional, seconds, told,
 )
-from streetsim.base.report import Report, some
+from streetsim.base.report import Report
 from streetsim.model.runs import Command
 from streetsim.model.sources import sum_of_lines
 from streetsim.sumo.flows import departs
 from streetsim.sumo.net import SumoNet
-from streetsim.sumo.network import Network
+from streetsim.sumo.network import LaneKey, Network
+from streetsim.sumo.stops import Found, Stop, Stops, stops_in
 from streetsim.sumo.types import Sizes, Types, weights_of
 
 Mix = tuple[list[str], list[float]]  # names and weights
 
 READ = {"id", "type", "depart", "route", "edges", "begin", "end"}
-READ |= {"number", "period", "probability", "vehsPerHour", "perHour", "repeat"}
+READ |= {"number", "period", "probability", "vehsPerHour", "perHour", "repeat", "line"}
 NOT_DRIVEN = {
     "trip": "a trip",
     "person": "a person",
@@ -47,6 +48,8 @@ class Vehicle:
     edges: tuple[str, ...]
     type: str
     route: str = ""  # the name of its route, as SUMO has it; none where the route stands in the vehicle
+    stops: tuple[Stop, ...] = ()
+    line: str = ""  # of public transport
 
 
 class Demand:
@@ -59,7 +62,7 @@ class Demand:
         self.routes: dict[str, tuple[str, ...]] = {}  # name: edges
         self.mixes: dict[str, Mix] = {}  # by distribution of routes
         self.vehicles: list[Vehicle] = []
-        self.stopping: Counter[str] = Counter()  # by vehicle or route: stops, which are not made
+        self.route_stops: dict[str, tuple[Stop, ...]] = {}  # by route, seconds from the departure on
         self.later: list[tuple[Vehicle, str]] = []  # (vehicle, file and element): routes may be told after the vehicles
 
     def read(self, path: FilePath) -> None:
@@ -93,6 +96,7 @@ class Demand:
         if name in self.routes or name in self.mixes:
             raise Fault(f"{told(path, element)}: a second route of this name")
         self.routes[name] = self.edges(path, element, element)
+        self.route_stops[name] = stops_in(path, element, self.net)
 
     def read_mix(self, path: FilePath, element: Element) -> None:
         """Adds a distribution of routes; Fault where another one, or a route, has its name."""
@@ -111,6 +115,7 @@ class Demand:
             own = inner.get("refId") or inner.get("id") or f"{name}#{place}"
             if not inner.get("refId"):
                 self.routes[own] = self.edges(path, owner, inner)
+                self.route_stops[own] = stops_in(path, inner, self.net)
             names.append(own)
             weights += attribute(path, inner, "probability", weights_of) if inner.get("probability") else [1.0]
         if unknown := [one for one in names if one not in self.routes]:
@@ -149,10 +154,19 @@ class Demand:
         edges = self.edges(path, element, inner) if inner is not None else None
         kind: Any = optional(path, element, "type", filled, None)  # none until `finish` where the file has none
         for name, depart in departs:
-            vehicle = Vehicle(name, depart, edges or (), kind, route)
+            vehicle = Vehicle(name, depart, edges or (), kind, route, *self.riding(path, element, depart))
             self.vehicles.append(vehicle)
             if edges is None:
                 self.later.append((vehicle, told(path, element)))
+
+    def riding(self, path: FilePath, element: Element, depart: float) -> tuple[tuple[Stop, ...], str]:
+        """The stops of a vehicle, but for those of a route of its own name, and its line. Those of a flow are told for
+        a departure at its begin."""
+        begin = optional(path, element, "begin", at_least_zero(seconds), 0.0) if element.tag == "flow" else depart
+        inner = element.find("route")
+        own = stops_in(path, inner, self.net) if inner is not None and element.get("route") is None else ()
+        stops = (*own, *stops_in(path, element, self.net))
+        return tuple(one.later(depart - begin) for one in stops), element.get("line", "")
 
     def inner_route(self, path: FilePath, element: Element) -> tuple[Element | None, Element | None]:
         """The route or the distribution that stands in an element; none where its attribute names one, which counts."""
@@ -165,9 +179,7 @@ class Demand:
         return element.find("route"), element.find("routeDistribution")
 
     def note_ignored(self, element: Element) -> None:
-        """Counts what is not done: stops, and all attributes but those that are read."""
-        if stops := sum(1 for _ in element.iter("stop")):
-            self.stopping[element.get("id") or ""] += stops
+        """Counts all attributes but those that are read."""
         for name in set(element.keys()) - READ:
             self.report.ignored[f"{name} of {element.tag}s"] += 1
 
@@ -195,7 +207,8 @@ class Demand:
             if vehicle.route not in self.routes:
                 raise Fault(f"{where}: there is no route {vehicle.route!r}")
             vehicle.edges = self.routes[vehicle.route]
-        self.tell_stops()
+            stops = self.route_stops[vehicle.route]
+            vehicle.stops = (*(one.later(vehicle.depart) for one in stops), *vehicle.stops)
         names = Counter(vehicle.name for vehicle in self.vehicles)
         double = next((name for name, count in names.items() if count > 1), None)
         if double is not None:
@@ -207,39 +220,45 @@ class Demand:
             self.report.notes.append(f"{after:,} vehicles that depart at the end, {end:,} s, or later are left out")
         return sorted(before, key=lambda vehicle: vehicle.depart)
 
-    def tell_stops(self) -> None:
-        """Reports the stops, which are not made."""
-        if self.stopping:
-            stops, names = self.stopping.total(), list(self.stopping)
-            do = "who stands in others' way: streetsim-run --close, for as long"
-            self.report.warn(f"{stops:,} stops of vehicles or routes are not made: {some(names)}", names, do)
-
 
 def enters(
-    vehicles: Iterable[Vehicle], net: SumoNet, network: Network, sizes: Sizes, report: Report
+    vehicles: Iterable[Vehicle], net: SumoNet, network: Network, types: Types, report: Report
 ) -> tuple[list[Command], list[Vehicle]]:
     """Enter commands and the vehicles that they are of, in the same order; vehicles that cannot drive are reported by
-    reason."""
-    commands, driven = [], []
+    reason, and so are stops that cannot be made; the network gets those that can."""
+    sizes, stops = Sizes(types), Stops(net, types, report)
+    commands: list[Command] = []
+    driven: list[Vehicle] = []
     used: Counter[int] = Counter()
     for vehicle in vehicles:
-        plan, why = plan_of(vehicle, net, network)
+        found = stops.on(vehicle.name, vehicle.edges, vehicle.stops)
+        plan, why = plan_of(vehicle, net, network, found.lanes())
         if plan is None:
             report.skipped[why] += 1
             continue
-        lanes = network.serves(plan[0], plan[1]) if len(plan) > 1 else range(len(network.links[plan[0]].lanes))
-        lane = lanes[used[plan[0]] % len(lanes)]
-        used[plan[0]] += 1
+        stops.add((len(driven), vehicle.name, vehicle.type), plan, found, network)
         command: Command = {
             "cmd": "enter",
             "plan": list(plan),
-            "lane": lane,
+            "lane": lane_of(plan, network, used, found),
             "depart": max(0, math.ceil(vehicle.depart)),
         }
         size = sizes.of(vehicle.type) if network.options.sizes else 1
         commands.append({**command, "size": size} if size > 1 else command)
         driven.append(vehicle)
+    sizes.tell(report)
+    stops.tell()
+    network.visits = stops.visits
     return commands, driven
+
+
+def lane_of(plan: Sequence[int], network: Network, used: Counter[int], found: Found) -> int:
+    """The lane where a vehicle enters: that of a stop on its first link, or those by turns that lead on."""
+    lanes = network.serves(plan[0], plan[1]) if len(plan) > 1 else range(len(network.links[plan[0]].lanes))
+    if 0 in (stops := found.lanes()):
+        return network.place_of[stops[0]][1]
+    used[plan[0]] += 1
+    return lanes[(used[plan[0]] - 1) % len(lanes)]
 
 
 def kinds_of(driven: Sequence[Vehicle], types: Types) -> Json:
@@ -251,12 +270,15 @@ def kinds_of(driven: Sequence[Vehicle], types: Types) -> Json:
         "types": [[name, *astuple(types.kinds[name])] for name in names],
         "type": [place.get(vehicle.type, 0) for vehicle in driven],
         "route": [vehicle.route for vehicle in driven] if any(vehicle.route for vehicle in driven) else [],
+        **({"line": [vehicle.line for vehicle in driven]} if any(vehicle.line for vehicle in driven) else {}),
         "ends": sum_of_lines(f"{vehicle.edges[0]} {vehicle.edges[-1]}" for vehicle in driven),
     }
 
 
-def plan_of(vehicle: Vehicle, net: SumoNet, network: Network) -> tuple[tuple[int, ...] | None, str]:
-    """The links of a vehicle, or none and why."""
+def plan_of(
+    vehicle: Vehicle, net: SumoNet, network: Network, stops: Mapping[int, LaneKey]
+) -> tuple[tuple[int, ...] | None, str]:
+    """The links of a vehicle, or none and why. stops: lanes at which it stops, by the edge's place."""
     if any(edge in net.dropped for edge in vehicle.edges):
         return None, "an edge of the route has no lane for the classes"
     if len(vehicle.edges) > limits.PLAN:
@@ -265,7 +287,7 @@ def plan_of(vehicle: Vehicle, net: SumoNet, network: Network) -> tuple[tuple[int
         return None, "departs before the begin"
     if vehicle.depart > limits.CLOCK:
         return None, f"departs after {limits.CLOCK:,} s"
-    plan = network.route(vehicle.edges)
+    plan = network.route(vehicle.edges, stops)
     return plan, "" if plan else why_no_way(vehicle, net, network)
 
 

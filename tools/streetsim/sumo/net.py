@@ -7,6 +7,7 @@ from xml.etree.ElementTree import Element
 
 from streetsim.base.files import Fault, FilePath, Json, at_least_zero, attribute, elements, number, seconds, told
 from streetsim.base.report import Report
+from streetsim.sumo.bus_stops import BusStop
 from streetsim.sumo.detectors import SumoDetector
 
 STATIC, NEMA = "static", "NEMA"  # kinds of signal programs: seconds alone, and two rings of phases
@@ -87,6 +88,7 @@ class SumoNet:
     # By light, those loaded before it that are not seconds alone: scripts may choose them.
     earlier: dict[str, list[Program]] = field(default_factory=dict)
     detectors: list[SumoDetector] = field(default_factory=list)  # of additional files
+    bus_stops: dict[str, BusStop] = field(default_factory=dict)  # of these, by name
     # By junction: for each request those that it gives way to.
     yields: dict[str, dict[int, set[int]]] = field(default_factory=dict)
     inner_speeds: dict[str, float] = field(default_factory=dict)  # lane inside a junction: metres a second

@@ -3,12 +3,14 @@ from collections import Counter, defaultdict
 from collections.abc import Collection, Iterable, Iterator, Mapping, Sequence
 from dataclasses import dataclass, replace
 from math import log
+from types import MappingProxyType
 from typing import Any
 
 from streetsim.base import limits
 from streetsim.base.files import Fault, Json
 from streetsim.base.report import Report, some
 from streetsim.model.runs import Command
+from streetsim.model.stops import Visit
 from streetsim.model.waiting import TurnKey, Waiting
 from streetsim.sumo.losses import Flows, lost
 from streetsim.sumo.net import Connection, Edge, Lane, Point, SumoNet, connections_of
@@ -122,6 +124,7 @@ class Network:
         self.yields: list[Waiting] = []
         self.last = options.begin  # departure
         self.kinds: Json = {}  # of the vehicles, as demand.kinds_of
+        self.visits: list[Visit] = []  # of bus stops and other stops
         self.actuated: list[str] = []  # lights that SUMO times by detectors
         self.programs: list[Json] = []  # of these, as programs.kept_programs has them
         self.rings = sorted(net.roundabouts & net.edges.keys())
@@ -194,20 +197,25 @@ class Network:
                 if not self.serves(link, following):
                     self.join(link, following)
 
-    def route(self, edges: Sequence[str]) -> tuple[int, ...] | None:
+    def route(
+        self, edges: Sequence[str], stops: Mapping[int, LaneKey] = MappingProxyType({})
+    ) -> tuple[int, ...] | None:
         """The links of a route over parallel links, by least cost, which then carry it; turns that are wanting are
-        added. None where two edges have no connection."""
+        added. None where two edges have no connection. stops: lanes over whose links it goes, by the edge's place."""
         if any((edge, following) not in self.movements for edge, following in zip(edges, edges[1:])):
             return None
+        links = [self.links_of[edge] for edge in edges]
+        for at, key in stops.items():
+            links[at] = [self.place_of[key][0]]
         best: dict[int, tuple[float, tuple[int, ...]]]
-        best = {link: (self.crowding(link), (link,)) for link in self.links_of[edges[0]]}
-        for edge in edges[1:]:
+        best = {link: (self.crowding(link), (link,)) for link in links[0]}
+        for some in links[1:]:
             best = {
                 link: min(
                     (cost + self.crowding(link) + self.change_cost(path[-1], link), (*path, link))
                     for cost, path in best.values()
                 )
-                for link in self.links_of[edge]
+                for link in some
             }
         plan = min(best.values())[1]
         self.use[plan[-1]] += 1

@@ -47,6 +47,21 @@ BY_CLASS = {  # where SUMO's defaults are other ones
     "rail_fast": (200.0, 5.0),
     "ship": (17.0, 2.5),
 }
+PACE = 2.6, 4.5  # metres a second and second, of one who starts and one who brakes
+PACE_BY_CLASS = {  # where SUMO's defaults are other ones
+    "bicycle": (1.2, 3.0),
+    "moped": (1.1, 7.0),
+    "motorcycle": (6.0, 10.0),
+    "truck": (1.3, 4.0),
+    "trailer": (1.1, 4.0),
+    "bus": (1.2, 4.0),
+    "coach": (2.0, 4.0),
+    "tram": (1.0, 3.0),
+    "rail_urban": (1.0, 3.0),
+    "rail": (0.25, 1.3),
+    "rail_electric": (0.5, 1.3),
+    "rail_fast": (0.5, 1.3),
+}
 READ = {"id", "length", "minGap", "vClass", "probability", "probabilities", "vTypes"}
 TAGS = ("vType", "vTypeDistribution")
 
@@ -85,6 +100,7 @@ class Types:
         self.metres = {DEFAULT: sum(USUAL), "DEFAULT_TAXITYPE": sum(USUAL)}
         self.metres["DEFAULT_BIKETYPE"] = sum(BY_CLASS["bicycle"])
         self.kinds = {DEFAULT: Kind()}  # by name; those that files tell, and the usual one
+        self.pace = {DEFAULT: PACE}  # by name
         self.mixes: dict[str, tuple[list[str], list[float]]] = {}  # distribution: types and their weights
         self.draws = random.Random(f"types {seed}")
         self.named: set[str] = set()  # types and distributions of the files
@@ -107,6 +123,9 @@ class Types:
         name = self.new_name(path, element)
         self.metres[name] = length + gap
         self.kinds[name] = Kind(vclass, length, gap, speed)
+        starting, braking = PACE_BY_CLASS.get(vclass, PACE)
+        starting = optional(path, element, "accel", above_zero(number), starting)
+        self.pace[name] = starting, optional(path, element, "decel", above_zero(number), braking)
         for name in set(element.keys()) - READ:
             self.report.ignored[f"{name} of vTypes"] += 1
 

@@ -12,6 +12,7 @@ from streetsim.base.report import Report
 from streetsim.sumo.demand import NOT_DRIVEN, READ, Demand, Vehicle
 from streetsim.sumo.net import SumoNet
 from streetsim.sumo.network import Options
+from streetsim.sumo.stops import Stop, edge_of, stops_in
 from streetsim.sumo.types import DEFAULT, TAGS, Types
 from streetsim.ways.graph import Graph
 from streetsim.ways.router import Path
@@ -20,8 +21,8 @@ ENDS = {"from", "to", "fromTaz", "toTaz", "departLane", "departSpeed", "departPo
 PERSONS = ("person", "personFlow")
 DRIVEN = ("personTrip", "trip")  # of a person who may take a car; who rides does so in a vehicle that the files have
 BY_STOPS = (
-    "drives from stop to stop without from and to, as buses and taxis do that are sent on their way while SUMO runs; "
-    "streetsim has no stops: take it out, or give it from and to"
+    "drives from stop to stop without from and to, and its first and last stop have no two edges here, as those of "
+    "buses and taxis that are sent on their way while SUMO runs: take it out, or give it from and to"
 )
 
 
@@ -39,6 +40,8 @@ class Trip:
     entry: float
     changes: bool = True  # whether it may take another way; not where its way leads back to the edge where it begins
     route: str = ""  # the name of the route that it was given
+    stops: tuple[Stop, ...] = ()
+    line: str = ""  # of public transport
 
 
 class TripDemand(Demand):
@@ -87,31 +90,38 @@ class TripDemand(Demand):
             super().add(path, element, departures)
             return
         ends = self.ends(path, element)
-        self.report.ignored["stops"] += sum(1 for _ in element.iter("stop"))
         for name in set(element.keys()) - READ - ENDS:
             self.report.ignored[f"{name} of {element.tag}s"] += 1
         kind: Any = optional(path, element, "type", filled, None)  # none until `finish` where the file has none
         for name, depart in departures:
-            self.vehicles.append(Vehicle(name, depart, ends, kind))
+            self.vehicles.append(Vehicle(name, depart, ends, kind, "", *self.riding(path, element, depart)))
             self.without.add(name)
 
     def ends(self, path: FilePath, element: ElementTree.Element) -> tuple[str, str]:
         """The edges where a trip begins and ends; Fault where it has none, or they are not the network's."""
         if element.get("via"):
             raise Fault(f"{told(path, element)}: via is not routed here; compute this route with duarouter")
-        if element.get("from") is None or element.get("to") is None:
+        ends = [element.get("from", ""), element.get("to", "")]
+        if not all(ends):
             if element.find("stop") is not None and not element.get("fromTaz"):
-                raise Fault(f"{told(path, element)}: {BY_STOPS}")
+                return self.by_stops(path, element, ends)
             taz = (
                 " (fromTaz and toTaz name districts: let od2trips or duarouter choose edges)"
                 if element.get("fromTaz")
                 else ""
             )
             raise Fault(f"{told(path, element)}: a trip needs from and to{taz}")
-        ends = element.get("from", ""), element.get("to", "")
         if unknown := [name for name in ends if name not in self.net.edges and name not in self.net.dropped]:
             raise Fault(f"{told(path, element)}: the network has no edge {unknown[0]!r}")
-        return ends
+        return ends[0], ends[1]
+
+    def by_stops(self, path: FilePath, element: ElementTree.Element, ends: Sequence[str]) -> tuple[str, str]:
+        """The edges of a trip from stop to stop: those of its first and its last stop, where from or to lack."""
+        edges = [edge_of(stop, self.net) for stop in stops_in(path, element, self.net)]
+        found = ends[0] or edges[0], ends[1] or edges[-1]
+        if found[0] == found[1] or not all(name in self.net.edges for name in found):
+            raise Fault(f"{told(path, element)}: {BY_STOPS}")
+        return found
 
 
 @dataclass(slots=True)
@@ -138,7 +148,8 @@ def read_trips(
         way = () if one.name in demand.without else tuple(graph.number[name] for name in one.edges)
         ends = graph.number[one.edges[0]], graph.number[one.edges[-1]]
         back = ends[0] == ends[1] and len(way) > 1
-        found.append(Trip(one.name, one.depart, *ends, one.type, way, one.depart, not back, one.route))
+        trip = Trip(one.name, one.depart, *ends, one.type, way, one.depart, not back, one.route, one.stops, one.line)
+        found.append(trip)
     if not found:
         why = "".join(f"; {count:,} left out: {reason}" for reason, count in sorted(report.skipped.items()))
         raise Fault(f"{', '.join(paths)}: no trip that can drive{why}")

@@ -1,0 +1,1 @@
+"""Buses while a run goes: they stop, and lights wait for them."""

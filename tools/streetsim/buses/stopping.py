@@ -1,0 +1,183 @@
+"""A bus at one stop, by closures alone: no rule of the simulator changes.
+
+The cell beyond the stop is closed in the step in which the bus would pass it, and opened when its time is over. On a
+link of two lanes a bus that would change to the other lane finds a cell closed there, just so far ahead that the rule
+for lane changing does not let it go, and only where nobody is near who could be stopped by it. One that comes on the
+wrong lane is slowed, and those behind it on the right lane are held, until the rule lets it change.
+
+`Stopping` is told what stands on the lanes and says which cells are to be closed in the next step. It draws nothing and
+sends nothing, so equal states give equal commands. What is chosen, not measured: APPROACH and PATIENCE.
+"""
+from __future__ import annotations
+
+from collections.abc import Mapping, Sequence
+from dataclasses import dataclass, field
+
+from streetsim.model.stops import AHEAD, MADE, MISSED, OTHER_LANE, STANDING, Visit
+from streetsim.works.merging import Merging, Seen, Side
+
+APPROACH = 40  # cells before the stop, from which a bus is brought to its lane
+BEHIND = 5  # cells: the rule for lane changing wants a gap behind of more
+PATIENCE = 30  # seconds for which a bus waits on the wrong lane
+SIGHT = 16  # cells: the gap where nobody is in sight
+# Seconds that a bus goes earlier for each vehicle that stands behind it, as far as its start takes so many: a queue on
+# the way leaves at 2.14 s a vehicle here and at 1.93 in SUMO, so that a street with stops passes as many.
+QUEUED = 0.2
+
+Cell = tuple[int, int]  # a lane and a cell of it
+
+
+@dataclass(slots=True, frozen=True)
+class Road:
+    """The link of a stop."""
+
+    lanes: int
+    limit: int  # cells a step
+    cells: int
+    # Of two lanes: whether one of the plan's next link leads from the stop's lane, and from the other.
+    leads: tuple[bool, bool] = (True, True)
+
+
+@dataclass(slots=True)
+class Stopping:
+    """A bus on the link of its stop. `lane`: where it was last seen."""
+
+    visit: Visit
+    road: Road
+    lane: int
+    state: str = AHEAD
+    arrived: int | None = None  # clock at which it has come to stand, as SUMO's would
+    leaves: int = 0  # clock at which its doors close
+    goes: int | None = None  # clock at which it is let go, as far as it is known
+    stood: int = 0  # seconds on the wrong lane
+    closed: set[Cell] = field(default_factory=set)  # in the next step
+    held: Seen | None = None  # where it stands
+    passing: Merging | None = None  # those behind it, on a link of two lanes
+    passes: int = 0  # clock at which `passing` is to be told next
+
+    @property
+    def is_over(self) -> bool:
+        return self.state in (MADE, OTHER_LANE, MISSED)
+
+    @property
+    def other(self) -> int:
+        return 1 - self.lane
+
+    def look(self, clock: int, bus: Seen, lanes: Mapping[int, Sequence[Seen]]) -> int:
+        """Decides which cells are closed in the next step; gives the seconds until the next look. lanes: what stands on
+        those that `wants` names, with the bus or without it."""
+        self.closed = set()
+        if self.held:
+            return self.stand(clock, self.held, lanes)
+        if bus.cell > self.visit.last:
+            self.state = MISSED
+            return 1
+        if self.has_come(bus):
+            return self.arrive(clock, bus, lanes)
+        own = [one for one in lanes.get(self.lane, ()) if one.cell > bus.cell]
+        if self.is_astray:
+            self.change(bus, own, lanes.get(self.other, ()))
+        else:
+            self.near(bus, own, self.visit.last)
+            self.keep(bus, own, lanes.get(self.other, ()))
+        return 1
+
+    @property
+    def is_astray(self) -> bool:
+        """Whether it is on the wrong lane and is to leave it, where the rule lets it to one that does not lead on."""
+        leads_astray = self.road.leads == (False, True)
+        return self.lane != self.visit.lane and self.stood < PATIENCE and not leads_astray
+
+    def wants(self, clock: int) -> list[int]:
+        """The lanes that it must be told of."""
+        ends = self.goes is None and clock >= self.leaves
+        own = [self.lane] if not self.held or ends or (self.passing and clock >= self.passes) else []
+        return sorted([*own, *([self.other] if self.road.lanes == 2 else [])])
+
+    def has_come(self, bus: Seen) -> bool:
+        """Whether it is at the stop: at its end, or standing beside it."""
+        if self.is_astray:
+            return False
+        return bus.cell == self.visit.last or (bus.speed == 0 and bus.cell >= self.visit.first)
+
+    def arrive(self, clock: int, bus: Seen, lanes: Mapping[int, Sequence[Seen]]) -> int:
+        """Notes when it leaves: after its duration, and not before `until`."""
+        self.state, self.held = STANDING, Seen(bus.car, bus.cell, 0, bus.size)
+        self.arrived = clock + round(self.visit.braking)
+        self.leaves = max(self.arrived + self.visit.duration, self.visit.until or 0)
+        return self.stand(clock, self.held, lanes)
+
+    def stand(self, clock: int, bus: Seen, lanes: Mapping[int, Sequence[Seen]]) -> int:
+        """Stays until its time is over."""
+        if self.goes is None and clock >= self.leaves:
+            behind = sum(one.cell < bus.cell and one.speed == 0 for one in lanes.get(self.lane, ()))
+            self.goes = clock + max(0, round(self.visit.starting - QUEUED * behind))
+        if self.goes is not None and clock >= self.goes:
+            self.state = MADE if self.lane == self.visit.lane else OTHER_LANE
+            return 1
+        self.closed = {(self.lane, bus.cell + 1)}
+        if self.road.lanes == 1:
+            return max(1, (self.leaves if self.goes is None else self.goes) - clock)
+        self.keep(bus, (), lanes.get(self.other, ()))
+        self.let_pass(clock, bus, lanes)
+        return 1
+
+    def let_pass(self, clock: int, bus: Seen, lanes: Mapping[int, Sequence[Seen]]) -> None:
+        """Those who stand behind it on a link of two lanes merge by turns, as before works of its length."""
+        self.passing = self.passing or Merging(self.road.cells)
+        if self.lane in lanes and clock >= self.passes:
+            behind = [one for one in lanes[self.lane] if one.cell < bus.rear]
+            sides = [Side(lanes.get(self.other, ()), ()), Side(behind, [(bus.rear, bus.cell + 1)])]
+            self.passing.told(clock, sides if self.lane == 1 else sides[::-1])
+            self.passes = clock + self.passing.seconds()
+        for lane, cells in enumerate(self.passing.held):
+            self.closed |= {(lane, cell) for cell in cells}
+
+    def near(self, bus: Seen, ahead: Sequence[Seen], last: int) -> None:
+        """Closes the cell beyond a last one where the bus would pass it in the next step."""
+        if min(bus.speed + 1, self.road.limit) > last - bus.cell and rear_of(ahead) > last + 1:
+            self.closed.add((self.lane, last + 1))
+
+    def keep(self, bus: Seen, ahead: Sequence[Seen], other: Sequence[Seen]) -> None:
+        """Has it stay on its lane, where it would change."""
+        if self.road.lanes == 1:
+            return
+        shut = min((cell for lane, cell in self.closed if lane == self.lane), default=bus.cell + SIGHT + 1)
+        gap = min(rear_of(ahead), shut) - bus.cell - 1
+        leads, beside = self.leads(self.lane), self.leads(self.other)
+        wishes = (gap < bus.speed + 1 or not leads) and (beside or not leads)
+        if wishes and may_change(bus, other):
+            self.closed.add((self.other, min(bus.cell + bus.speed + 2, self.road.cells - 1)))
+
+    def leads(self, lane: int) -> bool:
+        """Whether a lane leads to the next link of its plan."""
+        return self.road.leads[lane != self.visit.lane]
+
+    def change(self, bus: Seen, ahead: Sequence[Seen], right: Sequence[Seen]) -> None:
+        """Has it change to the right lane where the rule lets it; else it is slowed, waits two cells before the stop,
+        and those behind on the right lane are held."""
+        speed, reach = bus.speed, min(bus.speed + 1, self.road.limit)
+        wait = self.visit.last - 2
+        if may_change(bus, right) and reach <= self.visit.last - bus.cell:
+            if rear_of(ahead) - bus.cell - 1 >= speed + 1:
+                self.closed.add((self.lane, min(bus.cell + speed + 1, self.road.cells - 1)))
+            return
+        slow = bus.cell + max(0, self.road.limit - 1)
+        last = min(slow, max(bus.cell, wait))
+        self.near(bus, ahead, last)
+        if (hold := bus.rear - BEHIND - 1) > 0:
+            self.closed.add((self.visit.lane, hold))
+        if bus.speed == 0 and rear_of(ahead) > bus.cell + 1:
+            self.stood += 1
+
+
+def rear_of(vehicles: Sequence[Seen]) -> int:
+    """The least cell that some vehicles cover; far away where there are none."""
+    return min((one.rear for one in vehicles), default=1 << 30)
+
+
+def may_change(bus: Seen, other: Sequence[Seen]) -> bool:
+    """Whether the simulator's rule would let it go to the other lane, if it wishes to: all cells beside it are free,
+    the gap ahead is longer than its speed and one, and that behind than BEHIND."""
+    nearest, farthest = bus.rear - BEHIND - 1, bus.cell + bus.speed + 2
+    return not any(one.cell >= nearest and one.rear <= farthest for one in other)

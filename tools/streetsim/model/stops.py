@@ -1,0 +1,47 @@
+"""Stops of buses and others: as a map keeps them, and the rows of a run's table of them."""
+from __future__ import annotations
+
+from collections.abc import Sequence
+from dataclasses import dataclass
+
+from streetsim.base.files import Json
+
+MADE, OTHER_LANE = "made", "other lane"  # on its lane, or on the one beside
+STANDING, MISSED, AHEAD = "standing", "missed", "not reached"  # at the end of the run; passed; still to come
+
+
+@dataclass(slots=True, frozen=True)
+class Visit:
+    """A stop that a vehicle is to make, on the cells of a run."""
+
+    vehicle: int  # its number in the map
+    at: int  # the place of its link in the vehicle's plan
+    stop: str  # SUMO's name of the bus stop, or the lane and the metres
+    link: int
+    lane: int
+    first: int  # cell: from here to the last one a front that stands is at the stop
+    last: int
+    duration: int  # seconds that it stays at least
+    until: int | None  # clock before which it does not leave
+    braking: float  # seconds that SUMO's vehicle loses before it stands
+    starting: float  # and after, beyond what one loses here
+
+
+def why_unmade(visits: int) -> str:
+    """What a tool says that makes no stops; nothing where there are none."""
+    if not visits:
+        return ""
+    return f"{visits:,} stops of vehicles are not made: streetsim-run and streetsim-study make them"
+
+
+def lines_of(kinds: Json, count: int) -> Sequence[str]:
+    """The line of each vehicle of a map, by its number; an empty text where it has none."""
+    found: Sequence[str] = kinds.get("line") or ()
+    return [*found, *([""] * (count - len(found)))]
+
+
+def classes_of(kinds: Json, count: int) -> Sequence[str]:
+    """The class of each vehicle of a map, by its number: SUMO's name."""
+    types: Sequence[Sequence[str]] = kinds.get("types") or ()
+    found = [types[at][1] for at in kinds.get("type") or ()]
+    return [*found, *(["passenger"] * (count - len(found)))]

@@ -1,0 +1,27 @@
+"""Bus stops of SUMO's additional files."""
+from dataclasses import dataclass
+
+from streetsim.base.files import Fault
+
+NEAR = 0.1  # metres, by which lengths are rounded
+
+
+@dataclass(slots=True, frozen=True)
+class BusStop:
+    """A bus stop of an additional file; places in metres, below 0 from the lane's end."""
+
+    lane: str
+    begin: float | None
+    end: float | None
+
+
+def stretch(stop: BusStop, length: float, is_friendly: bool, where: str) -> tuple[float, float]:
+    """From where to where a stop lies on a lane of some length, in metres; Fault where it lies beyond, and may not be
+    moved onto it."""
+    begin, end = (at + length if at is not None and at < 0 else at for at in (stop.begin, stop.end))
+    end = length if end is None else end
+    begin = 0.0 if begin is None else begin
+    if not is_friendly and not (-NEAR <= begin <= end <= length + NEAR):
+        raise Fault(f"{where}: from {begin:g} to {end:g} m does not lie on lane {stop.lane!r} of {length:g} m")
+    end = min(max(0.0, end), length)
+    return min(max(0.0, begin), end), end

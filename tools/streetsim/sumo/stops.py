@@ -1,0 +1,256 @@
+"""Stops of SUMO's files: bus stops, who stops where and for how long, and their places on the cells of an import."""
+from __future__ import annotations
+
+from collections import defaultdict
+from collections.abc import Iterable, Sequence
+from dataclasses import dataclass, field, replace
+from xml.etree.ElementTree import Element
+
+from streetsim.base.files import (
+    Fault, FilePath, attribute, filled, number, optional, seconds, told,
+)
+from streetsim.base.report import Report, some
+from streetsim.model.stops import Visit
+from streetsim.sumo.bus_stops import BusStop, stretch
+from streetsim.sumo.net import SumoNet
+from streetsim.sumo.network import Link, Network
+from streetsim.sumo.types import PACE, Kind, Types
+
+TRUE = ("true", "yes", "on", "1", "x", "t")  # as SUMO reads it
+BUS_STOPS = ("busStop", "trainStop")
+ELSEWHERE = ("containerStop", "chargingStation", "parkingArea", "overheadWireSegment")
+POINT = 0.2  # metres of a place that tells its end alone
+WAITS = ("triggered", "containerTriggered", "joinTriggered")
+NO_SECONDS = "without duration and until, with which SUMO's vehicle stands for good"
+IN_BAY = "in a bay beside the lane (parking)"
+SHORT = "the lane is shorter than two cells"
+NOT_ON_WAY = "not on the vehicle's way, behind its stops before"
+LEFT_OUT = "its lane is left out, as it is closed to the classes"
+
+
+@dataclass(slots=True, frozen=True)
+class Stop:
+    """A stop of a vehicle, as its file tells it."""
+
+    where: str  # file and element, for what is told
+    name: str  # of the bus stop; none where the lane is told
+    place: BusStop | None  # where the lane is told
+    duration: int
+    until: int | None
+    why: str = ""  # it can not be made
+
+    def later(self, shift: float) -> Stop:
+        """The same so many seconds later."""
+        return self if self.until is None else replace(self, until=self.until + round(shift))
+
+
+@dataclass(slots=True, frozen=True)
+class Spot:
+    """Where a stop lies: the edge's place in a route, the lane, and metres from its begin."""
+
+    at: int
+    edge: str
+    index: int  # of the lane
+    begin: float
+    end: float
+
+
+@dataclass(slots=True)
+class Found:
+    """The stops of a vehicle that have a place on its way."""
+
+    stops: list[tuple[Stop, Spot]] = field(default_factory=list)
+
+    def lanes(self) -> dict[int, tuple[str, int]]:
+        """By place in the route the lane at which the vehicle stops first there."""
+        found: dict[int, tuple[str, int]] = {}
+        for _, spot in self.stops:
+            found.setdefault(spot.at, (spot.edge, spot.index))
+        return found
+
+
+def read_bus_stop(path: FilePath, element: Element, net: SumoNet) -> None:
+    """Adds a bus stop; Fault where another one has its name, or the network has no such lane."""
+    name, lane = attribute(path, element, "id", filled), attribute(path, element, "lane", filled)
+    if name in net.bus_stops:
+        raise Fault(f"{told(path, element)}: a second stop of this name")
+    stop = BusStop(lane, metres_of(path, element, "startPos"), metres_of(path, element, "endPos"))
+    if length := length_of(lane, net, told(path, element)):
+        is_friendly = element.get("friendlyPos", "").lower() in TRUE
+        stretch(stop, length, is_friendly, told(path, element))
+    net.bus_stops[name] = stop
+
+
+def metres_of(path: FilePath, element: Element, name: str) -> float | None:
+    return optional(path, element, name, number, None)
+
+
+def length_of(lane: str, net: SumoNet, where: str) -> float:
+    """The metres of a lane; 0 where it is left out; Fault where the network has none of its name."""
+    edge, _, index = lane.rpartition("_")
+    if lane in net.closed_lanes:
+        return 0.0
+    lanes = net.edges[edge].lanes if edge in net.edges else []
+    found = next((one.metres for one in lanes if str(one.index) == index), None)
+    if found is None:
+        raise Fault(f"{where}: the network has no lane {lane!r}")
+    return found
+
+
+def stops_in(path: FilePath, owner: Element, net: SumoNet) -> tuple[Stop, ...]:
+    """The stops that stand in an element, without those of a route in it."""
+    return tuple(stop_of(path, owner, one, net) for one in owner if one.tag == "stop")
+
+
+def stop_of(path: FilePath, owner: Element, element: Element, net: SumoNet) -> Stop:
+    """A stop of an element; Fault where it names a lane that the network does not have, or no place."""
+    where = f"{told(path, owner)}: <stop>"
+    name = next((element.get(kind, "") for kind in BUS_STOPS if element.get(kind)), "")
+    duration = optional(path, element, "duration", seconds, None)
+    until = optional(path, element, "until", seconds, None)
+    why, place = why_not(element), None
+    if duration is None and until is None:
+        why = why or NO_SECONDS
+    if why:
+        kinds = (*BUS_STOPS, *ELSEWHERE, "lane", "edge")
+        name = next((element.get(kind, "") for kind in kinds if element.get(kind)), "")
+    elif not name:
+        place = place_of(path, element, net, where)
+    return Stop(
+        where, name, place, max(1, round(duration or 0)), None if until is None else round(until), why
+    )
+
+
+def why_not(element: Element) -> str:
+    """Why a stop can not be made, by its attributes; nothing where it can."""
+    if element.get("parking", "false").lower() in (*TRUE, "opportunistic"):
+        return IN_BAY
+    if kind := next((kind for kind in ELSEWHERE if element.get(kind)), ""):
+        return f"at a {kind}"
+    if name := next((one for one in WAITS if element.get(one, "").lower() in TRUE), ""):
+        return f"as long as others say ({name})"
+    if name := next((one for one in ("speed", "jump") if element.get(one)), ""):
+        return f"with {name}, which streetsim does not have"
+    return ""
+
+
+def place_of(path: FilePath, element: Element, net: SumoNet, where: str) -> BusStop:
+    """The place of a stop that tells its lane, or its edge: the first lane of it that is kept."""
+    lane = element.get("lane", "")
+    if not lane:
+        edge = element.get("edge", "")
+        if not edge:
+            raise Fault(f"{where}: without busStop, lane or edge")
+        if edge not in net.edges and edge not in net.dropped:
+            raise Fault(f"{where}: the network has no edge {edge!r}")
+        lane = f"{edge}_{net.edges[edge].lanes[0].index if edge in net.edges else 0}"
+    begin, end = (metres_of(path, element, name) for name in ("startPos", "endPos"))
+    length = length_of(lane, net, where)
+    if end is None:
+        end = length
+    if begin is None:
+        begin = max(0.0, end - POINT) if end >= 0 else end - POINT
+    stop = BusStop(lane, begin, end)
+    if length:
+        stretch(stop, length, element.get("friendlyPos", "").lower() in TRUE, where)
+    return stop
+
+
+def edge_of(stop: Stop, net: SumoNet) -> str:
+    """The edge where a stop lies; an empty text where it has no place."""
+    place = net.bus_stops.get(stop.name) if stop.name else stop.place
+    return place.lane.rpartition("_")[0] if place else ""
+
+
+class Stops:
+    """The stops of an import: places those of each vehicle, and tells which can not be made."""
+
+    def __init__(self, net: SumoNet, types: Types, report: Report) -> None:
+        self.net, self.types, self.report = net, types, report
+        self.unmade: defaultdict[str, list[str]] = defaultdict(list)  # vehicle at stop, by reason
+        self.visits: list[Visit] = []
+
+    def on(self, name: str, edges: Sequence[str], stops: Iterable[Stop]) -> Found:
+        """Those of a vehicle that have a place on its route, each on the edge of the one before it or a later one."""
+        found, at, before = Found(), 0, 0.0
+        for stop in stops:
+            place = self.place(stop)
+            why, edge = stop.why, place.lane.rpartition("_")[0] if place else ""
+            if place and not why and place.lane in self.net.closed_lanes:
+                why = LEFT_OUT
+            if place and not why:
+                begin, end = stretch(place, length_of(place.lane, self.net, stop.where), True, stop.where)
+                first = at + (end < before and at < len(edges) and edges[at] == edge)
+                further = next((here for here in range(first, len(edges)) if edges[here] == edge), None)
+                if further is None:
+                    why = NOT_ON_WAY
+                else:
+                    at, before = further, end
+                    spot = Spot(at, edge, int(place.lane.rpartition("_")[2]), begin, end)
+                    found.stops.append((stop, spot))
+            if why:
+                self.unmade[why].append(f"{name} at {called(stop)}")
+        return found
+
+    def place(self, stop: Stop) -> BusStop | None:
+        """The place of a stop; Fault where no file has the bus stop that it names."""
+        if stop.name and stop.name not in self.net.bus_stops and not stop.why:
+            raise Fault(f"{stop.where}: there is no busStop {stop.name!r}")
+        return self.net.bus_stops.get(stop.name) if stop.name else stop.place
+
+    def add(self, vehicle: tuple[int, str, str], plan: Sequence[int], found: Found, network: Network) -> None:
+        """The visits of a vehicle, (its number, name and type), on the links of its plan."""
+        number, name, kind = vehicle
+        for stop, spot in found.stops:
+            link, lane = network.place_of[spot.edge, spot.index]
+            if plan[spot.at] != link:
+                self.unmade["another stop of the edge is on a lane from which nobody changes to this one"].append(
+                    f"{name} at {called(stop)}"
+                )
+                continue
+            cells = cells_of(network.links[link], spot)
+            if cells is None:
+                self.unmade[SHORT].append(f"{name} at {called(stop)}")
+                continue
+            losses = self.losses(kind, network.links[link])
+            visit = Visit(number, spot.at, called(stop), link, lane, *cells, stop.duration, stop.until, *losses)
+            self.visits.append(visit)
+
+    def losses(self, kind: str, link: Link) -> tuple[float, float]:
+        """Seconds that SUMO's vehicle of a type loses as it brakes, and as it starts beyond those of one here, which
+        gains a cell a second in each."""
+        speed = min(link.speed, self.types.kinds.get(kind, Kind()).speed or link.speed)
+        accel, decel = self.types.pace.get(kind, PACE)
+        return round(speed / 2 / decel, 2), max(0.0, round(speed / 2 / accel - (link.limit - 1) / 2, 2))
+
+    def tell(self) -> None:
+        """Reports what is made and, by reason, what is not."""
+        for why, names in self.unmade.items():
+            self.report.warn(f"{len(names):,} stops of vehicles are not made, {why}: {some(names)}", names, do_of(why))
+        if self.visits:
+            count = len({one.vehicle for one in self.visits})
+            self.report.notes.append(f"{len(self.visits):,} stops of {count:,} vehicles")
+
+
+def do_of(why: str) -> str:
+    """What to do where stops are not made."""
+    if why == LEFT_OUT:
+        return "--classes NAMES keeps lanes of other classes too"
+    return "who stands in others' way: streetsim-run --close, for as long"
+
+
+def called(stop: Stop) -> str:
+    """A stop as it is told: by its name, or by lane and metres."""
+    if stop.name or stop.place is None:
+        return stop.name or "a stop"
+    return f"{stop.place.lane}:{stop.place.end:g}"
+
+
+def cells_of(link: Link, spot: Spot) -> tuple[int, int] | None:
+    """The first and the last cell in which a front stands: so that one cell lies beyond it, which is closed meanwhile;
+    none where the link has no two."""
+    size = link.metres / link.cells
+    if link.cells < 2:
+        return None
+    last = min(link.cells - 2, max(0, round(spot.end / size) - 1))
+    return min(last, int(spot.begin / size)), last

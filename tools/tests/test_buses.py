@@ -1,0 +1,300 @@
+"""Buses that stop: what files ask for, one bus at a stop by hand, whole runs."""
+import csv
+import unittest
+
+from support import PROGRAM, Case, lane, needs_simulator, net
+from streetsim.base.files import Fault
+from streetsim.base.report import Report
+from streetsim.buses.stopping import PATIENCE, Road, Stopping
+from streetsim.importing.convert import convert
+from streetsim.model.stops import MADE, MISSED, OTHER_LANE, STANDING, Visit
+from streetsim.sumo.converting import run_and_map
+from streetsim.sumo.network import Options
+from streetsim.works.merging import Seen
+
+# A street of two edges; the first has two lanes.
+STREET = net(
+    [
+        ("a", "A", "B", [lane("a", 0, 300.0), lane("a", 1, 300.0)]),
+        ("b", "B", "C", [lane("b", 0, 300.0)]),
+        ("tiny", "C", "D", [lane("tiny", 0, 8.0)]),
+        ("way", "B", "E", [lane("way", 0, 300.0, more='allow="bus"'), lane("way", 1, 300.0)]),
+    ],
+    [("a", 0, "b", 0, ""), ("a", 1, "b", 0, ""), ("b", 0, "tiny", 0, ""), ("a", 1, "way", 1, "")],
+)
+STOPS = (
+    '<busStop id="first" lane="a_0" startPos="100" endPos="150"/><busStop id="second" lane="b_0" endPos="-150"/>'
+    '<busStop id="own" lane="way_0" startPos="20" endPos="40"/><busStop id="short" lane="tiny_0"/>'
+)
+BUS = '<vType id="bus" vClass="bus"/>'
+AT_FIRST = '<stop busStop="first" duration="20"/>'
+
+
+class Files(Case):
+    def imported(self, routes, stops=STOPS, trips=False, **options):
+        report = Report()
+        paths = [self.write("r.rou.xml", f"<routes>{BUS}{routes}</routes>")]
+        files = [self.write("x.net.xml", STREET), [self.write("s.add.xml", f"<additional>{stops}</additional>")]]
+        files += [[], Options(**options), report, paths] if trips else [paths, Options(**options), report]
+        lines, mapping = run_and_map(convert(*files), report)
+        return lines, mapping, report
+
+    def visits(self, routes, **more):
+        _, mapping, _ = self.imported(routes, **more)
+        return [(mapping.cars[one.vehicle], one.stop, one.duration, one.until) for one in mapping.visits]
+
+    def unmade(self, routes, **more):
+        return [row for row in self.imported(routes, **more)[2].rows() if "stops" in row[1] and row[0] != "no effect"]
+
+    def test_until_is_that_of_sumo(self):
+        # As SUMO 1.15's stop-output tells when each of these leaves: a named route counts from the departure, what
+        # stands in a vehicle does not, and a flow's is for a departure at its begin.
+        named = '<route id="r" edges="a b"><stop busStop="first" duration="20" until="100"/></route>'
+        inner = '<route edges="a b"><stop busStop="first" duration="10" until="400"/></route>'
+        found = self.visits(
+            f'{named}<vehicle id="v" depart="200" route="r"/><vehicle id="w" depart="250">{inner}</vehicle>'
+            '<flow id="f" route="r" begin="600" end="901" period="300"/>'
+            f'<flow id="g" begin="300" end="601" period="300">{inner}</flow>'
+            '<vehicle id="x" depart="450" route="r"><stop busStop="second" duration="5"/></vehicle>'
+        )
+        self.assertEqual(found, [
+            *(("v", "first", 20, 300), ("w", "first", 10, 400), ("g.0", "first", 10, 400)),
+            *(("x", "first", 20, 550), ("x", "second", 5, None)),
+            *(("f.0", "first", 20, 700), ("g.1", "first", 10, 700), ("f.1", "first", 20, 1000)),
+        ])
+
+    def test_places_on_cells(self):
+        text = f'<vehicle id="v" type="bus" depart="0"><route edges="a b"/>{AT_FIRST}'
+        _, mapping, _ = self.imported(f'{text}<stop busStop="second" duration="1"/><stop lane="b_0" endPos="300" '
+                                      'duration="9"/></vehicle>')
+        # 150 m are 20 cells of 7.5 m; the last cell of a lane stays free, as it is closed while a bus stands.
+        places = [(one.link, one.lane, one.first, one.last) for one in mapping.visits]
+        first, second = mapping.links_of["a"][0], mapping.links_of["b"][0]
+        self.assertEqual(places, [(first, 0, 13, 19), (second, 0, 0, 19), (second, 0, 38, 38)])
+        # SUMO's bus brakes with 4 and starts with 1.2 m/s2: 13.89 / 2 / 4 s, and 13.89 / 2 / 1.2 s less half a second.
+        self.assertEqual((mapping.visits[0].braking, mapping.visits[0].starting), (1.74, 5.29))
+
+    def test_it_enters_on_the_lane_of_its_stop(self):
+        text = "".join(
+            f'<vehicle id="v{at}" depart="{at}"><route edges="a b"/><stop lane="a_1" endPos="99" duration="3"/>'
+            "</vehicle>"
+            for at in range(3)
+        )
+        lines, _, _ = self.imported(text)
+        self.assertEqual(sum('"lane":1' in line for line in lines if '"enter"' in line), 3)
+
+    def test_lines_of_public_transport_are_kept(self):
+        _, mapping, _ = self.imported('<vehicle id="v" line="7" depart="0"><route edges="a b"/></vehicle>')
+        self.assertEqual(mapping.kinds["line"], ["7"])
+
+    def test_a_trip_from_stop_to_stop(self):
+        text = f'<trip id="t" depart="0">{AT_FIRST}<stop busStop="second" duration="5"/></trip>'
+        self.assertEqual(self.visits(text, trips=True), [("t", "first", 20, None), ("t", "second", 5, None)])
+
+    def test_what_can_not_be_made_is_told_by_name(self):
+        for stop, why in (
+            ('lane="a_0" endPos="99" duration="9" parking="true"', "in a bay beside the lane (parking): v at a_0"),
+            ('busStop="first"', "without duration and until, with which SUMO's vehicle stands for good: v at first"),
+            ('parkingArea="x" duration="9"', "at a parkingArea: v at x"),
+            ('busStop="first" triggered="true" duration="9"', "as long as others say (triggered): v at first"),
+            ('busStop="second" duration="9"', "not on the vehicle's way, behind its stops before: v at second"),
+        ):
+            with self.subTest(why):
+                text = f'<vehicle id="v" depart="0"><route edges="a"/><stop {stop}/></vehicle>'
+                [row] = self.unmade(text)
+                self.assertEqual(row[0], "changes results")
+                self.assertEqual(row[1], f"1 stops of vehicles are not made, {why}")
+        text = '<vehicle id="v" depart="0"><route edges="a way"/><stop busStop="own" duration="9"/></vehicle>'
+        self.assertIn("its lane is left out, as it is closed to the classes: v at own", self.unmade(text)[0][1])
+        text = '<vehicle id="v" depart="0"><route edges="b tiny"/><stop busStop="short" duration="9"/></vehicle>'
+        self.assertIn("the lane is shorter than two cells: v at short", self.unmade(text)[0][1])
+
+    def test_what_sumo_refuses(self):
+        text = '<vehicle id="v" depart="0"><route edges="a b"/><stop {}/></vehicle>'
+        for stop, why in (
+            ('busStop="x" duration="9"', "<vehicle 'v'>: <stop>: there is no busStop 'x'"),
+            ('lane="x_0" duration="9"', "<vehicle 'v'>: <stop>: the network has no lane 'x_0'"),
+            ('duration="9"', "<vehicle 'v'>: <stop>: without busStop, lane or edge"),
+            ('busStop="first" duration="soon"', "duration='soon' cannot be read"),
+            ('lane="a_0" endPos="400" duration="9"', "from 399.8 to 400 m does not lie on lane 'a_0' of 300 m"),
+        ):
+            with self.subTest(why), self.assertRaises(Fault) as fault:
+                self.imported(text.format(stop))
+            self.assertIn(why, str(fault.exception))
+        with self.assertRaises(Fault) as fault:
+            self.imported("", stops=STOPS + '<busStop id="first" lane="a_0"/>')
+        self.assertIn("<busStop 'first'>: a second stop of this name", str(fault.exception))
+
+
+def visit(**more):
+    told = {"vehicle": 0, "at": 0, "stop": "s", "link": 0, "lane": 0, "first": 17, "last": 19, "duration": 20}
+    return Visit(**{**told, "until": None, "braking": 1.74, "starting": 5.29, **more})
+
+
+def bus(cell, speed, size=2):
+    return Seen(9, cell, speed, size)
+
+
+class OneStop(unittest.TestCase):
+    """A bus of two cells, a limit of 2 cells a second, a stop in cells 17 to 19."""
+
+    def stopping(self, lanes=1, lane=0, **more):
+        return Stopping(visit(**more), Road(lanes, 2, 40), lane)
+
+    def closed(self, stopping, one, own=(), other=(), clock=100):
+        stopping.look(clock, one, {stopping.lane: [*own, one], 1 - stopping.lane: [*other]})
+        return stopping.closed
+
+    def test_the_cell_beyond_is_closed_in_the_step_in_which_it_would_pass(self):
+        self.assertEqual(self.closed(self.stopping(), bus(17, 2)), set())  # comes to 19 at most
+        self.assertEqual(self.closed(self.stopping(), bus(18, 1)), {(0, 20)})
+        self.assertEqual(self.closed(self.stopping(), bus(16, 2)), set())
+        self.assertEqual(self.closed(self.stopping(), bus(18, 2), own=[Seen(1, 20, 2)]), set())  # who is ahead stops it
+        self.assertEqual(self.closed(self.stopping(), bus(18, 2), own=[Seen(1, 22, 2)]), {(0, 20)})
+
+    def test_its_time_at_the_stop(self):
+        one = self.stopping()
+        # Braking takes SUMO's bus 2 s more, then 20 s of stop, then 5 s until it is as far as one that starts here.
+        self.assertEqual(one.look(100, bus(19, 2), {0: [bus(19, 2)]}), 22)
+        self.assertEqual((one.state, one.arrived, one.leaves, one.closed), (STANDING, 102, 122, {(0, 20)}))
+        self.assertEqual(one.look(122, bus(19, 0), {0: [bus(19, 0)]}), 5)
+        one.look(127, bus(19, 0), {})
+        self.assertEqual((one.state, one.closed), (MADE, set()))
+
+    def test_until(self):
+        one = self.stopping(until=300)
+        one.look(100, bus(19, 2), {})
+        self.assertEqual((one.arrived, one.leaves), (102, 300))
+        late = self.stopping(until=90)
+        late.look(100, bus(19, 2), {})
+        self.assertEqual(late.leaves, 122)
+
+    def test_it_goes_earlier_for_those_who_stand_behind(self):
+        one = self.stopping()
+        one.look(100, bus(19, 2), {})
+        queue = [Seen(at, 17 - at, 0) for at in range(8)]  # 0.2 s each: 5.29 - 1.6 = 3.69
+        self.assertEqual(one.look(122, bus(19, 0), {0: [bus(19, 0), *queue]}), 4)
+
+    def test_in_a_queue_beside_the_stop_it_has_come(self):
+        one = self.stopping()
+        self.assertEqual(self.closed(one, bus(17, 0), own=[Seen(1, 18, 0)]), {(0, 18)})
+        self.assertEqual(one.state, STANDING)
+        one = self.stopping()
+        self.closed(one, bus(16, 0), own=[Seen(1, 17, 0)])
+        self.assertNotEqual(one.state, STANDING)
+
+    def test_passed(self):
+        one = self.stopping()
+        self.closed(one, bus(20, 2))
+        self.assertEqual(one.state, MISSED)
+
+    def test_on_two_lanes_it_keeps_its_lane(self):
+        # It would change where its own gap is below its speed and one, and the other lane is free; two cells beyond
+        # its speed a closed cell is too near for that.
+        slow = [Seen(1, 12, 1)]
+        self.assertEqual(self.closed(self.stopping(2), bus(10, 1), own=slow), {(1, 13)})
+        self.assertEqual(self.closed(self.stopping(2), bus(10, 1)), set())
+        # Its rear is in cell 9: one in cell 3 is too near behind for a change, one in cell 2 is not.
+        self.assertEqual(self.closed(self.stopping(2), bus(10, 1), own=slow, other=[Seen(2, 3, 2)]), set())
+        self.assertEqual(self.closed(self.stopping(2), bus(10, 1), own=slow, other=[Seen(2, 2, 2)]), {(1, 13)})
+        # One whose rear is in cell 13 is too near ahead, in cell 14 not.
+        self.assertEqual(self.closed(self.stopping(2), bus(10, 1), own=slow, other=[Seen(2, 13, 2)]), set())
+        self.assertEqual(self.closed(self.stopping(2), bus(10, 1), own=slow, other=[Seen(2, 15, 2, 2)]), {(1, 13)})
+
+    def test_on_the_wrong_lane_it_changes_where_there_is_room(self):
+        one = self.stopping(2, lane=1)
+        self.assertEqual(self.closed(one, bus(5, 2)), {(1, 8)})
+        # Beside somebody it goes on one cell a second, and those behind it on the right lane are held.
+        self.assertEqual(self.closed(one, bus(10, 2), other=[Seen(1, 10, 2)]), {(1, 12), (0, 3)})
+        # Two cells before the stop it waits.
+        self.assertEqual(self.closed(one, bus(17, 1), other=[Seen(1, 18, 0)]), {(1, 18), (0, 10)})
+
+    def test_who_finds_no_room_stops_on_the_lane_beside(self):
+        one = self.stopping(2, lane=1)
+        for clock in range(PATIENCE):
+            self.assertFalse(one.has_come(bus(17, 0)))
+            self.closed(one, bus(17, 0), other=[Seen(1, 18, 0)], clock=clock)
+        self.closed(one, bus(17, 0), other=[Seen(1, 18, 0)], clock=PATIENCE)
+        self.assertEqual(one.state, STANDING)
+        self.closed(one, bus(17, 0), clock=one.leaves)
+        self.closed(one, bus(17, 0), clock=one.goes)
+        self.assertEqual(one.state, OTHER_LANE)
+
+
+class Runs(Case):
+    def made(self, routes, *words, net_text=STREET):
+        """A run of some routes, nobody dawdles; its folder."""
+        files = [self.write("x.net.xml", net_text), self.write("s.add.xml", f"<additional>{STOPS}</additional>")]
+        routes = self.write("r.rou.xml", f"<routes>{BUS}{routes}</routes>")
+        run, mapping, out = self.folder / "run.jsonl", self.folder / "map.json", self.folder / "out"
+        self.tool("import", *files, "--routes", routes, "--dawdle", 0, "-o", run, "--map", mapping)
+        said = self.tool("run", run, "--map", mapping, "--until", 400, "--out", out, *words)
+        return out, said
+
+    def table(self, out, name):
+        with open(out / f"{name}.csv", encoding="utf-8") as file:
+            return list(csv.DictReader(file))
+
+    ONE = (
+        '<vehicle id="v" type="bus" line="7" depart="0"><route edges="b"/>'
+        '<stop lane="b_0" startPos="100" endPos="150" duration="20" until="30"/></vehicle>'
+    )
+
+    @needs_simulator
+    def test_one_bus_by_hand(self):
+        # Cell 0 at 1 s, 1 at 2 s, 3 at 3 s, then two cells a second: 19 at 11 s. It brakes for 2 s, stands until 33 s,
+        # is let go at 38 s, is in cell 20 at 39 s, in 38 at 48 s, and leaves the 40 cells in the step after.
+        out, _ = self.made(self.ONE)
+        [row] = self.table(out, "stops")
+        self.assertEqual(row, {
+            **{"id": "v", "line": "7", "stop": "b_0:150", "edge": "b", "lane": "0", "arrival": "13"},
+            **{"departure": "33", "dwell_s": "20", "until": "30", "late_s": "3", "state": "made"},
+        })
+        [trip] = self.table(out, "trips")
+        self.assertEqual(trip["arrival"], "49")
+        # Without the stop it arrives at 22 s: of the 27 s more 20 are its dwell, and no loss.
+        out, _ = self.made(self.ONE, "--stops", "none")
+        self.assertFalse((out / "stops.csv").exists())
+        [other] = self.table(out, "trips")
+        self.assertEqual((other["arrival"], float(trip["loss"]) - float(other["loss"])), ("22", 7.0))
+
+    @needs_simulator
+    def test_those_behind_wait_and_runs_that_repeat_it_have_the_same_trips(self):
+        cars = '<flow id="c" begin="1" end="200" period="3"><route edges="a b"/></flow>'
+        buses = f'<flow id="f" type="bus" begin="0" end="200" period="60"><route edges="a b"/>{AT_FIRST}'
+        out, _ = self.made(f'{cars}{buses}<stop busStop="second" duration="15"/></flow>', "--sumo-output", "tripinfo")
+        self.assertEqual([row["state"] for row in self.table(out, "stops")], ["made"] * 8)
+        arrivals = sorted(row["arrival"] for row in self.table(out, "trips"))
+        text = (out / "sumo/tripinfo.xml").read_text(encoding="utf-8")
+        told = [str(int(float(part.split('"')[1]))) for part in text.split(" arrival=")[1:]]
+        self.assertEqual(arrivals, sorted(told))
+
+    @needs_simulator
+    def test_without_a_last_second_a_run_waits_for_a_bus_at_its_stop(self):
+        text = self.ONE.replace('until="30"', 'until="3000"')
+        out, (said, _) = self.made(text, "--until", 9000)
+        self.assertEqual(self.table(out, "stops")[0]["departure"], "3000")
+        self.tool("run", self.folder / "run.jsonl", "--map", self.folder / "map.json", "--out", out)
+        self.assertEqual(self.table(out, "stops")[0]["departure"], "3000")
+
+    @needs_simulator
+    def test_who_has_not_left_at_the_end(self):
+        out, _ = self.made(self.ONE.replace('until="30"', 'until="3000"'))
+        [row] = self.table(out, "stops")
+        self.assertEqual((row["arrival"], row["departure"], row["state"]), ("13", "", "standing"))
+
+    @needs_simulator
+    def test_a_study_makes_them_as_streetsim_run_does(self):
+        self.made(self.ONE)
+        text = f'run = "{self.folder}/run.jsonl"\nmap = "{self.folder}/map.json"\nuntil = 400\nseeds = "1"\n'
+        study = self.write("study.toml", text + '[variant.stops]\n[variant.none]\nstops = "none"\n')
+        self.tool("study", study, "--out", self.folder / "study", "--jobs", 1, "--program", PROGRAM)
+        found = {row["variant"]: row["mean_trip_s"] for row in self.table(self.folder / "study", "runs")}
+        self.assertEqual({name: float(value) for name, value in found.items()}, {"stops": 49.0, "none": 22.0})
+        wrong = self.write("wrong.toml", text + '[variant.a]\n[variant.b]\nstops = "some"\n')
+        _, said = self.tool("study", wrong, "--out", self.folder / "x", "--program", PROGRAM, status=2)
+        self.assertIn("stops = 'some' is neither 'made' nor 'none'", said)
+
+
+if __name__ == "__main__":
+    unittest.main()
