@@ -25,7 +25,8 @@ SECTIONS = {  # of pages: the headings of their walks
     "ROUTES": ("A walk of two minutes",),
     "COUNTS": ("A walk of five commands",),
 }
-INSTALLING = "mkdir "  # a block with it is left out: the tools are run as they are here, in the folder of this call
+INSTALLING = "mkdir "  # a block with it is left out: the tools are run as they are here, in the folder of this call,
+EXAMPLE = ["streetsim-example", "corridor", "--out", "."]  # which has the files of the walks
 
 
 def blocks(page, heading):
@@ -53,12 +54,17 @@ def lacking(shown, printed):
             place = found + 1
 
 
-def walk(page, heading, folder, surroundings):
+def runner(folder, surroundings):
+    """Runs commands of the shell in a folder, and gives how they ended with all that they printed."""
+    joined = {"stdout": subprocess.PIPE, "stderr": subprocess.STDOUT, "text": True, "check": False}
+    return lambda body: subprocess.run(["bash", "-ec", body], cwd=folder, env=surroundings, **joined)
+
+
+def walk(page, heading, runs):
     """Runs a section; gives how much is other than the page says."""
     wrong = 0
     for body, shown in blocks(page, heading):
-        joined = {"stdout": subprocess.PIPE, "stderr": subprocess.STDOUT, "text": True}
-        done = subprocess.run(["bash", "-ec", body], cwd=folder, env=surroundings, check=False, **joined)
+        done = runs(body)
         printed = done.stdout.replace("\r", "\n").splitlines()
         missing = list(lacking(shown, printed))
         status = f", status {done.returncode}" if done.returncode else ""
@@ -80,12 +86,13 @@ def main():
         **shared.with_sumo(),
         "PATH": f"{TOP / 'tools'}:{os.environ['PATH']}",
         "STREETSIM_PROGRAM": args.program,
-        "example": str(CORRIDOR),
         "data": str(SAMPLES),
     }
-    wrong = sum(
-        walk(page, heading, folder, surroundings) for page in args.only.split(",") for heading in SECTIONS[page]
-    )
+    for path in CORRIDOR.iterdir():
+        (folder / path.name).unlink(missing_ok=True)
+    subprocess.run(EXAMPLE, cwd=folder, env=surroundings, check=True)
+    runs = runner(folder, surroundings)
+    wrong = sum(walk(page, heading, runs) for page in args.only.split(",") for heading in SECTIONS[page])
     print("each walk prints what its page says" if not wrong else f"{wrong} commands print other lines, or fail")
     sys.exit(1 if wrong else 0)
 

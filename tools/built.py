@@ -6,6 +6,7 @@ from __future__ import annotations
 
 import hashlib
 import os
+from collections.abc import Iterable
 from pathlib import Path
 
 TOP = Path(__file__).resolve().parents[1]
@@ -47,13 +48,32 @@ def sources(top: Path = TOP, crate: str = CRATE) -> list[Path]:
     return sorted(path for folder in folders for path in folder.rglob("*") if path.is_file())
 
 
-def sums(top: Path = TOP) -> tuple[str, str]:
-    """The sum of the sources, with the crates' lines, and that of the program's file."""
-    whole = hashlib.sha256(repr(crates(top)).encode())
-    for path in sources(top):
+def sum_of_sources(top: Path = TOP, crate: str = CRATE) -> str:
+    """The sum of the sources of a program, with the crates' lines."""
+    return sum_of_files(top, sources(top, crate), repr(crates(top, crate)))
+
+
+def sum_of_files(top: Path, paths: Iterable[Path], begin: str = "") -> str:
+    """The sum of a text and of files with their paths."""
+    whole = hashlib.sha256(begin.encode())
+    for path in paths:
         data = path.read_bytes()
         whole.update(f"{path.relative_to(top)} {len(data)}\n".encode() + data)
-    return whole.hexdigest(), hashlib.sha256(program(top).read_bytes()).hexdigest()
+    return whole.hexdigest()
+
+
+def sum_of_file(path: Path) -> str:
+    return hashlib.sha256(path.read_bytes()).hexdigest()
+
+
+def sums(top: Path = TOP) -> tuple[str, str]:
+    """The sum of the sources, and that of the program's file."""
+    return sum_of_sources(top), sum_of_file(program(top))
+
+
+def cache() -> Path:
+    """The project's folder in the user's cache."""
+    return Path(os.environ.get("XDG_CACHE_HOME") or Path.home() / ".cache") / "streetsim"
 
 
 def mark_of(top: Path = TOP) -> Path:

@@ -13,21 +13,33 @@ from pathlib import Path
 from typing import Any
 
 TOP = Path(__file__).resolve().parent
+ANYWHERE = "py3-none-any"  # the tag of a wheel without programs
 STAMP = (2020, 1, 1, 0, 0, 0)  # of each file, so that equal sources give equal bytes
 
 
 def build_wheel(wheel_directory: str, config_settings: Any = None, metadata_directory: str | None = None) -> str:
-    """Writes the wheel and gives its name."""
+    """Writes the wheel of the tools alone and gives its name."""
+    return write_wheel(Path(wheel_directory), ANYWHERE, {})
+
+
+def write_wheel(folder: Path, tag: str, data: dict[str, Path]) -> str:
+    """Writes a wheel and gives its name. data: further files by their places in an environment, which keep their modes:
+    scripts/NAME is a command, data/PATH lies there."""
     project = read_project()
     stem = stem_of(project)
-    files = {**sources(), **metadata(project, f"{stem}.dist-info")}
+    more = {f"{stem}.data/{place}": path for place, path in data.items()}
+    files = {**sources(), **{name: path.read_bytes() for name, path in more.items()}}
+    files |= metadata(project, f"{stem}.dist-info", tag)
     record = f"{stem}.dist-info/RECORD"
     rows = [f"{name},sha256={digest(content)},{len(content)}" for name, content in files.items()]
     files[record] = "\n".join([*rows, f"{record},,", ""]).encode()
-    name = f"{stem}-py3-none-any.whl"
-    with zipfile.ZipFile(Path(wheel_directory) / name, "w", zipfile.ZIP_DEFLATED) as wheel:
+    name = f"{stem}-{tag}.whl"
+    with zipfile.ZipFile(folder / name, "w", zipfile.ZIP_DEFLATED) as wheel:
         for path, content in files.items():
-            wheel.writestr(zipfile.ZipInfo(path, STAMP), content, zipfile.ZIP_DEFLATED)
+            entry = zipfile.ZipInfo(path, STAMP)
+            if path in more:
+                entry.external_attr = more[path].stat().st_mode << 16
+            wheel.writestr(entry, content, zipfile.ZIP_DEFLATED)
     return name
 
 
@@ -56,7 +68,7 @@ def sources() -> dict[str, bytes]:
     return {path.relative_to(TOP).as_posix(): path.read_bytes() for path in paths}
 
 
-def metadata(project: dict[str, Any], folder: str) -> dict[str, bytes]:
+def metadata(project: dict[str, Any], folder: str, tag: str) -> dict[str, bytes]:
     """The files that tell pip what the wheel is and which commands it has."""
     extras = project["optional-dependencies"]
     lines = [
@@ -68,7 +80,7 @@ def metadata(project: dict[str, Any], folder: str) -> dict[str, bytes]:
         *(f"Provides-Extra: {extra}" for extra in extras),
         *(f"Requires-Dist: {one}; extra == '{extra}'" for extra, names in extras.items() for one in names),
     ]
-    wheel = ["Wheel-Version: 1.0", "Generator: packing", "Root-Is-Purelib: true", "Tag: py3-none-any"]
+    wheel = ["Wheel-Version: 1.0", "Generator: packing", "Root-Is-Purelib: true", f"Tag: {tag}"]
     commands = ["[console_scripts]", *(f"{name} = {place}" for name, place in project["scripts"].items())]
     texts = {"METADATA": lines, "WHEEL": wheel, "entry_points.txt": commands}
     return {f"{folder}/{name}": "\n".join([*text, ""]).encode() for name, text in texts.items()}

@@ -1,10 +1,12 @@
 """Installing by pip without a network, and which program the tools run."""
 import json
 import os
+import re
 import shutil
 import subprocess
 import sys
 import tempfile
+import tomllib
 import unittest
 from importlib.util import find_spec
 from pathlib import Path
@@ -14,7 +16,8 @@ from streetsim.base.files import Fault
 from streetsim.base.program import BUILT, find_program
 
 COMMANDS = (
-    "compare", "demand", "export", "import", "live", "play", "plot", "report", "route", "run", "signals", "study",
+    "compare", "demand", "example", "export", "import", "live", "play", "plot", "report", "route", "run",
+    "signals", "study",
 )
 PIP = [sys.executable, "-m", "pip"] if find_spec("pip") else [shutil.which("pip")] if shutil.which("pip") else None
 
@@ -22,6 +25,12 @@ PIP = [sys.executable, "-m", "pip"] if find_spec("pip") else [shutil.which("pip"
 def environment(**values):
     """This one's, without a program."""
     return {**{name: value for name, value in os.environ.items() if name != "STREETSIM_PROGRAM"}, **values}
+
+
+class Commands(Case):
+    def test_each_tool_is_installed(self):
+        project = tomllib.loads((TOOLS / "pyproject.toml").read_text())["project"]
+        self.assertEqual(sorted(project["scripts"]), sorted(path.name for path in TOOLS.glob("streetsim-*")))
 
 
 @needs_package("python3-pip", PIP)
@@ -126,6 +135,30 @@ class Installed(Case):
         self.assertIn("Mean density", (self.folder / "map.svg").read_text())
 
 
+class Examples(Case):
+    def test_all_but_pictures_go_into_a_folder(self):
+        told, _ = self.tool("example", "corridor", "--out", self.folder / "walk")
+        self.assertEqual(told, f"5 files in {self.folder / 'walk'}\n")
+        for name in ("corridor.net.xml.gz", "corridor.rou.xml", "wave.add.xml", "counts.csv", "study.toml"):
+            given = (TOOLS / "examples/corridor" / name).read_bytes()
+            self.assertEqual((self.folder / "walk" / name).read_bytes(), given)
+        self.tool("example", "sessions", "--out", self.folder / "walk")
+        self.assertTrue((self.folder / "walk/clients/planner.jsonl").exists())
+
+    def test_nothing_is_written_over(self):
+        given = self.write("wave.add.xml", "mine")
+        told, said = self.tool("example", "corridor", "--out", self.folder, status=2)
+        self.assertEqual((told, said), ("", f"streetsim-example: {given} is there; give another folder by --out\n"))
+        self.assertEqual([path.name for path in self.folder.iterdir()], ["wave.add.xml"])
+
+    def test_which_there_are(self):
+        told, _ = self.tool("example")
+        self.assertIn("corridor: 5 files\n", told)
+        self.assertIn("signal_policies: 1 file\n", told)
+        _, said = self.tool("example", "corridors", status=2)
+        self.assertIn("there is no example 'corridors', but actuated, corridor, ", said)
+
+
 class WhichProgram(Case):
     def program(self, path):
         path.parent.mkdir(parents=True, exist_ok=True)
@@ -175,6 +208,24 @@ class WhichProgram(Case):
     @needs_simulator
     def test_a_run_takes_that_of_the_environment(self):
         variables = environment(STREETSIM_PROGRAM=PROGRAM)
+        done = subprocess.run(
+            [TOOLS / "streetsim-run", *self.words()], env=variables, capture_output=True, text=True, check=False
+        )
+        self.assertEqual((done.returncode, done.stdout), (0, "0 vehicles, 0 arrived, no trip, 0 rescues\n"))
+
+    @needs_simulator
+    def test_a_run_on_another_machine(self):
+        """By the script of docs/REMOTE.md, with an ssh that stays here, and hands its words to a shell as ssh does."""
+        page = (TOOLS.parent / "docs/REMOTE.md").read_text()
+        [script] = re.findall(r"^```sh\n(#!/bin/sh\n.*?)^```$", page, re.M | re.S)
+        far = self.folder / "far"
+        for name, text in (
+            ("ssh", '#!/bin/sh\n[ "$1 $2" = "-T host" ] && shift 2 && exec sh -c "$*"\n'),
+            ("streetsim", f'#!/bin/sh\nexec {PROGRAM} "$@"\n'),
+            ("there", script),
+        ):
+            Path(self.program(far / name)).write_text(text)
+        variables = environment(PATH=f"{far}:{os.environ['PATH']}", STREETSIM_PROGRAM=str(far / "there"))
         done = subprocess.run(
             [TOOLS / "streetsim-run", *self.words()], env=variables, capture_output=True, text=True, check=False
         )

@@ -5,7 +5,7 @@ from support import TOOLS, Case
 
 TOP = TOOLS.parent
 WIDTH = 120
-SCRIPTS = ("build", "streetsim", "test")
+SCRIPTS = ("build", "package", "streetsim", "test")
 
 
 def is_python(path):

@@ -4,18 +4,20 @@ import shutil
 from pathlib import Path
 
 from streetsim.base.files import Fault
+from streetsim.base.places import PROGRAM, installed
 
 VARIABLE = "STREETSIM_PROGRAM"
 BUILT = "crates/street_sim/out/street_sim"  # where `./build` of the repository puts it
-HELP = f"the simulator (default: ${VARIABLE})"
+HELP = f"the simulator (default: ${VARIABLE}, else the one that is installed with the tools)"
 
 
 def find_program(given: str | None = None) -> str:
-    """The path of the program that is given, else of the one that STREETSIM_PROGRAM names; Fault where there is none.
+    """The path of the program that is given, else of the one that STREETSIM_PROGRAM names, else of the one that is
+    installed with the tools; Fault where there is none.
 
     The repository's script `streetsim` stands for the program that was built there: no tool starts a build.
     """
-    named = given or os.environ.get(VARIABLE)
+    named = given or os.environ.get(VARIABLE) or installed(PROGRAM)
     if not named:
         raise Fault(
             f"no simulator: give --program PATH or set {VARIABLE}; `./build` in streetsim's repository makes {BUILT}"

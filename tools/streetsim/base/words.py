@@ -103,7 +103,7 @@ def add_jobs(made: argparse.ArgumentParser) -> None:
         "--jobs",
         type=within(1, 1024),
         default=CORES,
-        help="runs side by side (default: one for each core, %(default)s)",
+        help="runs side by side (default: one for each core)",
     )
 
 

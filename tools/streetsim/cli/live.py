@@ -35,7 +35,9 @@ def parser() -> Parser:
     made.add_argument("run", help="the run file that streetsim-import wrote")
     made.add_argument("--map", required=True, help="the map file that it wrote")
     made.add_argument(
-        "--program", help=f"the page's program, {NATIVE} (default: ${VARIABLE}, else the one that ./build --page made)"
+        "--program",
+        help=f"the page's program, {NATIVE} (default: ${VARIABLE}, else the one that is installed with the tools, "
+        "or that ./build --page made)",
     )
     made.add_argument(
         "--joint",

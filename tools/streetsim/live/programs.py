@@ -4,15 +4,18 @@ from pathlib import Path
 
 from streetsim.base import program as program_built
 from streetsim.base.files import Fault
+from streetsim.base.places import TOP, installed
 
 VARIABLE = "STREETSIM_PAGE"
 BUILT = Path("crates/street_page/out")  # where `./build --page` of the repository puts the page's programs
 NATIVE, MODULE = "street_page", "street_page.wasm"
+AT = {NATIVE: f"libexec/streetsim/{NATIVE}", MODULE: f"share/streetsim/{MODULE}"}  # from the prefix, where installed
 
 
 def beside(name: str) -> Path:
-    """A file that ./build --page makes, of the repository that these tools lie in."""
-    return Path(__file__).resolve().parents[3] / BUILT / name
+    """A file that ./build --page makes: the one that is installed with the tools, else that of the repository that they
+    lie in."""
+    return installed(AT[name]) or TOP / BUILT / name
 
 
 def program_of(given: str | None) -> str:

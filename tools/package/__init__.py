@@ -1,0 +1,1 @@
+"""What ./package packs: a package of Debian's and a wheel, of what was proved."""

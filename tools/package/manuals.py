@@ -1,0 +1,65 @@
+"""Manual pages of the commands, by Debian's help2man from what they say of themselves by --help."""
+from __future__ import annotations
+
+import re
+import subprocess
+import tempfile
+from pathlib import Path
+
+from package.asking import Said
+
+HEADS = (("usage: ", "Usage: "), ("\npositional arguments:\n", "\nArguments:\n"), ("\noptions:\n", "\nOptions:\n"))
+SPEAKS = "#!/bin/sh\ncat <<'END_OF_THE_HELP'\n{text}\nEND_OF_THE_HELP\n"
+ALSO = """[SEE ALSO]
+All commands, with examples and a walk of ten minutes:
+.I share/doc/streetsim/html/index.html
+below
+.I /usr
+or the environment that streetsim was installed in.
+.br
+What was proved of the program:
+.I share/doc/streetsim/PROVED
+"""
+STATUS = """[EXIT STATUS]
+0 where all was done; 2 where a word or a file is wrong, which standard error says in one line.
+"""
+STATUS_OF_PROGRAM = """[EXIT STATUS]
+0 where all input was read to its end; 2 where a word is wrong; 1 where a file could not be read or written, memory was
+refused, or a tape or a kept session has a bad line. Standard error says which.
+"""
+
+
+def told(said: Said) -> str:
+    """A help as help2man reads it, with the options of the commands that are its first word."""
+    text = said.text
+    for word, inner in said.inner.items():
+        _, _, own = inner.partition("\noptions:\n")
+        text += f"\nWith {word}:\n{own}"
+    for head, other in HEADS:
+        text = text.replace(head, other)
+    return text
+
+
+def name_of(said: Said) -> str:
+    """A command in a few words: the begin of the first sentence that says what it does."""
+    begin = r"\n\n(?! )(.+)" if said.text.startswith("usage: ") else r"(.+)"
+    found = re.search(begin, said.text)
+    sentence = re.split(r"[.:;](?: |$)", found[1])[0] if found else said.name
+    return sentence[:1].lower() + sentence[1:]
+
+
+def page(said: Said, version: str) -> str:
+    """The manual page of a command."""
+    with tempfile.TemporaryDirectory() as place:
+        speaks, more = Path(place) / said.name, Path(place) / "more"
+        speaks.write_text(SPEAKS.format(text=told(said).rstrip("\n")))
+        speaks.chmod(0o755)
+        more.write_text((STATUS if "-" in said.name else STATUS_OF_PROGRAM) + ALSO)
+        words = [
+            "help2man", "--no-info", "--section=1", f"--name={name_of(said)}", f"--version-string={version}",
+            f"--source=streetsim {version}", "--manual=streetsim", f"--include={more}", str(speaks),
+        ]
+        done = subprocess.run(words, capture_output=True, text=True, check=False)
+    if done.returncode:
+        raise SystemExit(f"package: help2man has no page of {said.name}: {done.stderr.strip()}")
+    return done.stdout

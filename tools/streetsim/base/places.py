@@ -1,0 +1,34 @@
+"""Where the programs and the examples lie: in the repository that this package stands in, or where it is installed.
+
+All that is installed lies under one prefix: /usr of Debian's package, the environment of the wheel."""
+from pathlib import Path
+
+PACKAGE = Path(__file__).resolve().parents[1]
+INSTALLED = PACKAGE.parent.name in ("dist-packages", "site-packages") and len(PACKAGE.parents) > 3
+PREFIX = PACKAGE.parents[3] if INSTALLED else None
+TOP = PACKAGE.parents[1]
+SESSIONS = "sessions"  # the name of the examples that are sessions of the program itself
+PROGRAM = "libexec/streetsim/streetsim"  # the simulator, from the prefix
+PICTURES = (".png",)  # what examples have for the pages
+
+
+def installed(name: str) -> Path | None:
+    """A file that is installed with the tools, by its path from the prefix; none where they stand in the repository, or
+    were installed alone."""
+    path = PREFIX / name if PREFIX else None
+    return path if path and path.exists() else None
+
+
+def files_of(example: Path) -> list[Path]:
+    """The files of an example, which may be one file itself, without pictures."""
+    paths = sorted(example.rglob("*")) if example.is_dir() else [example]
+    hidden = ("__pycache__", *PICTURES)
+    return [path for path in paths if path.is_file() and not {path.suffix, path.parent.name}.intersection(hidden)]
+
+
+def examples() -> dict[str, Path]:
+    """The examples by their names."""
+    folder = PREFIX / "share/streetsim/examples" if PREFIX else TOP / "tools/examples"
+    found = {path.name: path for path in sorted(folder.glob("*")) if files_of(path)}
+    sessions = TOP / "examples"
+    return found | ({SESSIONS: sessions} if not PREFIX and sessions.is_dir() else {})

@@ -1,0 +1,57 @@
+"""streetsim-example: the files of an example, put into a folder."""
+import os
+import shutil
+from pathlib import Path
+
+from streetsim.base.files import Fault
+from streetsim.base.places import examples, files_of
+from streetsim.base.words import Parser
+
+
+def parser() -> Parser:
+    made = Parser(
+        prog="streetsim-example",
+        description="Puts the files of an example into a folder; without a name, says which examples there are.",
+    )
+    made.add_argument("name", metavar="NAME", nargs="?", help="the example, such as corridor")
+    made.add_argument("--out", metavar="DIR", help="the folder (default: of the example's name, here)")
+    return made
+
+
+def goals(example: Path, folder: Path) -> dict[Path, Path]:
+    """Where each file of an example goes; Fault where one is there."""
+    begin = example if example.is_dir() else example.parent
+    found = {path: folder / path.relative_to(begin) for path in files_of(example)}
+    for goal in found.values():
+        if os.path.lexists(goal):
+            raise Fault(f"{goal} is there; give another folder by --out")
+    return found
+
+
+def put(example: Path, folder: Path) -> int:
+    """Copies an example, and gives how many files it has."""
+    found = goals(example, folder)
+    try:
+        for path, goal in found.items():
+            goal.parent.mkdir(parents=True, exist_ok=True)
+            shutil.copy(path, goal)
+    except OSError as fault:
+        raise Fault(f"{fault.filename}: {fault.strerror}") from None
+    return len(found)
+
+
+def counted(files: int) -> str:
+    return f"{files} file{'' if files == 1 else 's'}"
+
+
+def main(arguments: list[str]) -> int:
+    words = parser().parse_args(arguments)
+    known = examples()
+    if words.name is None:
+        print(*(f"{name}: {counted(len(files_of(path)))}" for name, path in known.items()), sep="\n")
+        return 0
+    if words.name not in known:
+        raise Fault(f"there is no example {words.name!r}, but {', '.join(known) or 'none'}")
+    folder = Path(words.out or words.name)
+    print(f"{counted(put(known[words.name], folder))} in {folder}")
+    return 0
