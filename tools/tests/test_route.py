@@ -216,7 +216,9 @@ class Doubts(unittest.TestCase):
         seen = {"arrived": arrived, "rescues": rescues, "waiting": (waiting, 600), "at_works": ()}
         outcomes = [SimpleNamespace(**seen) for _ in range(2)]
         outcomes[1].arrived, outcomes[1].rescues = 1000, 0
-        search = SimpleNamespace(ground=SimpleNamespace(until=9000), town=SimpleNamespace(works=()))
+        by_list = SimpleNamespace(going_by=lambda _mapping: ())
+        ground = SimpleNamespace(until=9000, lights=lambda _run, _mapping: by_list)
+        search = SimpleNamespace(ground=ground, town=SimpleNamespace(works=()))
         loaded = SimpleNamespace(run=Run("run", Line(1, "", {})), mapping=Map([], [], [], [], [], {}, []))
         judged = SimpleNamespace(outcomes=outcomes, loaded=loaded)
         return Diverted(None, range(1000), search, judged).named_doubts()

@@ -177,6 +177,7 @@ class Reading(Runs):
         for text in (told, self.tool(*words, status=2)[1]):
             self.assertIn("run.jsonl, which has 0 vehicles and not 2", text)
 
+    @needs_simulator
     def test_map_of_another_demand(self):
         """On the same network, with as many or fewer vehicles. What a script changes in a run without changing who its
         vehicles are is taken: departures, lines with a clock, further vehicles."""
