@@ -148,7 +148,8 @@ module _ {S Stop D W : Type 0} (meaning : Meaning S Stop) (remaining : D → Opt
   -- of what was read the first lines were handled, and of their replies the first bytes are in the writer
   abbrev pub HandlesFirst : S → Counted D → Counted W → S → Counted D → Counted W → Halt Stop → Type 0
   HandlesFirst old reader writer new read written halt =
-      Broke meaning.takes meaning.stops old (remaining reader.stream) (contents writer.stream) new (remaining read.stream) (contents written.stream) halt.cause halt.tally
+      Broke meaning.takes meaning.stops old (remaining reader.stream) (contents writer.stream) new (remaining read.stream)
+      (contents written.stream) halt.cause halt.tally
 
   -- what became of a run of so many reads at most: all lines were handled; or the first, and a fault comes only where its cause was counted
   pub record Drives (reads : ℕ) (old : S) (reader : Counted D) (writer : Counted W) (run : Result Tally (Halt Stop))
