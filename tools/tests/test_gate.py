@@ -6,6 +6,8 @@ import unittest
 from test_first_minute import TOP, RepositoryCase
 
 PASSED = "12 passed, 0 failed"
+# The last two lines of a gate that tried edits too.
+WELL = f"rt: ok; handles allowed: none; must-fail edits: 4 refused; every proof was done in this run\n{PASSED}"
 GOOD = """import unittest
 class Good(unittest.TestCase):
     def test_good(self):

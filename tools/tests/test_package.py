@@ -20,7 +20,7 @@ from pathlib import Path
 from unittest.mock import patch
 
 from support import QUICK, TOOLS, Case, needs_package, needs_page_module
-from test_gate import PASSED, GateCase
+from test_gate import PASSED, WELL, GateCase
 from test_install import PIP
 
 import built
@@ -30,7 +30,6 @@ from package.asking import options
 
 TOP = TOOLS.parent
 VERSION = tomllib.loads((TOOLS / "pyproject.toml").read_text())["project"]["version"]
-WELL = f"rt: ok; handles allowed: none; must-fail edits: 4 refused; every proof was done in this run\n{PASSED}"
 NEEDED = {
     "debhelper": shutil.which("dh"),
     "dh-python": shutil.which("dh_python3"),

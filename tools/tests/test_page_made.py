@@ -1,5 +1,7 @@
 """./test's step that makes the module of a page, end to end over a made-up compiler: the kit's own clang and linker
 make a module that Chromium runs, and where the kit is another one ./test says what it did not find, and goes on."""
+import hashlib
+import json
 import os
 import shutil
 import subprocess
@@ -7,7 +9,7 @@ import unittest
 from pathlib import Path
 
 from pages import needs_driver, needs_selenium
-from test_gate import GOOD, PASSED, GateCase
+from test_gate import GOOD, PASSED, WELL, GateCase
 from test_page import Answering
 
 KIT = Path(shutil.which("rt") or "").resolve().parents[1] if shutil.which("rt") else None
@@ -128,6 +130,33 @@ class Made(MadeCase):
                 self.assertIn(f"\nkit without a page: {told}\n", output)
                 self.assertEqual(output.splitlines()[-1], "13 passed, 0 failed")
                 self.assertFalse(self.made.exists())
+
+
+@needs_kit
+class Noted(MadeCase):
+    """The record that ./package packs from."""
+
+    def record(self):
+        return json.loads((self.top / "out/proved.json").read_text())
+
+    def test_build_notes_the_pages_part_and_test_all(self):
+        rt = self.folder / "bin/rt"
+        library = 'mkdir -p "crates/$crate/out/rlib"; touch "crates/$crate/out/rlib/$crate.rlib"; '
+        text = rt.read_text().replace("crates/street_sim/out/street_sim", "crates/street_page/out/street_page")
+        rt.write_text(text.replace('echo "rt: $crate proved"', library + 'echo "rt: $crate proved"'))
+        output, _ = self.runs("build", "--page")
+        self.assertIn("street_page.wasm is made", output)
+        record = self.record()
+        self.assertEqual(list(record), ["page"])
+        total = hashlib.sha256(self.made.read_bytes()).hexdigest()
+        self.assertEqual(record["page"]["files"]["share/streetsim/street_page.wasm"], total)
+        self.assertEqual((record["page"]["gate"], record["page"]["crates"]), ("3 passed, 0 failed", 3))
+        self.write_test(GOOD)
+        self.runs("test", LAST=WELL, KEEPS_PROGRAM="1")
+        record = self.record()
+        self.assertEqual((record["page"]["gate"], record["page"]["crates"]), (PASSED, 5))
+        self.assertEqual(record["page"]["files"]["share/streetsim/street_page.wasm"], total)
+        self.assertEqual(list(record["program"]["files"]), ["libexec/streetsim/streetsim"])
 
 
 @needs_kit
