@@ -16,8 +16,8 @@ from streetsim.base.files import Fault
 from streetsim.base.program import BUILT, find_program
 
 COMMANDS = (
-    "compare", "demand", "example", "export", "import", "live", "play", "plot", "report", "route", "run",
-    "signals", "study",
+    "check", "compare", "demand", "example", "export", "import", "live", "play", "plot", "report", "route",
+    "run", "signals", "study",
 )
 PIP = [sys.executable, "-m", "pip"] if find_spec("pip") else [shutil.which("pip")] if shutil.which("pip") else None
 

@@ -139,7 +139,7 @@ class Pages(Given):
             "0:00 to 0:30, seeds 1, 2, dawdle 170",
             "2 <turns> & more",
             "8, 15, 22 of 75 m",
-            "L, T, R, U: left, straight on, right, back. Bars: the length of an edge",
+            "L, T, R, U: left, straight on, right, back. Queues: what half of the cycles",
         ):
             self.assertIn(told, text)
         places = [text.index(told) for told in ("no route", "2 <turns>", "3 x stops", "1 light")]

@@ -214,6 +214,15 @@ def read_json(path: FilePath, keys: Iterable[str]) -> Json:
     return value
 
 
+def read_json_list(path: FilePath) -> list[Json]:
+    """The JSON list of objects of a file; Fault where it is none."""
+    with reading(path), open_text(path) as file:
+        value = json.load(file)
+    if not isinstance(value, list) or not all(isinstance(one, dict) for one in value):
+        raise Fault(f"{path}: no list of objects")
+    return value
+
+
 def place_of(path: FilePath) -> str:
     """Where an output is written: a link is followed; Fault where anything but a regular file is there."""
     place = os.path.realpath(path)

@@ -1,5 +1,7 @@
 """streetsim-report: a page for a council of a run's junctions, or of what another plan changes, with its appendix."""
 import argparse
+import hashlib
+import json
 import os
 import tempfile
 from collections.abc import Sequence
@@ -7,17 +9,26 @@ from html import escape
 
 from streetsim.base import limits
 from streetsim.base.files import Fault, place_of, whole_file
+from streetsim.base.report import some
 from streetsim.base.words import Parser, add_names, listed, time_within, within
+from streetsim.cli.given import given_words
 from streetsim.model.folder import Folder
 from streetsim.model.names import read_own
 from streetsim.model.tables import write_table
 from streetsim.reports.council import junctions_of
 from streetsim.reports.making import Wishes, report_of
 from streetsim.reports.markup import Section, image
+from streetsim.reports.seal import Seal, beside_of, write_beside
+from streetsim.reports.sealing import seal_for
+from streetsim.reports.sheets import Timings, changed, clashes, sheets
 from streetsim.reports.tables import CHANGES, change_rows
 from streetsim.results.reading import Runs, read_runs
-from streetsim.results.series import way_back
+from streetsim.results.timings import timings_of
+from streetsim.results.series import reds, trajectories, way_back
 
+# Words that say where a page is and what it is of; --plans and --names are sealed beside them.
+ALL = "all"
+ELSEWHERE = ("runs", "output", "csv", "names", "plans", "sealed")
 PICTURE = {"first": 0, "last": 600}  # seconds of the corridor's picture
 
 
@@ -41,9 +52,23 @@ def parser() -> Parser:
     made.add_argument(
         "--detail",
         type=within(0, 10_000),
-        default=10,
+        default=8,
         metavar="N",
         help="junctions told with all movements, first those that change or are worse than D (default %(default)s)",
+    )
+    made.add_argument(
+        "--sealed",
+        action="store_true",
+        help="put into the page what made it, so that streetsim-check can run it again and compare each number",
+    )
+    made.add_argument(
+        "--sheets",
+        nargs="?",
+        const=ALL,
+        default="",
+        metavar="LIGHTS",
+        help="a signal timing sheet for each of these lights, with commas between (default: all that plans change, or "
+        "all of one plan)",
     )
     made.add_argument("--csv", metavar="FILE", help="also write all junctions and movements, before and after (.csv)")
     made.add_argument(
@@ -62,19 +87,38 @@ def parser() -> Parser:
 
 
 def main(arguments: list[str]) -> int:
-    words = parser().parse_args(arguments)
+    made = parser()
+    words = made.parse_args(arguments)
+    given = given_words(made, words, ELSEWHERE)
     refuse(words)
     place_of(words.output)
     plans = read_plans(words)
     shown = interval_of(plans, words)
-    text = report_of(plans, shown, wishes_of(plans, words))
+    seal: Seal | None = None
+    large: dict[str, bytes] = {}
+    if words.sealed:
+        seal, large = seal_for(plans, given, words.output, words.names)
+    text = report_of(plans, shown, wishes_of(plans, words, seal))
+    write_beside(words.output, large)
     with whole_file(words.output) as file:
         file.write(text)
     if words.csv:
         write_table(words.csv, CHANGES, change_rows(plans, shown))
     count = len(junctions_of(plans, shown))
-    print(f"{words.output}: {count} junctions, {len(text.encode()):,} bytes")
+    beside = f", and {beside_of(words.output)} beside it" if large else ""
+    print(f"{words.output}: {count} junctions, {len(text.encode()):,} bytes{beside}")
     return 0
+
+
+def text_again(arguments: list[str], seal: Seal) -> str:
+    """The text of a page by the words that made it, with its seal: its programs stand for those of the runs."""
+    words = parser().parse_args(arguments)
+    refuse(words)
+    plans = read_plans(words)
+    for runs, plan in zip(plans, seal.content["plans"], strict=True):
+        for folder in runs.folders.values():
+            folder.made["program"] = plan["program"]
+    return report_of(plans, interval_of(plans, words), wishes_of(plans, words, seal))
 
 
 def refuse(words: argparse.Namespace) -> None:
@@ -83,8 +127,9 @@ def refuse(words: argparse.Namespace) -> None:
         raise Fault("a report is of one run, or of two: before and after")
     if words.plans and len(words.plans) != len(words.runs):
         raise Fault(f"--plans: {len(words.plans)} names for {len(words.runs)} runs")
-    if words.short and words.corridor:
-        raise Fault("--corridor is of the appendix, which --short leaves out")
+    for name in ("corridor", "sheets"):
+        if words.short and getattr(words, name):
+            raise Fault(f"--{name} is of the appendix, which --short leaves out")
     for name, default in PICTURE.items():
         if getattr(words, name) is None:
             setattr(words, name, default)
@@ -105,12 +150,32 @@ def read_plans(words: argparse.Namespace) -> list[Runs]:
     return plans
 
 
-def wishes_of(plans: Sequence[Runs], words: argparse.Namespace) -> Wishes:
+def wishes_of(plans: Sequence[Runs], words: argparse.Namespace, seal: Seal | None) -> Wishes:
     """What the words ask of a page."""
     pictures = []
     if words.corridor:
         pictures.append(Section("corridor", "Corridor", "".join(corridor(runs, words) for runs in plans)))
-    return Wishes(words.title, words.question, words.detail, words.short, pictures=pictures)
+    timings = [timings_of(runs) for runs in plans]
+    if words.sheets:
+        pictures.append(Section("sheets", "Signal timing sheets", sheets_told(plans, timings, words.sheets)))
+    last, doubts = seal.html() if seal else "", clashes(timings[-1], plans[-1])
+    return Wishes(words.title, words.question, words.detail, words.short, doubts, pictures, last)
+
+
+def sheets_told(plans: Sequence[Runs], timings: Sequence[Timings], asked: str) -> str:
+    """The timing sheets of the lights that are asked for; Fault where a run does not keep their programs."""
+    for runs, own in zip(plans, timings, strict=True):
+        if not own:
+            why = "the files of the import were gone or had changed when it was run"
+            raise Fault(f"{runs.first.path}: no program of its lights is kept, as {why}")
+    lights = listed(asked)
+    if asked == ALL:
+        lights = changed(timings[0], timings[-1]) if len(plans) == 2 else sorted(timings[-1])
+    if unknown := [light for light in lights if light not in timings[-1]]:
+        raise Fault(f"--sheets: the runs keep no program of a light {unknown[0]!r}; of {some(sorted(timings[-1]))}")
+    if not lights:
+        return "<p>No light shows anything else with the second plan.</p>"
+    return sheets([(runs.name, own) for runs, own in zip(plans, timings, strict=True)], lights, plans[-1].names)
 
 
 def interval_of(all_runs: Sequence[Runs], words: argparse.Namespace) -> tuple[int, int]:
@@ -145,7 +210,17 @@ def corridor(runs: Runs, words: argparse.Namespace) -> str:
         with open(place, "rb") as file:
             content = file.read()
     text = f"Ways of the vehicles along {words.corridor}{', and back' if back else ''}: {runs.name}"
-    return f"<figure>{image(content, text)}<figcaption>{escape(text)}</figcaption></figure>"
+    drawn = drawn_sum(folder, words, back)
+    return f'<figure data-drawn="{drawn}">{image(content, text)}<figcaption>{escape(text)}</figcaption></figure>'
+
+
+def drawn_sum(folder: Folder, words: argparse.Namespace, back: bool) -> str:
+    """The SHA-256 of what a corridor's picture is drawn from."""
+    edges = listed(words.corridor)
+    ways = [edges, *([way_back(folder, edges)] if back else [])]
+    times = words.first, words.last
+    drawn = [[trajectories(folder, way, *times), reds(folder, way, *times)] for way in ways]
+    return hashlib.sha256(json.dumps(drawn).encode()).hexdigest()
 
 
 def leads_back(folder: Folder, edges: str) -> bool:

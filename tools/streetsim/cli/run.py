@@ -5,8 +5,13 @@ from streetsim.base import limits, program
 from streetsim.base.words import (
     Parser, add_jobs, add_lights, add_lost, add_merge, add_rounds, add_run, time_within, within,
 )
+from streetsim.cli.given import given_words
 from streetsim.outputs.kinds import KINDS, kinds_of
 from streetsim.sumo.slowing import LIMITS
+
+# Words that say where and on what a run is made, and change no number of it.
+OF_WORKS = ("close", "joint", "lost", "works_limit")  # which the lines that a folder keeps have
+ELSEWHERE = ("run", "map", "out", "program", "workers", "jobs", "seeds")
 
 
 def parser() -> argparse.ArgumentParser:
@@ -135,7 +140,8 @@ def add_outputs(made: argparse.ArgumentParser) -> None:
 
 
 def main(arguments: list[str]) -> int:
-    words = parser().parse_args(arguments)
+    made = parser()
+    words = made.parse_args(arguments)
     from streetsim.cli.running import run_by
 
-    return run_by(words)
+    return run_by(words, given_words(made, words, ELSEWHERE), given_words(made, words, (*ELSEWHERE, *OF_WORKS)))

@@ -2,7 +2,7 @@
 import argparse
 import os
 import sys
-from collections.abc import Callable
+from collections.abc import Callable, Sequence
 from dataclasses import replace
 
 from streetsim.actuated.lights import driven_lights
@@ -15,12 +15,14 @@ from streetsim.base.seeds import interval, seeds_of
 from streetsim.base.words import listed
 from streetsim.buses.planned import planned
 from streetsim.model import trust
-from streetsim.model.folder import NAME
+from streetsim.model.folder import LIGHTS, NAME
 from streetsim.model.mapping import Map
 from streetsim.model.runs import Run, read_with_map, seeded
 from streetsim.model.tables import PHASES_FILE, SEEDS, STOPS_FILE, WORKS_FILE, write_table
 from streetsim.outputs.folder import Figures, Making, first_poll, one_run
+from streetsim.outputs.kept import by_which, write_kept
 from streetsim.outputs.kinds import KINDS
+from streetsim.outputs.lit import write_lights
 from streetsim.run.asking import told_of_polls
 from streetsim.run.ending import first_guess
 from streetsim.run.settings import Settings
@@ -30,13 +32,14 @@ from streetsim.works.sites import Asking, with_works
 DETECTORS = {"e1": "inductionLoop", "e2": "laneAreaDetector"}  # SUMO's names, by the kind of output
 # What a run writes where a word asks for it.
 AT_WISH = (
-    *(PHASES_FILE, STOPS_FILE, WORKS_FILE, "movements.csv", "approaches.csv", "junctions.csv"),
+    *(LIGHTS, PHASES_FILE, STOPS_FILE, WORKS_FILE, "movements.csv", "approaches.csv", "junctions.csv"),
     *(f"sumo/{kind}.xml" for kind in KINDS),
 )
 
 
-def run_by(words: argparse.Namespace) -> int:
-    """Runs as the words ask, and tells what it gave; gives the status."""
+def run_by(words: argparse.Namespace, given: Sequence[str], again: Sequence[str]) -> int:
+    """Runs as the words ask, and tells what it gave; gives the status. given: the words that change its numbers; again:
+    those by which it is made again of the lines that are kept."""
     run, mapping = read_with_map(words.run, words.map)
     settings = settings_of(words, run)
     refuse_unknown(words, settings, mapping)
@@ -51,7 +54,7 @@ def run_by(words: argparse.Namespace) -> int:
         raise Fault(f"--until {settings.until}: the run starts at {run.start()}")
     if not settings.open_end:
         refuse_no_poll(settings, run.start())
-    making = making_of(words)
+    making = replace(making_of(words), again=by_which(run, given, again))
     if words.stops == "made":
         settings = replace(settings, buses=planned(run, mapping))
     if words.lights == "actuated" and mapping.actuated:
@@ -62,9 +65,17 @@ def run_by(words: argparse.Namespace) -> int:
         return run_seeds(words, making, run, mapping, settings)
     shown = UnderWay(settings.until)
     with whole_folder(words.out, NAME, AT_WISH) as folder:
+        write_inputs(words, folder, run, mapping)
         figures = one_run(making, run, mapping, settings, folder, shown.show)
     report(figures, "")
     return 0
+
+
+def write_inputs(words: argparse.Namespace, folder: str, run: Run, mapping: Map) -> None:
+    """Writes what a run is made again by, and with junction tables what its lights show at the road."""
+    write_kept(folder, run)
+    if words.junctions is not None:
+        write_lights(folder, mapping, words.map)
 
 
 def settings_of(words: argparse.Namespace, run: Run) -> Settings:
@@ -122,6 +133,7 @@ def run_seeds(words: argparse.Namespace, making: Making, run: Run, mapping: Map,
     seeds, making = seeds_of(words.seeds, "--seeds"), replace(making, jobs=1)
     shown = UnderWay(settings.until, len(seeds))
     with whole_folder(words.out, NAME, AT_WISH) as folder:
+        write_inputs(words, folder, run, mapping)
 
         def run_seed(seed: int, tell: Callable[[tuple[int, Census | None]], object]) -> Figures:
             place = f"{folder}/seed-{seed}"

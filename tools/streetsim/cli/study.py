@@ -1,13 +1,16 @@
 """streetsim-study: seeds times variants, each run once, and how sure their differences are."""
 import argparse
+import json
 import os
 
 from streetsim.base import program
-from streetsim.base.files import Fault, whole_folder
+from streetsim.base.files import Fault, whole_file, whole_folder
 from streetsim.base.progress import Meanwhile, Slow
 from streetsim.base.words import ROUNDS, Parser, add_rounds
+from streetsim.cli.given import given_words
 from streetsim.cli.signals import add_machines
 from streetsim.model import trust
+from streetsim.model.sources import sum_of
 from streetsim.model.tables import write_table
 from streetsim.sessions.giving import outcome_giving_way
 from streetsim.sessions.machines import machines
@@ -17,6 +20,9 @@ from streetsim.study.telling import doubts, draw, tell, tell_ends, tell_giving_w
 from streetsim.study.variants import Study, read_study
 
 LAST = "differences.csv"
+MADE = "made.json"  # by what a study is made again
+# Words that say where and on what a study is made, and change no number of it.
+ELSEWHERE = ("study", "out", "program", "jobs", "cluster")
 
 
 def parser() -> Parser:
@@ -51,7 +57,8 @@ def percent(text: str) -> float:
 
 
 def main(arguments: list[str]) -> int:
-    words = parser().parse_args(arguments)
+    made = parser()
+    words = made.parse_args(arguments)
     if os.path.exists(words.out) and not os.path.isdir(words.out):
         raise Fault(f"{words.out}: exists and is no folder")
     words.program = program.find_program(words.program)
@@ -65,6 +72,7 @@ def main(arguments: list[str]) -> int:
         write_table(f"{folder}/runs.csv", RUNS, run_rows(study, results))
         write_table(f"{folder}/{LAST}", DIFFERENCES, (written((*row, "; ".join(found[row[0]]))) for row in rows))
         trust.write_doubts(folder, named)
+        write_made(words, given_words(made, words, ELSEWHERE), folder)
         draw(study, rows, f"{folder}/differences.png")
     tell(rows)
     tell_ends(study, results)
@@ -72,6 +80,13 @@ def main(arguments: list[str]) -> int:
     if named:
         print(trust.verdict(named))
     return 0
+
+
+def write_made(words: argparse.Namespace, given: list[str], folder: str) -> None:
+    """Writes by what the study is made again: its file, from the folder that is written to, and the words."""
+    path = os.path.relpath(os.path.realpath(words.study), os.path.realpath(words.out))
+    with whole_file(f"{folder}/{MADE}") as file:
+        json.dump({"study": path, "sum": sum_of(words.study), "words": given}, file)
 
 
 def run_all(words: argparse.Namespace, study: Study) -> dict[str, list[Outcome]]:

@@ -11,6 +11,8 @@ from streetsim.model.mapping import Map, map_from
 from streetsim.model.runs import Sent
 
 NAME = "setting.json"
+LIGHTS = "lights.json"  # what its lights show at the road, of a run with --junctions, as model.timing has it
+KEPT = "run.jsonl.gz"  # the lines of the run, beside the folders of its seeds where there are several
 Frame = Json  # what stood on lanes at a clock: {"clock", "lanes"}, as `polls` says
 
 

@@ -10,6 +10,7 @@ from streetsim.base.files import Fault, FilePath, open_text, reading
 from streetsim.model.mapping import Map, read_map
 from streetsim.model.sources import sum_of_lines
 
+MARK = "works"  # a field of lines that a tool made of --close, where they are kept; the program ignores it
 Command = dict[str, Any]
 Sent = tuple[int, Command]  # the clock at which a command is sent
 
@@ -90,7 +91,7 @@ def run_of(path: FilePath, lines: Sequence[Line]) -> Run:
         if line.command["cmd"] == "enter":
             run.enters.append(line)
         elif "at" in line.command:
-            run.timed.append((line.command["at"], line))
+            run.timed.append((line.command["at"], line if line.number > 0 else without_mark(line)))
         else:
             run.first.append(line)
     run.timed.sort(key=lambda pair: pair[0])
@@ -104,6 +105,27 @@ def with_load(run: Run, **values: Any) -> Run:
     """The run with other values of its load."""
     command = {**run.load.command, **values}
     return replace(run, load=replace(run.load, command=command, text=json.dumps(command, separators=(",", ":"))))
+
+
+def texts_of(run: Run) -> Iterator[str]:
+    """The lines of a run with its works, which `run_of_texts` reads as this run; those of one clock in their order."""
+    yield run.load.text
+    yield from (line.text for line in run.first)
+    yield from (timed_text(clock, line) for clock, line in run.timed)
+    yield from (line.text for line in run.enters)
+
+
+def without_mark(line: Line) -> Line:
+    """A kept line of works as the tool had made it."""
+    command = {name: value for name, value in line.command.items() if name not in ("at", MARK)}
+    return Line(line.number, json.dumps(command), command)
+
+
+def timed_text(clock: int, line: Line) -> str:
+    """The text of a line that is sent at a clock; of works' line, which is of no file, with a mark."""
+    if line.number > 0:
+        return line.text
+    return json.dumps({**line.command, "at": clock, MARK: True}, separators=(",", ":"))
 
 
 def line_of(path: FilePath, number: int, text: str) -> Line:
@@ -120,7 +142,7 @@ def line_of(path: FilePath, number: int, text: str) -> Line:
             raise ValueError(f"{command['cmd']} is sent by streetsim-run itself")
     except (ValueError, KeyError, TypeError, AttributeError) as fault:
         raise Fault(f"{path}: line {number} is no command of a run: {fault}") from None
-    return Line(number, text.strip(), command)
+    return Line(0 if command.get(MARK) else number, text.strip(), command)
 
 
 def seeded(run: Run, seed: int) -> Run:

@@ -3,14 +3,14 @@ import json
 import os
 from collections.abc import Iterable, Iterator, Sequence
 from contextlib import AbstractContextManager
-from dataclasses import asdict, dataclass, replace
+from dataclasses import asdict, dataclass, field, replace
 from functools import partial
 from statistics import fmean
 
 from streetsim.actuated.lights import LISTED
 from streetsim.base import limits
 from streetsim.base.client import Client
-from streetsim.base.files import whole_file
+from streetsim.base.files import Json, whole_file
 from streetsim.base.jobs import side_by_side
 from streetsim.base.report import COLUMNS, some
 from streetsim.base.serving import serving
@@ -54,6 +54,7 @@ class Making:
     kinds: Sequence[str] = ()  # of SUMO's output files
     # Seconds of the rows of the junction tables; 0: the period of the counts; none: no such tables.
     junctions: int | None = None
+    again: Json = field(default_factory=dict)  # by what it is made again, as kept.by_which has it
 
     def serving(self, run: Run) -> AbstractContextManager[Client]:
         """The program, started for a run; what it refuses is a Fault."""
@@ -100,7 +101,7 @@ def one_run(making: Making, run: Run, mapping: Map, settings: Settings, folder: 
     doubts += doubts_of(records.works, mapping)
     doubts += beyond_joint(run, mapping, [one.closure for one in records.works])
     given = with_lines(given, list(lit_lines(records.sent, mapping)))
-    write_setting(made, given, yielding, doubts, digest_of(making.program))
+    write_setting(made, given, yielding, doubts, {"program": digest_of(making.program), **making.again})
     return Figures(
         vehicles=driven.vehicles,
         arrived=len(driven.durations),
@@ -192,13 +193,14 @@ def stop_notes(stops: Sequence[Done], mapping: Map) -> Iterator[str]:
 
 
 def write_setting(
-    made: Recorded, given: Run, yielding: Yielding, doubts: Sequence[str], program_sum: str | None
+    made: Recorded, given: Run, yielding: Yielding, doubts: Sequence[str], more: Json
 ) -> None:
     """Writes what a run was made of. given: the run without the signals by which its vehicles give way; doubts: why it
-    is not to be trusted, none where there is no reason; program_sum: the SHA-256 of the program."""
+    is not to be trusted, none where there is no reason; more: the SHA-256 of the program, and by what it is made
+    again."""
     command, settings = given.load.command, made.settings
     of = {"run": os.path.basename(given.path), "seed": command.get("seed", 0), "start": given.start()}
-    of.update(until=settings.until, rescue=settings.rescue, vehicles=len(given.enters), program=program_sum)
+    of.update(until=settings.until, rescue=settings.rescue, vehicles=len(given.enters), **more)
     content = {
         "map": made.mapping.written(),
         "signals": given.signals(),

@@ -9,10 +9,10 @@ from streetsim.reports.markup import change_told, clock, table
 from streetsim.results.reading import Row, Runs
 
 KEY = (
-    "L, T, R, U: left, straight on, right, back. Bars: the length of an edge, and in it the queue that half of the "
-    "cycles (dark) and 95 % of them (light) do not exceed, and the greatest (line)."
+    "L, T, R, U: left, straight on, right, back. Queues: what half of the cycles and what 95 % of them do not exceed, "
+    "and the greatest, of the room. Bars: the length of an edge, and in it the same queues, dark, light and a line."
 )
-MOST_MOVEMENTS = 30  # of changes on the page
+MOST_MOVEMENTS = 25  # of changes on the page
 
 
 def title_of(name: str, names: Names) -> str:
@@ -51,7 +51,8 @@ def movement_changes(rows: Sequence[Told], names: Names) -> str:
         ids = f"{one.key[0]}: {' to '.join(one.key[1:])}"
         levels = f"{letter_mark(one.before.letter())} to {letter_mark(one.row.letter())}"
         numbers = f"{one.change.before:.1f}", f"{one.change.after:.1f}", change_told(one.change)
-        made.append([escape(names.movement(*one.key[1:])), escape(ids), *numbers, levels])
+        shown = f'<span class="ids">{escape(ids)}</span>'
+        made.append([escape(names.movement(*one.key[1:])), shown, *numbers, levels])
     if not made:
         return "<p>No movement changes for sure by so much that one notices, and none is worse than D.</p>"
     head = ["movement", "junction: edges", "before, s", "after, s", "change, s", "level of service"]
@@ -78,7 +79,7 @@ def detail(runs: Runs, name: str, interval_of: tuple[int, int]) -> str:
     approaches = [row for row in runs.rows["approaches", *interval_of].values() if row.key[0] == name]
     head = [
         "movement", "from and to edge", "", "vehicles/h", "delay, s", "level of service", "v/c", "stopped, s", "stops",
-        "queue 50 %, m", "95 %", "greatest of room",
+        "queues, m",
     ]
     rows = [movement_row(row, called) for row in sorted(movements, key=lambda row: row.key)]
     queues = [
@@ -112,13 +113,11 @@ def movement_row(row: Row, names: Names) -> list[str]:
     """The cells of a movement in its junction's table."""
     values = row.values
     stops = f"{values['stops_per_vehicle']:.2f}" if "stops_per_vehicle" in values else ""
-    queues = [
-        f"{values['queue_50_m']:.0f}",
-        f"{values['queue_95_m']:.0f}",
-        f"{values['queue_max_m']:.0f} of {values['storage_m']:.0f}",
-    ]
+    lengths = (f"{values[name]:.0f}" for name in ("queue_50_m", "queue_95_m", "queue_max_m"))
+    queues = f'<span class="ids">{", ".join(lengths)} of {values["storage_m"]:.0f}</span>'
+    ids = f'<span class="ids">{escape(" to ".join(row.key[1:]))}</span>'
     return [
-        *(escape(part) for part in (names.movement(*row.key[1:]), " to ".join(row.key[1:]), row.movement)),
+        *(escape(names.movement(*row.key[1:])), ids, row.movement),
         *(f"{values['vehicles_per_hour']:.0f}", f"{row.delay:.1f}", letter_mark(row.letter()), f"{values['v_c']:.2f}"),
-        *(f"{values['stopped_delay_s']:.1f}", stops, *queues),
+        *(f"{values['stopped_delay_s']:.1f}", stops, queues),
     ]

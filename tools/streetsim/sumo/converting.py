@@ -17,6 +17,7 @@ from streetsim.sumo.programs import kept_programs
 from streetsim.sumo.rules import warn_of_rules
 from streetsim.sumo.signals import movements, signals
 from streetsim.sumo.slowing import slowed
+from streetsim.sumo.timings import warn_of_clashes
 from streetsim.sumo.types import Types
 from streetsim.sumo.yielding import equivalents, hourly_flows
 
@@ -49,6 +50,7 @@ def converted(net: SumoNet, types: Types, vehicles: Sequence[Vehicle], options: 
     network.last = max((command["depart"] for command in entered), default=options.begin)
     network.open_beside_works()
     warn_of_rules(net, network, report)
+    warn_of_clashes(net, report)
     made = signals(net, network, found, report)
     lights = [(light, command["node"]) for light, command in made if "at" not in command]
     network.yields = conflicts_of(net, network, flows)

@@ -91,6 +91,7 @@ class SumoNet:
     bus_stops: dict[str, BusStop] = field(default_factory=dict)  # of these, by name
     # By junction: for each request those that it gives way to.
     yields: dict[str, dict[int, set[int]]] = field(default_factory=dict)
+    foes: dict[str, dict[int, set[int]]] = field(default_factory=dict)  # by junction: for each request those it meets
     inner_speeds: dict[str, float] = field(default_factory=dict)  # lane inside a junction: metres a second
     location: Json = field(default_factory=dict)  # where it lies on Earth, as read_location keeps it
     called: dict[str, str] = field(default_factory=dict)  # names of junctions that have one
@@ -208,11 +209,18 @@ def read_junction(path: FilePath, element: Element, net: SumoNet, _classes: Coll
         if called := element.get("name", "").strip():
             net.called[name] = called
         net.yields[name] = {
-            attribute(path, request, "index", at_least_zero(int)): {
-                at for at, bit in enumerate(reversed(attribute(path, request, "response"))) if bit == "1"
-            }
+            attribute(path, request, "index", at_least_zero(int)): bits_of(attribute(path, request, "response"))
             for request in element.iter("request")
         }
+        net.foes[name] = {
+            attribute(path, request, "index", at_least_zero(int)): bits_of(request.get("foes", ""))
+            for request in element.iter("request")
+        }
+
+
+def bits_of(text: str) -> set[int]:
+    """The places of the ones among bits, from the right."""
+    return {at for at, bit in enumerate(reversed(text)) if bit == "1"}
 
 
 def read_connection(path: FilePath, element: Element, net: SumoNet, classes: Collection[str]) -> None:

@@ -1,0 +1,128 @@
+"""streetsim-check: runs again what made a page, a run's folder or a study's, and says whether each number is theirs."""
+import argparse
+import contextlib
+import io
+import os
+import shutil
+import tempfile
+from collections.abc import Sequence
+from pathlib import Path
+
+from streetsim.base import program
+from streetsim.base.files import Fault, open_text, reading
+from streetsim.base.progress import Slow
+from streetsim.base.words import Parser, add_jobs, within
+from streetsim.cli.checking import folder_again, is_study, seeds_words, study_again
+from streetsim.cli.report import text_again
+from streetsim.cli.run import main as run
+from streetsim.model.folder import LIGHTS
+from streetsim.model.sources import digest_of
+from streetsim.reports.elements import Difference, differences, numbers_in
+from streetsim.reports.pixels import without_pixels
+from streetsim.reports.seal import Seal, files_of, seal_of
+from streetsim.reports.sealing import NAMES, drawn_by, tools_sum
+from streetsim.results.tallying import Compared, compared
+
+MOST = 3  # differences told
+
+
+def parser() -> Parser:
+    made = Parser(
+        prog="streetsim-check",
+        description="Runs again what made a page of streetsim-report --sealed, a folder of streetsim-run or one of "
+        "streetsim-study, and says in one line whether each number is that of a run, or which are not. It shows that "
+        "numbers are the simulation's, not that the street will do so. Status 1 where one is not.",
+    )
+    made.add_argument("target", metavar="PAGE|DIR", help="the page (.html), or the folder")
+    made.add_argument("--program", help=program.HELP)
+    made.add_argument("--workers", type=within(1, 64), default=1, help="of the simulator (default %(default)s)")
+    add_jobs(made)
+    made.add_argument("--study", metavar="FILE", help="of a study's folder: the study, where it lies elsewhere now")
+    return made
+
+
+def main(arguments: list[str]) -> int:
+    words = parser().parse_args(arguments)
+    words.program = program.find_program(words.program)
+    study = os.path.isdir(words.target) and is_study(words.target)
+    if words.study and not study:
+        raise Fault("--study is of a study's folder")
+    if os.path.isdir(words.target):
+        return check_folder(words, study)
+    return check_page(words)
+
+
+def check_page(words: argparse.Namespace) -> int:
+    """Checks a sealed page; gives the status."""
+    with reading(words.target), open_text(words.target) as file:
+        text = file.read()
+    seal = seal_of(words.target, text)
+    with Slow(f"running again what made {words.target}"):
+        anew = page_again(words, seal)
+    note = ""
+    if seal.content["drawn_by"] != drawn_by():
+        text, anew = without_pixels(text), without_pixels(anew)
+        note = "; pictures of points by their data alone, as they were drawn by another matplotlib"
+    found = differences(text, anew)
+    if found and seal.content["tools"] != tools_sum():
+        note += "; the page was made by other tools than these, so that words may differ, too"
+    runs = sum(len(plan["seeds"]) for plan in seal.content["plans"])
+    same = all(plan["program"] == digest_of(words.program) for plan in seal.content["plans"])
+    which = "the program that made it" if same else "another program than the one that made it"
+    good = f"each of the {numbers_in(text):,} numbers on the page is that of a run ({runs} runs made again by {which})"
+    return tell(words.target, found, good, note)
+
+
+def tell(target: str, found: Sequence[Difference], good: str, note: str = "") -> int:
+    """Prints the one line; gives the status."""
+    if not found:
+        print(f"{target}: {good}{note}")
+        return 0
+    told = "; ".join(one.told() for one in found[:MOST])
+    more = f"; and {len(found) - MOST:,} more" if len(found) > MOST else ""
+    places = "1 place is" if len(found) == 1 else f"{len(found):,} places are"
+    print(f"{target}: {places} not what the runs give: {told}{more}{note}")
+    return 1
+
+
+def page_again(words: argparse.Namespace, seal: Seal) -> str:
+    """The page that the sealed files and words give, with the same seal."""
+    with tempfile.TemporaryDirectory() as place:
+        for name, content in files_of(seal, words.target):
+            path = Path(place) / name
+            if ".." in Path(name).parts or path.is_absolute() != Path(place).is_absolute():
+                raise Fault(f"{words.target}: a sealed file is called {name!r}: the page was changed")
+            path.parent.mkdir(parents=True, exist_ok=True)
+            path.write_bytes(content)
+        try:
+            return made_again(words, seal, place)
+        except (Fault, KeyError, TypeError, AttributeError) as fault:
+            raise Fault(f"{words.target}: what is sealed in it gives no such page: {fault}") from None
+
+
+def made_again(words: argparse.Namespace, seal: Seal, place: str) -> str:
+    """The page, of sealed files that lie at a place."""
+    plans = seal.content["plans"]
+    folders = [f"{place}/out-{at}" for at in range(len(plans))]
+    for plan, folder in zip(plans, folders, strict=True):
+        seeds = seeds_words(plan["seeds"]) if plan["several"] else []
+        told = ["--program", words.program, "--workers", str(words.workers), "--jobs", str(words.jobs)]
+        own = [f"{place}/{plan['run']}", "--map", f"{place}/{plan['map']}", *plan["again"], *seeds]
+        with contextlib.redirect_stdout(io.StringIO()), contextlib.redirect_stderr(io.StringIO()):
+            run([*own, *told, "--out", folder])
+        if os.path.exists(lights := f"{place}/{os.path.dirname(plan['run'])}/{LIGHTS}"):
+            shutil.copy(lights, folder)
+    names = ["--names", f"{place}/{NAMES}"] if NAMES in seal.content["files"] else []
+    called = ["--plans", *(plan["name"] for plan in plans)]
+    return text_again([*folders, *seal.content["words"], *names, *called, "-o", words.target], seal)
+
+
+def check_folder(words: argparse.Namespace, study: bool) -> int:
+    """Checks a folder of a run, or of a study; gives the status."""
+    counts = Compared()
+    with tempfile.TemporaryDirectory() as place, Slow(f"running again what made {words.target}"):
+        with contextlib.redirect_stdout(io.StringIO()), contextlib.redirect_stderr(io.StringIO()):
+            anew = (study_again if study else folder_again)(words, f"{place}/out")
+        found = [Difference(*one) for one in compared(words.target, anew, counts)]
+    good = f"each of the {counts.numbers:,} numbers in {counts.files} files is that of a run"
+    return tell(words.target, found, good)

@@ -1,0 +1,55 @@
+"""Runs again what a folder of a run or of a study keeps."""
+import argparse
+import os
+import tempfile
+from collections.abc import Sequence
+
+from streetsim.base.files import Fault, read_json, whole_file
+from streetsim.cli.run import main as run
+from streetsim.cli.study import MADE
+from streetsim.cli.study import main as study
+from streetsim.model.folder import NAME
+from streetsim.model.sources import sum_of
+from streetsim.reports.sealing import plan_of
+from streetsim.results.reading import read_folders
+
+
+def seeds_words(seeds: Sequence[int]) -> list[str]:
+    """The words that name seeds; Fault where these do not follow each other."""
+    if list(seeds) != list(range(seeds[0], seeds[0] + len(seeds))):
+        raise Fault(f"seeds {', '.join(map(str, seeds))} do not follow each other: the runs of some were taken away")
+    return [f"--seeds={seeds[0]}-{seeds[-1]}"]
+
+
+def machine_words(words: argparse.Namespace) -> list[str]:
+    """The words that say by what it is run again."""
+    return ["--program", words.program, "--jobs", str(words.jobs)]
+
+
+def folder_again(words: argparse.Namespace, out: str) -> str:
+    """Makes the runs of a folder again, into another one; gives the part of it that is as the folder."""
+    plan, files = plan_of(read_folders(words.target), 1)
+    with tempfile.TemporaryDirectory() as place:
+        os.mkdir(f"{place}/plan-1")
+        for name, content in files.items():
+            with whole_file(f"{place}/{name}") as file:
+                file.write(content.decode())
+        own = [f"{place}/{plan['run']}", "--map", f"{place}/{plan['map']}", *plan["again"]]
+        seeds = seeds_words(plan["seeds"]) if plan["several"] else []
+        run([*own, *seeds, *machine_words(words), "--workers", str(words.workers), "--out", out])
+    return f"{out}/seed-{plan['seeds'][0]}" if seeds and os.path.exists(f"{words.target}/{NAME}") else out
+
+
+def is_study(folder: str) -> bool:
+    """Whether a folder is of streetsim-study."""
+    return os.path.exists(f"{folder}/{MADE}")
+
+
+def study_again(words: argparse.Namespace, out: str) -> str:
+    """Makes a study again, into another folder, which it gives; Fault where its file has changed since."""
+    made = read_json(f"{words.target}/{MADE}", ("study", "sum", "words"))
+    path = words.study or os.path.join(words.target, made["study"])
+    if sum_of(path) != made["sum"]:
+        raise Fault(f"{path}: has changed since the study was made")
+    study([path, *made["words"], *machine_words(words), "--out", out])
+    return out

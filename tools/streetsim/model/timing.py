@@ -1,0 +1,116 @@
+"""The programs of lights as they stand at the road: states over the cycle, movements, and which of these conflict."""
+from collections.abc import Iterable, Iterator, Sequence
+from dataclasses import dataclass
+from itertools import combinations
+
+from streetsim.base.files import Json
+
+MAIN, PERMISSIVE, YELLOW = "G", "g", "yY"
+OPEN = MAIN + PERMISSIVE
+RANK = "rsoOuyYgG"  # signs, those that let most go last
+
+
+@dataclass(slots=True, frozen=True)
+class Movement:
+    """From an edge to the next one at a light, by the places of its lanes in the states."""
+
+    edge: str
+    to: str
+    places: tuple[int, ...]
+
+
+@dataclass(slots=True)
+class Timing:
+    """A light's program."""
+
+    light: str
+    junction: str
+    offset: float  # seconds
+    phases: Sequence[tuple[float, str]]  # seconds and state
+    kind: str  # static, actuated, ..
+    movements: list[Movement]
+    conflicts: set[frozenset[int]]  # pairs of places in the states whose ways cross or join
+
+    def states(self) -> list[str]:
+        """The state in each second of the cycle; durations are rounded by their running sum."""
+        found: list[str] = []
+        clock = 0.0
+        for duration, state in self.phases:
+            clock += duration
+            found += [state] * (round(clock) - len(found))
+        return found
+
+    def signs(self, movement: Movement) -> str:
+        """What a movement is shown, a letter a second: of several lanes the one that lets most go."""
+        return "".join(max((state[place] for place in movement.places), key=RANK.find) for state in self.states())
+
+    def pairs(self) -> Iterator[tuple[Movement, Movement]]:
+        """The movements of different edges that conflict."""
+        for one, other in combinations(self.movements, 2):
+            if one.edge != other.edge and any(
+                frozenset((place, against)) in self.conflicts for place in one.places for against in other.places
+            ):
+                yield one, other
+
+    def clashes(self) -> Iterator[tuple[Movement, Movement, int]]:
+        """Conflicting movements that both have main greens together, and for how many seconds of the cycle."""
+        states = self.states()
+        for one, other in self.pairs():
+            both = [
+                (place, against)
+                for place in one.places
+                for against in other.places
+                if frozenset((place, against)) in self.conflicts
+            ]
+            count = sum(any(state[a] == state[b] == MAIN for a, b in both) for state in states)
+            if count:
+                yield one, other, count
+
+    def written(self) -> Json:
+        """As JSON, which `timing_of` reads."""
+        return {
+            "light": self.light, "junction": self.junction, "offset": self.offset,
+            "phases": [[*phase] for phase in self.phases],
+            "kind": self.kind, "movements": [[one.edge, one.to, list(one.places)] for one in self.movements],
+            "conflicts": sorted(sorted(pair) for pair in self.conflicts),
+        }
+
+
+def timing_of(value: Json) -> Timing:
+    """The program of its JSON."""
+    return Timing(
+        value["light"], value["junction"], value["offset"], [(seconds, state) for seconds, state in value["phases"]],
+        value["kind"], [Movement(edge, to, tuple(places)) for edge, to, places in value["movements"]],
+        {frozenset(pair) for pair in value["conflicts"]},
+    )
+
+
+def runs_of(signs: str, those: str) -> list[tuple[int, int]]:
+    """The (begin, seconds) of each run of some letters over a cycle, which may go on over its end."""
+    count = len(signs)
+    if all(sign in those for sign in signs):
+        return [(0, count)] if count else []
+    begins = [at for at in range(count) if signs[at] in those and signs[at - 1] not in those]
+    return [
+        (at, next(length for length in range(1, count) if signs[(at + length) % count] not in those)) for at in begins
+    ]
+
+
+def intergreen(first: str, second: str) -> int | None:
+    """The least seconds from the end of a green of one movement to the next begin of another's; none where both have
+    green together, or one has none."""
+    count = len(first)
+    if any(one in OPEN and other in OPEN for one, other in zip(first, second, strict=True)):
+        return None
+    ends = [(begin + seconds) % count for begin, seconds in runs_of(first, OPEN)]
+    begins = [begin for begin, _ in runs_of(second, OPEN)]
+    gaps = [min((begin - end) % count for end in ends) for begin in begins] if ends else []
+    return min(gaps, default=None)
+
+
+def together(movements: Iterable[tuple[str, str, int]]) -> list[Movement]:
+    """Movements of (edge, next edge, place in the state), each once."""
+    found: dict[tuple[str, str], list[int]] = {}
+    for edge, to, place in movements:
+        found.setdefault((edge, to), []).append(place)
+    return [Movement(edge, to, tuple(sorted(set(places)))) for (edge, to), places in sorted(found.items())]

@@ -1,0 +1,144 @@
+"""A page as a list of its words, numbers and pictures, with their places, so that two pages can be compared."""
+import re
+from collections.abc import Iterator, Sequence
+from dataclasses import dataclass
+from difflib import SequenceMatcher
+from html.parser import HTMLParser
+
+NUMBER = re.compile(r"\d+(?:[.,]\d+)*")
+LONG = 60  # letters of what is said of a difference
+HEADS = ("h1", "h2", "h3")
+
+
+@dataclass(slots=True, frozen=True)
+class Element:
+    """A tag with its attributes, or a text of the page."""
+
+    text: str
+    place: str  # section, row and column where it stands
+
+
+@dataclass(slots=True, frozen=True)
+class Difference:
+    """What a page says at a place, and what was found."""
+
+    place: str
+    said: str
+    found: str
+
+    def told(self) -> str:
+        """In words."""
+        said, found = apart(self.said, self.found)
+        return f"{self.place}: said {said!r}, found {found!r}"
+
+
+def apart(said: str, found: str) -> tuple[str, str]:
+    """Two texts, where they are long as their parts around the first difference."""
+    if len(said) <= LONG and len(found) <= LONG:
+        return said, found
+    at = next((at for at, (one, other) in enumerate(zip(said, found)) if one != other), min(len(said), len(found)))
+    begin = max(0, at - LONG // 3)
+    return said[begin : begin + LONG], found[begin : begin + LONG]
+
+
+class Reader(HTMLParser):
+    """Reads a page into elements."""
+
+    def __init__(self) -> None:
+        super().__init__(convert_charrefs=True)
+        self.found: list[Element] = []
+        self.heads = {name: "" for name in HEADS}
+        self.open = ""  # the heading or cell that is read
+        self.columns: list[str] = []
+        self.column, self.row = -1, ""
+
+    @property
+    def place(self) -> str:
+        """Where the reader is."""
+        heads = [self.heads["h2"] or self.heads["h1"], self.heads["h3"]]
+        column = self.columns[self.column] if 0 <= self.column < len(self.columns) else ""
+        return ", ".join(filter(None, [*heads, self.row, column])) or "the page's head"
+
+    def handle_starttag(self, tag: str, attributes: list[tuple[str, str | None]]) -> None:
+        self.begin("row" if tag == "th" and ("scope", "row") in attributes else tag)
+        told = "".join(f' {name}="{value}"' for name, value in attributes)
+        self.found.append(Element(f"<{tag}{told}>", self.place))
+
+    def begin(self, tag: str) -> None:
+        """Notes that a heading, a table, a row or a cell begins."""
+        if tag in HEADS:
+            self.open, self.column, self.row = tag, -1, ""
+            for name in HEADS[HEADS.index(tag) :]:
+                self.heads[name] = ""
+        elif tag == "table":
+            self.columns, self.row = [], ""
+        elif tag == "tr":
+            self.column, self.row = -1, ""
+        elif tag == "row":
+            self.column, self.open = 0, "td"
+        elif tag in ("td", "th"):
+            self.column, self.open = self.column + 1, tag
+            if tag == "th":
+                self.columns.append("")
+        elif tag in ("p", "ul", "figure", "svg", "nav"):
+            self.column, self.row = -1, ""
+
+    def handle_endtag(self, tag: str) -> None:
+        self.found.append(Element(f"</{tag}>", self.place))
+        if tag in (*HEADS, "td", "th"):
+            self.open = ""
+        if tag == "table":
+            self.columns, self.column, self.row = [], -1, ""
+
+    def handle_data(self, data: str) -> None:
+        if self.open in HEADS:
+            self.heads[self.open] += data
+        elif self.open == "th" and self.columns:
+            self.columns[-1] += data
+        elif self.open == "td" and self.column == 0:
+            self.row += data
+        if data.strip():
+            self.found.append(Element(data.strip(), self.place))
+
+    def handle_comment(self, data: str) -> None:
+        self.found.append(Element(f"<!--{data}-->", self.place))
+
+    def handle_decl(self, decl: str) -> None:
+        self.found.append(Element(f"<!{decl}>", self.place))
+
+
+def elements_of(text: str) -> list[Element]:
+    """The elements of a page's text."""
+    reader = Reader()
+    reader.feed(text)
+    reader.close()
+    return reader.found
+
+
+def numbers_in(text: str) -> int:
+    """How many numbers a page has, in words, tables and pictures, without its styles and what is sealed."""
+    shown = re.sub(r"<(style|script)\b.*?</\1>|data:image/png;base64,[^\"]*", "", text, flags=re.DOTALL)
+    return len(NUMBER.findall(shown))
+
+
+def differences(said: str, found: str) -> list[Difference]:
+    """Where two pages differ; none where they are equal to the byte."""
+    if said == found:
+        return []
+    first, second = elements_of(said), elements_of(found)
+    told = list(pairs(first, second))
+    return told or [Difference("between the words", *apart(said, found))]
+
+
+def pairs(first: Sequence[Element], second: Sequence[Element]) -> Iterator[Difference]:
+    """What differs of two lists of elements, one after the other where they have as many."""
+    if len(first) == len(second):
+        for one, other in zip(first, second, strict=True):
+            if one.text != other.text:
+                yield Difference(other.place, one.text, other.text)
+        return
+    said, found = ([one.text for one in side] for side in (first, second))
+    for kind, begin, end, start, stop in SequenceMatcher(None, said, found, autojunk=False).get_opcodes():
+        if kind != "equal":
+            place = (second[start:stop] or first[begin:end])[0].place
+            yield Difference(place, "".join(said[begin:end]), "".join(found[start:stop]))

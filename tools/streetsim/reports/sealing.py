@@ -1,0 +1,96 @@
+"""Seals a page: gathers the run files, maps, words and sums of its runs."""
+import gzip
+import hashlib
+import os
+from collections.abc import Sequence
+from importlib.util import find_spec
+from pathlib import Path
+
+from streetsim.base.files import Fault, Json, read_json, reading
+from streetsim.model.folder import KEPT, LIGHTS, NAME, Folder
+from streetsim.reports.seal import Seal, canonical, sealed
+from streetsim.results.reading import Runs
+from streetsim.results.timings import path_of
+
+NAMES = "names.csv"  # the sealed file of names of one's own
+PACKAGE = Path(__file__).parents[1]
+
+
+def seal_for(
+    plans: Sequence[Runs], words: Sequence[str], page: str, names: str | None
+) -> tuple[Seal, dict[str, bytes]]:
+    """The seal of a page of some plans, made by words, and the files that are for the one beside it. names: the file of
+    names of one's own. Fault where a plan's folder does not keep what made it."""
+    files: dict[str, bytes] = {}
+    made = []
+    for place, runs in enumerate(plans, 1):
+        plan, own = plan_of(runs, place)
+        made.append(plan)
+        files.update(own)
+    if names:
+        with reading(names):
+            files[NAMES] = Path(names).read_bytes()
+    content = {"words": list(words), "plans": made, "tools": tools_sum(), "drawn_by": drawn_by()}
+    return sealed(content, files, page)
+
+
+def plan_of(runs: Runs, place: int) -> tuple[Json, dict[str, bytes]]:
+    """What the seal says of a plan, and its files; place: from 1."""
+    folder, made = runs.first, runs.first.made
+    lines = kept_lines(runs)
+    if len({canonical(how(one)) for one in runs.folders.values()}) > 1:
+        raise Fault(f"{folder.path}: seeds of several runs: they cannot be sealed as one")
+    run, mapped = f"plan-{place}/{made['run']}", f"plan-{place}/map.json"
+    several = os.path.basename(os.path.normpath(folder.path)).startswith("seed-")
+    plan = {
+        "name": runs.name, "run": run, "map": mapped, "words": made["words"], "again": made["again"],
+        "seeds": list(runs.folders), "several": several, "program": made.get("program"),
+    }
+    files = {run: lines, mapped: canonical(map_of(folder)).encode()}
+    if lights := path_of(runs):
+        files[f"plan-{place}/{LIGHTS}"] = Path(lights).read_bytes()
+    return plan, files
+
+
+def how(folder: Folder) -> Json:
+    """By what a folder's run was made, but for its seed."""
+    return {name: folder.made.get(name) for name in ("run", "words", "again", "lines", "program")}
+
+
+def map_of(folder: Folder) -> Json:
+    """The map as the run has kept it, without names that were given to it later."""
+    value: Json = read_json(f"{folder.path}/{NAME}", ("map",))["map"]
+    return value
+
+
+def kept_lines(runs: Runs) -> bytes:
+    """The lines of the run; Fault where its folder does not keep them, or other ones than its setting says."""
+    folder = runs.first
+    places = [f"{folder.path}/{KEPT}", f"{os.path.dirname(os.path.normpath(folder.path))}/{KEPT}"]
+    path = next(filter(os.path.exists, places), None)
+    if path is None or "words" not in folder.made:
+        why = "as another tool or an older one made it: streetsim-run makes it anew"
+        raise Fault(f"{folder.path}: keeps no {KEPT}, {why}")
+    with reading(path):
+        content = gzip.decompress(Path(path).read_bytes())
+    if hashlib.sha256(content).hexdigest() != folder.made["lines"]:
+        raise Fault(f"{path}: was changed since the run was made")
+    return content
+
+
+def tools_sum() -> str:
+    """The SHA-256 of the tools' own files."""
+    found = hashlib.sha256()
+    for path in sorted(PACKAGE.rglob("*")):
+        if path.suffix in (".py", ".html", ".js"):
+            found.update(f"{path.relative_to(PACKAGE)}\n".encode() + path.read_bytes())
+    return found.hexdigest()
+
+
+def drawn_by() -> str:
+    """The version of what draws pictures of points; empty where there is none."""
+    if find_spec("matplotlib") is None:
+        return ""
+    from importlib.metadata import version
+
+    return version("matplotlib")

@@ -1,0 +1,171 @@
+"""Signal timing sheets: a page for each light, its program over the cycle with both plans, and times between greens."""
+from collections.abc import Mapping, Sequence
+from html import escape
+
+from streetsim.model.names import Names
+from streetsim.model.timing import MAIN, PERMISSIVE, YELLOW, Movement, Timing, intergreen, runs_of
+from streetsim.reports.drawing import anchor
+from streetsim.reports.markup import table
+from streetsim.results.reading import Runs
+
+COLOURS = ((MAIN, "#1b7837"), (PERMISSIVE, "#a6dba0"), (YELLOW, "#fdd835"), ("s", "#d9f0d3"), ("uoO", "#fdae61"))
+LEFT, WIDE, ROW = 300, 900, 20  # pixels
+LEGEND = (
+    "Dark: green. Light: green, but gives way. Yellow: yellow. Grey: red. The seconds are those of the cycle, which "
+    "begins at the offset."
+)
+Timings = Mapping[str, Timing]  # by light
+
+
+def sheets(plans: Sequence[tuple[str, Timings]], lights: Sequence[str], names: Names) -> str:
+    """A sheet for each of some lights, as HTML; plans: name and programs, one or before and after."""
+    key = f'<p class="small">{escape(LEGEND)}</p>'
+    return key + "".join(sheet([(name, one.get(light)) for name, one in plans], light, names) for light in lights)
+
+
+def sheet(plans: Sequence[tuple[str, Timing | None]], light: str, names: Names) -> str:
+    """The sheet of a light."""
+    known = [(name, timing) for name, timing in plans if timing]
+    if not known:
+        return ""
+    called = names.junction(known[0][1].junction)
+    title = f"{called} (light {light})" if called else f"Light {light}"
+    parts = [f'<h3 id="{anchor(light).replace("junction", "light")}">{escape(title)}</h3>']
+    if len(known) == 2 and known[0][1].phases == known[1][1].phases:
+        offsets = [f"{timing.offset:g} s" for _, timing in known]
+        told = "Both plans show the same." if offsets[0] == offsets[1] else ""
+        told = told or f"Both plans have the same phases; the offset is {offsets[0]} before and {offsets[1]} after."
+        parts.append(f"<p>{told}</p>")
+        known = known[1:]
+    for name, timing in known:
+        parts.append(program(name, timing, names, timing is known[-1][1]))
+    return f'<section class="sheet">{"".join(parts)}</section>'
+
+
+def changed(before: Timings, after: Timings) -> list[str]:
+    """The lights that show something else with the second plan."""
+    return [light for light in sorted(after) if light in before and not same(before[light], after[light])]
+
+
+def clashes(timings: Timings, runs: Runs) -> list[str]:
+    """The lights that show main green to movements that conflict, as doubts."""
+    names = runs.names
+    return [
+        f"Fault of light {light}: {movement(one, names)} and {movement(other, names)} conflict and have main green "
+        f"together for {seconds} s of each cycle; here both go at once."
+        for light, timing in sorted(timings.items())
+        for one, other, seconds in timing.clashes()
+    ]
+
+
+def same(one: Timing, other: Timing) -> bool:
+    """Whether two programs show the same at the same time."""
+    return (one.offset, list(one.phases)) == (other.offset, list(other.phases))
+
+
+def program(name: str, timing: Timing, names: Names, is_last: bool) -> str:
+    """A light's program with one plan: what it is, bars, phases, greens, faults; of the last plan also times between
+    greens."""
+    cycle = len(timing.states())
+    kind = "" if timing.kind == "static" else f", {timing.kind}: listed durations"
+    told = f"{name}: cycle {cycle} s, offset {timing.offset:g} s, {len(timing.phases)} phases{kind}"
+    faults = [
+        f"{movement(one, names)} and {movement(other, names)} conflict and have main green together for {seconds} s"
+        for one, other, seconds in timing.clashes()
+    ]
+    marks = "".join(f'<p class="doubt">Fault: {escape(fault)}.</p>' for fault in faults)
+    parts = [bars(timing, names), phases_table(timing), greens_table(timing, names)]
+    parts += [intergreens(timing, names)] if is_last else []
+    return f'<h4>{escape(told)}</h4>{marks}<div class="picture">{parts[0]}</div>{"".join(parts[1:])}'
+
+
+def movement(one: Movement, names: Names) -> str:
+    """A movement's name."""
+    return names.movement(one.edge, one.to)
+
+
+def bars(timing: Timing, names: Names) -> str:
+    """A bar for each movement over the cycle."""
+    cycle, parts = len(timing.states()), []
+    scale = (WIDE - LEFT - 10) / cycle
+    for place, one in enumerate(timing.movements):
+        y = 4 + ROW * place
+        parts.append(f'<text x="{LEFT - 6}" y="{y + 12}" text-anchor="end">{escape(movement(one, names)[:52])}</text>')
+        parts.append(f'<rect x="{LEFT}" y="{y + 6}" width="{cycle * scale:.1f}" height="3" fill="#999"/>')
+        signs = timing.signs(one)
+        for letters, colour in COLOURS:
+            for begin, seconds in runs_of(signs, letters):
+                for start, length in unfolded(begin, seconds, cycle):
+                    title = f"{begin} to {(begin + seconds) % cycle or cycle} s"
+                    box = f'x="{LEFT + start * scale:.1f}" y="{y}" width="{length * scale:.1f}" height="14"'
+                    parts.append(f'<rect {box} fill="{colour}" stroke="#333"><title>{title}</title></rect>')
+    low = 4 + ROW * len(timing.movements)
+    for second in ticks(cycle):
+        x = LEFT + second * scale
+        parts.append(f'<line x1="{x:.1f}" x2="{x:.1f}" y1="0" y2="{low}" stroke="#0003"/>')
+        parts.append(f'<text x="{x:.1f}" y="{low + 13}" text-anchor="middle">{second}</text>')
+    shape = f'viewBox="0 0 {WIDE} {low + 18}" role="img" aria-label="Greens over the cycle"'
+    return f'<svg class="bars" {shape}>{"".join(parts)}</svg>'
+
+
+def unfolded(begin: int, seconds: int, cycle: int) -> list[tuple[int, int]]:
+    """A run over the end of a cycle as two, (begin, seconds)."""
+    if begin + seconds <= cycle:
+        return [(begin, seconds)]
+    return [(begin, cycle - begin), (0, begin + seconds - cycle)]
+
+
+def ticks(cycle: int) -> range:
+    """The seconds that the axis names."""
+    step = next(step for step in (5, 10, 20, 50, 100, 500, 5000, 50_000) if cycle / step <= 20)
+    return range(0, cycle + 1, step)
+
+
+def phases_table(timing: Timing) -> str:
+    """The phases, with what they show."""
+    rows, clock = [], 0.0
+    for number, (seconds, state) in enumerate(timing.phases, 1):
+        what = "green" if set(state) & set(MAIN + PERMISSIVE) else "red"
+        what = "yellow" if set(state) & set(YELLOW) else what
+        rows.append([what, escape(state), str(number), f"{clock:g}", f"{clock + seconds:g}", f"{seconds:g}"])
+        clock += seconds
+    return table(["phase of", "state", "phase", "from, s", "until, s", "seconds"], rows, names=2)
+
+
+def greens_table(timing: Timing, names: Names) -> str:
+    """The greens, yellow and red of each movement."""
+    rows = []
+    for one in timing.movements:
+        signs = timing.signs(one)
+        cycle = len(signs)
+        greens = runs_of(signs, MAIN + PERMISSIVE)
+        told = ", ".join(f"{begin} to {(begin + seconds) % cycle or cycle}" for begin, seconds in greens)
+        gives_way = sum(sign == PERMISSIVE for sign in signs)
+        numbers = [sum(seconds for _, seconds in greens), gives_way, sum(sign in YELLOW for sign in signs)]
+        red = cycle - numbers[0] - numbers[2]
+        ids = f'<span class="ids">{escape(f"{one.edge} to {one.to}")}</span>'
+        rows.append([escape(movement(one, names)), ids, told or "never", *map(str, (*numbers, red))])
+    head = ["movement", "from and to edge", "green in the cycle, s", "green, s", "gives way, s", "yellow, s", "red, s"]
+    return table(head, rows, names=2)
+
+
+def intergreens(timing: Timing, names: Names) -> str:
+    """The seconds between greens of movements that conflict, the shortest first."""
+    rows = []
+    for pair in timing.pairs():
+        for one, other in (pair, pair[::-1]):
+            gap = intergreen(timing.signs(one), timing.signs(other))
+            if gap is not None:
+                rows.append((gap, movement(one, names), movement(other, names)))
+    if not rows:
+        return ""
+    least = min(rows)[0]
+    first = [row for row in sorted(rows) if row[0] <= least + 1][:8]
+    told = table(
+        ["green ends", "conflicting green begins", "seconds between"],
+        [[escape(one), escape(other), str(gap)] for gap, one, other in first],
+        names=2,
+    )
+    left = len(rows) - len(first)
+    more = f'<p class="small">{left} other pairs have as many seconds or more.</p>' if left else ""
+    return f"<p>Least time between conflicting greens: {least} s.</p>{told}{more}"
