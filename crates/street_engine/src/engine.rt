@@ -24,11 +24,11 @@ const LEAST_LENT: u64 = 30_000;
 /// From about how many vehicles in cells on threads that stay for many steps save more time than they wait for each other.
 const LEAST_STAYING: u64 = 1_500;
 
-/// How much longer a step takes where threads that stay share it, in thirds of what one vehicle takes.
-const SHARING: u64 = 1_200;
+/// How much longer a step takes where threads that stay share it, in thirds of what a vehicle on a full link of one lane takes.
+const SHARING: u64 = 1_500;
 
 /// How much longer for each of these threads.
-const THREAD: u64 = 450;
+const THREAD: u64 = 3_300;
 
 /// A gate that watches no worker, and lets them share a step where there is enough to do. Threads that are started for each part of a
 /// step, and threads that stay, are worth their cost from different numbers of vehicles on: a gate is for the ones or the others.
@@ -70,7 +70,7 @@ impl Gate for Unwatched {
         self.processors
     }
 
-    // In thirds of what a vehicle takes. Beside others a thread moves its vehicles slower, and it waits for them.
+    // In thirds of what a vehicle on a full link of one lane takes, some 15 ns. Beside others a thread is slower, and it waits for them.
     fn step_time(&self, threads: usize, busiest: u64) -> u64 {
         if self.from == 0 {
             return u64::MAX - threads as u64;

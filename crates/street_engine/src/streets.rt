@@ -305,8 +305,8 @@ impl Streets {
 
     /// Whether the workers share the next step, as the gate says of the vehicles in cells; never where there is one tile.
     fn shares_next_step<G: Gate>(&self, gate: &G) -> bool {
-        let tiles = self.tiles.len();
-        tiles > 1 && gate.shares(self.tiles.most_in_block(1), self.tiles.most_in_block(tiles))
+        let (vehicles, fullest) = self.tiles.in_cells();
+        self.tiles.len() > 1 && gate.shares(vehicles, fullest)
     }
 
     /// How many threads the next steps take, the caller's among them: this alone where the workers do not share the next step, else one

@@ -40,8 +40,8 @@ pub trait Gate {
     }
 
     /// Asked where workers that stay share the next steps, of each number of threads, the calling one among them: how long a step takes, in
-    /// any unit, where the busiest thread has so many vehicles in cells. As many stay as need least; of equal numbers the smallest.
-    /// The steps are the same.
+    /// any unit, where the busiest thread has so much to do, in what a step takes of a vehicle on a full link of one lane. As many stay
+    /// as need least; of equal numbers the smallest. The steps are the same.
     fn step_time(&self, threads: usize, busiest: u64) -> u64 {
         u64::MAX - threads as u64
     }

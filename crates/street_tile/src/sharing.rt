@@ -8,24 +8,69 @@ use std::alloc::Global;
 use street_base::Starved;
 use street_team::{Block, blocks};
 
-/// Neighbouring tiles: how many, and how many vehicles are in their cells.
+/// What a step takes of a lane, apart from its vehicles, in what it takes of a vehicle on a full link of one lane.
+const LANE: u64 = 2;
+
+/// What it takes of a tile, apart from its lanes.
+const TILE: u64 = 25;
+
+/// What it takes more of a vehicle on a link of two lanes.
+const BESIDE: u64 = 2;
+
+/// Neighbouring tiles: how many, how many vehicles are in their cells, and how many lanes they have.
 #[derive(Clone, Copy)]
 struct Span {
     tiles: usize,
     cells: u64,
+    lanes: u64,
+}
+
+impl Span {
+    /// No tile.
+    fn empty() -> Span {
+        Span {
+            tiles: 0,
+            cells: 0,
+            lanes: 0,
+        }
+    }
+
+    /// These and a tile more.
+    fn with(self, tile: &Tile) -> Span {
+        Span {
+            tiles: self.tiles.saturating_add(1),
+            cells: self.cells.saturating_add(tile.totals().cells),
+            lanes: self.lanes.saturating_add(tile.own.len() as u64),
+        }
+    }
+
+    /// What is left behind a first block.
+    fn without(self, first: Span) -> Span {
+        Span {
+            tiles: self.tiles.saturating_sub(first.tiles),
+            cells: self.cells.saturating_sub(first.cells),
+            lanes: self.lanes.saturating_sub(first.lanes),
+        }
+    }
 }
 
 impl Tiles {
+    /// How many vehicles are in cells, and how many of these in the tile that has most of them.
+    pub fn in_cells(&self) -> (u64, u64) {
+        let mut most = 0;
+        for tile in &self.tiles {
+            most = most.max(tile.totals().cells);
+        }
+        (self.whole().cells, most)
+    }
+
     /// All tiles.
     fn whole(&self) -> Span {
-        let mut cells: u64 = 0;
+        let mut whole = Span::empty();
         for tile in &self.tiles {
-            cells = cells.saturating_add(tile.totals().cells);
+            whole = whole.with(tile);
         }
-        Span {
-            tiles: self.tiles.len(),
-            cells,
-        }
+        whole
     }
 
     /// The first of so many blocks of the last tiles: it ends where it comes nearest to its share of the vehicles, and leaves a tile for
@@ -33,27 +78,41 @@ impl Tiles {
     fn first_block(&self, rest: Span, blocks: usize) -> Span {
         let share = rest.cells / (blocks as u64).max(1);
         let most = rest.tiles.saturating_sub(blocks.saturating_sub(1));
-        let mut block = Span { tiles: 0, cells: 0 };
+        let mut block = Span::empty();
         for i in self.tiles.len().saturating_sub(rest.tiles)..self.tiles.len() {
-            let cells = block.cells.saturating_add(self.tiles[i].totals().cells);
-            let is_full = cells.saturating_sub(share) > share.saturating_sub(block.cells);
+            let more = block.with(&self.tiles[i]);
+            let is_full = more.cells.saturating_sub(share) > share.saturating_sub(block.cells);
             if block.tiles == most || block.tiles > 0 && is_full {
                 return block;
             }
-            block.tiles = block.tiles.saturating_add(1);
-            block.cells = cells;
+            block = more;
         }
         block
     }
 
-    /// How many vehicles are in cells of the fullest of so many blocks: all of them of one block, those of the fullest tile of as many
-    /// blocks as there are tiles.
+    /// How much a step takes of a block, in what it takes of a vehicle on a full link of one lane. Which links its vehicles are on is
+    /// reckoned by how many of all lanes lie beside another.
+    fn load_of(&self, block: Span, whole: Span) -> u64 {
+        let links = self.network.spec().links.as_slice().len() as u64;
+        let beside = whole.lanes.saturating_sub(links).saturating_mul(2);
+        let more = block.cells.saturating_mul(BESIDE).saturating_mul(beside) / whole.lanes.max(1);
+        let lanes = block.lanes.saturating_mul(LANE);
+        let tiles = (block.tiles as u64).saturating_mul(TILE);
+        block
+            .cells
+            .saturating_add(more)
+            .saturating_add(lanes)
+            .saturating_add(tiles)
+    }
+
+    /// How much a step takes of the fullest of so many blocks, in what it takes of a vehicle on a full link of one lane.
     pub fn most_in_block(&self, blocks: usize) -> u64 {
         let mut most = 0;
-        let mut rest = self.whole();
+        let whole = self.whole();
+        let mut rest = whole;
         for done in 0..blocks {
             let block = self.first_block(rest, blocks - done);
-            most = most.max(block.cells);
+            most = most.max(self.load_of(block, whole));
             rest = rest.without(block);
         }
         most
@@ -74,15 +133,5 @@ impl Tiles {
             rest = rest.without(block);
         }
         Ok(blocks(alloc, &rooms, self.view.len())?)
-    }
-}
-
-impl Span {
-    /// What is left behind a first block.
-    fn without(self, first: Span) -> Span {
-        Span {
-            tiles: self.tiles.saturating_sub(first.tiles),
-            cells: self.cells.saturating_sub(first.cells),
-        }
     }
 }
