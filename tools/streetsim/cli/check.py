@@ -20,7 +20,7 @@ from streetsim.model.sources import digest_of
 from streetsim.reports.elements import Difference, differences, numbers_in
 from streetsim.reports.pixels import without_pixels
 from streetsim.reports.seal import Seal, files_of, seal_of
-from streetsim.reports.sealing import NAMES, drawn_by, tools_sum
+from streetsim.reports.sealing import COUNTS, NAMES, drawn_by, tools_sum
 from streetsim.results.tallying import Compared, compared
 
 MOST = 3  # differences told
@@ -113,6 +113,8 @@ def made_again(words: argparse.Namespace, seal: Seal, place: str) -> str:
         if os.path.exists(lights := f"{place}/{os.path.dirname(plan['run'])}/{LIGHTS}"):
             shutil.copy(lights, folder)
     names = ["--names", f"{place}/{NAMES}"] if NAMES in seal.content["files"] else []
+    counts = sorted((name for name in seal.content["files"] if name.startswith(COUNTS)), key=len)
+    names += ["--counts", *(f"{place}/{name}" for name in counts)] if counts else []
     called = ["--plans", *(plan["name"] for plan in plans)]
     return text_again([*folders, *seal.content["words"], *names, *called, "-o", words.target], seal)
 

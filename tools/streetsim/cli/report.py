@@ -10,8 +10,12 @@ from html import escape
 from streetsim.base import limits
 from streetsim.base.files import Fault, place_of, whole_file
 from streetsim.base.report import some
-from streetsim.base.words import Parser, add_names, listed, time_within, within
+from streetsim.base.words import Parser, add_names, files_of, listed, time_within, within
 from streetsim.cli.given import given_words
+from streetsim.counts.judging import judged
+from streetsim.counts.reading import read_counts
+from streetsim.counts.reporting import counts_section
+from streetsim.counts.seen import passed_in
 from streetsim.model.folder import Folder
 from streetsim.model.names import read_own
 from streetsim.model.tables import write_table
@@ -19,7 +23,7 @@ from streetsim.reports.council import junctions_of
 from streetsim.reports.making import Wishes, report_of
 from streetsim.reports.markup import Section, image
 from streetsim.reports.seal import Seal, beside_of, write_beside
-from streetsim.reports.sealing import seal_for
+from streetsim.reports.sealing import COUNTS, NAMES, seal_for
 from streetsim.reports.sheets import Timings, changed, clashes, sheets
 from streetsim.reports.tables import CHANGES, change_rows
 from streetsim.results.reading import Runs, read_runs
@@ -28,7 +32,7 @@ from streetsim.results.series import reds, trajectories, way_back
 
 # Words that say where a page is and what it is of; --plans and --names are sealed beside them.
 ALL = "all"
-ELSEWHERE = ("runs", "output", "csv", "names", "plans", "sealed")
+ELSEWHERE = ("runs", "output", "csv", "names", "plans", "sealed", "counts")
 PICTURE = {"first": 0, "last": 600}  # seconds of the corridor's picture
 
 
@@ -70,6 +74,12 @@ def parser() -> Parser:
         help="a signal timing sheet for each of these lights, with commas between (default: all that plans change, or "
         "all of one plan)",
     )
+    made.add_argument(
+        "--counts", nargs="+", default=[], metavar="FILE", help="counts beside the first RUN, as of streetsim-compare"
+    )
+    made.add_argument(
+        "--attribute", metavar="NAME", help="of SUMO's files of counts, that is the count, as of streetsim-compare"
+    )
     made.add_argument("--csv", metavar="FILE", help="also write all junctions and movements, before and after (.csv)")
     made.add_argument(
         "--begin", type=time_within(0, limits.CLOCK), metavar="S", help="the interval shown (default: the busiest)"
@@ -97,7 +107,7 @@ def main(arguments: list[str]) -> int:
     seal: Seal | None = None
     large: dict[str, bytes] = {}
     if words.sealed:
-        seal, large = seal_for(plans, given, words.output, words.names)
+        seal, large = seal_for(plans, given, words.output, files_beside(words))
     text = report_of(plans, shown, wishes_of(plans, words, seal))
     write_beside(words.output, large)
     with whole_file(words.output) as file:
@@ -108,6 +118,12 @@ def main(arguments: list[str]) -> int:
     beside = f", and {beside_of(words.output)} beside it" if large else ""
     print(f"{words.output}: {count} junctions, {len(text.encode()):,} bytes{beside}")
     return 0
+
+
+def files_beside(words: argparse.Namespace) -> dict[str, str]:
+    """The files of a page beside its runs, {name in its seal: path}."""
+    found = {NAMES: words.names} if words.names else {}
+    return found | {f"{COUNTS}{at}": path for at, path in enumerate(files_of(words.counts), 1)}
 
 
 def text_again(arguments: list[str], seal: Seal) -> str:
@@ -127,7 +143,9 @@ def refuse(words: argparse.Namespace) -> None:
         raise Fault("a report is of one run, or of two: before and after")
     if words.plans and len(words.plans) != len(words.runs):
         raise Fault(f"--plans: {len(words.plans)} names for {len(words.runs)} runs")
-    for name in ("corridor", "sheets"):
+    if words.attribute and not words.counts:
+        raise Fault("--attribute is of --counts: give it too")
+    for name in ("corridor", "sheets", "counts"):
         if words.short and getattr(words, name):
             raise Fault(f"--{name} is of the appendix, which --short leaves out")
     for name, default in PICTURE.items():
@@ -155,11 +173,19 @@ def wishes_of(plans: Sequence[Runs], words: argparse.Namespace, seal: Seal | Non
     pictures = []
     if words.corridor:
         pictures.append(Section("corridor", "Corridor", "".join(corridor(runs, words) for runs in plans)))
+    if words.counts:
+        pictures.append(Section("counts", "Beside counts", counts_told(plans[0], words)))
     timings = [timings_of(runs) for runs in plans]
     if words.sheets:
         pictures.append(Section("sheets", "Signal timing sheets", sheets_told(plans, timings, words.sheets)))
     last, doubts = seal.html() if seal else "", clashes(timings[-1], plans[-1])
     return Wishes(words.title, words.question, words.detail, words.short, doubts, pictures, last)
+
+
+def counts_told(runs: Runs, words: argparse.Namespace) -> str:
+    """Counts beside a plan's first seed."""
+    counts = read_counts(files_of(words.counts), words.attribute)
+    return counts_section(runs.name, judged(counts, passed_in(runs.first, counts)), runs.first.mapping)
 
 
 def sheets_told(plans: Sequence[Runs], timings: Sequence[Timings], asked: str) -> str:

@@ -9,7 +9,7 @@ from itertools import pairwise
 from streetsim.base.files import Fault, open_text, reading
 from streetsim.counts.checking import check_periods
 from streetsim.counts.values import Count
-from streetsim.model.folder import Folder
+from streetsim.model.folder import KEPT, Folder
 from streetsim.model.mapping import Map
 from streetsim.model.runs import read_run
 
@@ -192,10 +192,12 @@ class Traces:
 
 
 def driven_in(folder: Folder) -> list[Driven]:
-    """The vehicles of the run file, where it lies beside the folder or here and has as many; none elsewhere."""
+    """The vehicles of the run file, where the folder keeps it, or it lies beside it or here, and has as many; none
+    elsewhere."""
     name, trips = str(folder.made.get("run", "")), folder.trips()
-    beside = os.path.join(os.path.dirname(os.path.abspath(folder.path)), name)
-    path = next((path for path in (beside, name) if name and os.path.isfile(path)), None)
+    above = os.path.dirname(os.path.abspath(folder.path))
+    places = (f"{folder.path}/{KEPT}", f"{above}/{KEPT}", os.path.join(above, name), name)
+    path = next((path for path in places if name and os.path.isfile(path)), None)
     if path is None:
         return []
     run = read_run(path)

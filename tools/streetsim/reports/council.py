@@ -5,6 +5,7 @@ from html import escape
 from streetsim.base.report import HEAVY
 from streetsim.model.names import Names
 from streetsim.model.service import COLOURS
+from streetsim.reports import works
 from streetsim.reports.choosing import Told, told_of
 from streetsim.reports.comparing import Difference, paired, total_delay
 from streetsim.reports.costs import NOTICED, Costs, costs_of
@@ -106,8 +107,10 @@ def map_section(runs: Runs, shown: Interval, rows: Sequence[Told] = (), detailed
     }
     signs = {one.key[0]: one.change.change for one in rows if one.changes and one.change}
     legend = " ".join(letter_mark(letter) for letter in COLOURS)
-    picture = map_picture(runs.first.mapping, approaches, junctions, signs)
+    closed = works.stretches(runs)
+    picture = map_picture(runs.first.mapping, approaches, junctions, signs, closed)
     more = "; &#9650; waits more and &#9660; less than before, for sure" if signs else ""
+    more += "; black: road works" if closed else ""
     told = f"{escape(runs.name)}: approaches and junctions by level of service {legend}{more}"
     return f"<figure>{picture}<figcaption>{told}</figcaption></figure>"
 

@@ -1,5 +1,5 @@
 """Pictures of a report, as SVG: the map by delay, and queues beside the room that they have."""
-from collections.abc import Mapping, Sequence
+from collections.abc import Callable, Mapping, Sequence
 from html import escape
 from math import hypot
 
@@ -19,19 +19,13 @@ def map_picture(
     approaches: Mapping[str, tuple[str, str]],
     junctions: Mapping[str, tuple[str, str, bool]],
     signs: Mapping[str, float] | None = None,
+    works: Sequence[Shape] = (),
 ) -> str:
     """The streets; approaches by the colour of their level of service, junctions as marks with theirs.
     approaches: {edge: (letter, text)}, junctions: {name: (letter, text, whether the page tells
     it in detail)}; signs: by junction the change of its delay,
-    of those that change."""
-    points = [point for link in mapping.links for point in link.shape]
-    (left, right), (low, high) = ((min(values), max(values)) for values in zip(*points, strict=True))
-    scale = min((WIDE - 60) / max(1.0, right - left), (MOST_HIGH - 60) / max(1.0, high - low))
-    tall = (high - low) * scale + 60
-
-    def at(point: Sequence[float], shift: tuple[float, float] = (0.0, 0.0)) -> str:
-        return f"{(point[0] - left) * scale + 30 + shift[0]:.1f},{(high - point[1]) * scale + 30 + shift[1]:.1f}"
-
+    of those that change; works: what is closed."""
+    at, tall = placing(mapping)
     parts = [f'<svg class="map" viewBox="0 0 {WIDE} {tall:.0f}" role="img" aria-label="Map by delay">']
     for link in mapping.links:
         letter, text = approaches.get(link.edge, ("", link.edge))
@@ -41,6 +35,9 @@ def map_picture(
             parts.append(f'<polyline points="{way}" class="edge-line" stroke="#666" stroke-width="{width + 2}"/>')
         line = f'<polyline points="{way}" class="edge-line" stroke="{colour}" stroke-width="{width}">'
         parts.append(f"{line}<title>{escape(text)}</title></polyline>")
+    for shape in works:
+        way = " ".join(at(point, aside(shape)) for point in shape)
+        parts.append(f'<polyline points="{way}" class="works"><title>road works</title></polyline>')
     for name, x, y, _ in mapping.nodes:
         if name in junctions:
             letter, text, linked = junctions[name]
@@ -49,6 +46,34 @@ def map_picture(
             parts.append(f'<a href="#{anchor(name)}">{mark}</a>' if linked else mark)
             if change := (signs or {}).get(name):
                 parts.append(change_mark(change, float(across), float(down)))
+    return "".join([*parts, "</svg>"])
+
+
+def placing(mapping: Map) -> tuple[Callable[..., str], float]:
+    """Where a point of a map lies in a picture, as text, moved by some pixels; and how high the picture is."""
+    points = [point for link in mapping.links for point in link.shape]
+    (left, right), (low, high) = ((min(values), max(values)) for values in zip(*points, strict=True))
+    scale = min((WIDE - 60) / max(1.0, right - left), (MOST_HIGH - 60) / max(1.0, high - low))
+
+    def at(point: Sequence[float], shift: tuple[float, float] = (0.0, 0.0)) -> str:
+        return f"{(point[0] - left) * scale + 30 + shift[0]:.1f},{(high - point[1]) * scale + 30 + shift[1]:.1f}"
+
+    return at, (high - low) * scale + 60
+
+
+def lines_picture(mapping: Map, values: Mapping[str, float]) -> str:
+    """The streets by values of some edges, red above 0 and blue below, wider where they are greater."""
+    at, tall = placing(mapping)
+    most = max([1.0, *(abs(value) for value in values.values())])
+    parts = [f'<svg class="map" viewBox="0 0 {WIDE} {tall:.0f}" role="img" aria-label="Map of differences">']
+    for link in mapping.links:
+        way = " ".join(at(point, aside(link.shape)) for point in link.shape)
+        value = values.get(link.edge)
+        colour = "#bbb" if value is None else "#777" if abs(value) < 0.5 else "#b2182b" if value > 0 else "#2166ac"
+        width = 1.5 if value is None else 2 + 6 * abs(value) / most
+        text = link.edge if value is None else f"{link.edge}: {value:+.0f}"
+        line = f'<polyline points="{way}" class="edge-line" stroke="{colour}" stroke-width="{width:.1f}">'
+        parts.append(f"{line}<title>{escape(text)}</title></polyline>")
     return "".join([*parts, "</svg>"])
 
 

@@ -3,7 +3,7 @@ from collections.abc import Iterable, Iterator, Sequence
 from dataclasses import dataclass, field
 from html import escape
 
-from streetsim.reports import background, council, junctions
+from streetsim.reports import background, council, junctions, works
 from streetsim.reports.choosing import Told
 from streetsim.reports.council import Interval
 from streetsim.reports.markup import Section, clock, page
@@ -42,18 +42,21 @@ def appendix_of(
     plans: Sequence[Runs], shown: Interval, detailed: Sequence[Told], wishes: Wishes
 ) -> Iterator[Section]:
     """The sections behind the first page."""
-    last, told = plans[-1], f"{clock(shown[0])} to {clock(shown[1])}"
+    last, times = plans[-1], f"{clock(shown[0])} to {clock(shown[1])}"
     rows = council.junctions_of(plans, shown)
     seeds = len(plans[0].folders.keys() & last.folders.keys())
     note = junctions.said_of_changes(seeds) if len(plans) == 2 else ""
     lines = note + junctions.lines(rows, last.names, len(detailed))
-    yield Section("junctions", f"Junctions, {told}", lines)
+    yield Section("junctions", f"Junctions, {times}", lines)
     if len(plans) == 2:
         changes = junctions.movement_changes(council.junctions_of(plans, shown, "movements"), last.names)
-        yield Section("movements", f"Movements that change, {told}", changes)
+        yield Section("movements", f"Movements that change, {times}", changes)
         yield Section("map-before", f"Map before: {plans[0].name}", council.map_section(plans[0], shown))
     if detailed:
-        yield Section("details", f"Junctions in detail: {last.name}, {told}", details(last, shown, detailed, len(rows)))
+        title = f"Junctions in detail: {last.name}, {times}"
+        yield Section("details", title, details(last, shown, detailed, len(rows)))
+    if told := works.section(plans, shown):
+        yield Section("works", "Road works", told)
     yield from wishes.pictures
     yield Section("run", "What was run", background.what_was_run(plans))
     yield Section("warnings", "What the import said", background.warnings(plans))

@@ -2,7 +2,7 @@
 import gzip
 import hashlib
 import os
-from collections.abc import Sequence
+from collections.abc import Mapping, Sequence
 from importlib.util import find_spec
 from pathlib import Path
 
@@ -13,23 +13,24 @@ from streetsim.results.reading import Runs
 from streetsim.results.timings import path_of
 
 NAMES = "names.csv"  # the sealed file of names of one's own
+COUNTS = "counts-"  # the begin of the names of sealed files of counts, before their number
 PACKAGE = Path(__file__).parents[1]
 
 
 def seal_for(
-    plans: Sequence[Runs], words: Sequence[str], page: str, names: str | None
+    plans: Sequence[Runs], words: Sequence[str], page: str, others: Mapping[str, str]
 ) -> tuple[Seal, dict[str, bytes]]:
-    """The seal of a page of some plans, made by words, and the files that are for the one beside it. names: the file of
-    names of one's own. Fault where a plan's folder does not keep what made it."""
+    """The seal of a page of some plans, made by words, and the files that are for the one beside it. others: further
+    files, {name: path}. Fault where a plan's folder does not keep what made it."""
     files: dict[str, bytes] = {}
     made = []
     for place, runs in enumerate(plans, 1):
         plan, own = plan_of(runs, place)
         made.append(plan)
         files.update(own)
-    if names:
-        with reading(names):
-            files[NAMES] = Path(names).read_bytes()
+    for name, path in others.items():
+        with reading(path):
+            files[name] = Path(path).read_bytes()
     content = {"words": list(words), "plans": made, "tools": tools_sum(), "drawn_by": drawn_by()}
     return sealed(content, files, page)
 

@@ -1,0 +1,108 @@
+"""Counts beside a run on a page: by hour, screen lines, scatter, map of the differences, and the worst."""
+from collections import defaultdict
+from html import escape
+
+from streetsim.counts.judging import GOOD, HOUR, Compared, Judged, line_through, worst
+from streetsim.counts.pictures import of_geh
+from streetsim.model.mapping import Map
+from streetsim.model.names import Names
+from streetsim.reports.drawing import lines_picture
+from streetsim.reports.markup import clock, table
+
+SIDE, EDGE = 420, 45  # pixels of the scatter
+POINTS = 40  # of the curves of GEH
+BAD, GOOD_COLOUR = "#c04000", "#225588"
+
+
+def counts_section(name: str, fit: Judged, mapping: Map) -> str:
+    """How well what passed in a run, by its plan's name, fits the counts, as HTML."""
+    names = Names(mapping)
+    line = line_through(fit.each)
+    more = f"; all {len(fit.each):,} counts: r = {line[0]:.3f}, slope {line[1]:.3f}" if line else ""
+    shares = f"GEH is below 5 for {100 * fit.share:.1f} % of the counts by hour"
+    criteria = "which passes the usual criteria" if fit.fits else "which does not pass the usual criteria"
+    told = f"{name}, its first seed: {shares}, {criteria}{more}."
+    parts = [f"<p>{escape(told)}</p>", hours_table(fit), groups_table(fit), worst_table(fit, names)]
+    pictures = f'<div class="whole">{scatter(fit)}{differences_map(fit, mapping)}</div>'
+    return "".join([*parts, pictures])
+
+
+def hours_table(fit: Judged) -> str:
+    """The criteria by hour."""
+    rows = [
+        [
+            f"{clock(one.begin)} to {clock(one.end)}", str(one.counts), f"{100 * one.share:.1f}", f"{one.counted:,.0f}",
+            f"{one.passed:,.0f}", f"{100 * one.difference:+.1f}", "passed" if one.fits else "not passed",
+        ]
+        for one in fit.hours
+    ]
+    head = ["hour", "counts", "GEH below 5, %", "counted", "passed in the run", "difference, %", "criteria"]
+    return table(head, rows)
+
+
+def groups_table(fit: Judged) -> str:
+    """The screen lines; empty where there are none."""
+    rows = [
+        [
+            escape(one.group), f"{clock(one.begin)} to {clock(one.end)}", f"{one.counted:,.0f}", f"{one.passed:,.0f}",
+            f"{100 * one.difference:+.1f}",
+        ]
+        for one in fit.groups
+    ]
+    return table(["screen line", "hour", "counted", "passed in the run", "difference, %"], rows, 2) if rows else ""
+
+
+def worst_table(fit: Judged, names: Names) -> str:
+    """The counts that fit worst; empty where all fit."""
+    rows = []
+    for one in worst(fit):
+        called = names.approach(one.edges[0]) if len(one.edges) == 1 else names.movement(*one.edges[:2])
+        numbers = f"{one.counted:,.0f}", f"{one.passed:,.0f}", f"{one.geh:.1f}"
+        rows.append([escape(called), escape(" to ".join(one.edges)), clock(one.begin), *numbers])
+    return table(["fits worst", "edges", "from", "counted", "passed in the run", "GEH"], rows, 2) if rows else ""
+
+
+def scatter(fit: Judged) -> str:
+    """What passed over what was counted, by place and hour, with the curves on which GEH is 5."""
+    points = [(one.counted * per_hour(one), one.passed * per_hour(one), one.geh < GOOD) for one in fit.hourly]
+    most = 1.08 * max([1.0, *(max(counted, passed) for counted, passed, _ in points)])
+    scale = (SIDE - EDGE - 10) / most
+
+    def at(counted: float, passed: float) -> str:
+        return f"{EDGE + counted * scale:.1f},{SIDE - EDGE - passed * scale:.1f}"
+
+    parts = [f'<polyline points="{at(0, 0)} {at(most, most)}" stroke="#000" fill="none"/>']
+    for sign in (1, -1):
+        curve = [(value, of_geh(value, sign)) for value in (most * step / POINTS for step in range(POINTS + 1))]
+        way = " ".join(at(counted, min(passed, most)) for counted, passed in curve)
+        parts.append(f'<polyline points="{way}" stroke="#777" stroke-dasharray="4 3" fill="none"/>')
+    for counted, passed, good in points:
+        x, y = at(counted, passed).split(",")
+        parts.append(f'<circle cx="{x}" cy="{y}" r="3" fill="{GOOD_COLOUR if good else BAD}"/>')
+    low = SIDE - EDGE
+    parts += [
+        f'<line x1="{EDGE}" x2="{SIDE - 10}" y1="{low}" y2="{low}" stroke="#666"/>',
+        f'<line x1="{EDGE}" x2="{EDGE}" y1="10" y2="{low}" stroke="#666"/>',
+        f'<text x="{SIDE - 10}" y="{low + 15}" text-anchor="end">counted: {most:.0f} vehicles/h</text>',
+        f'<text x="{EDGE + 4}" y="16">passed in the run; broken: GEH is 5</text>',
+    ]
+    shape = f'viewBox="0 0 {SIDE} {SIDE}" style="max-width: 420px" role="img" aria-label="Passed over counted"'
+    return f"<svg {shape}>{''.join(parts)}</svg>"
+
+
+def per_hour(one: Compared) -> float:
+    """What makes a count one of an hour."""
+    return HOUR / (one.end - one.begin)
+
+
+def differences_map(fit: Judged, mapping: Map) -> str:
+    """The map of how many more or fewer passed an edge, or its turns, than were counted, an hour."""
+    hours = len({one.begin // HOUR for one in fit.hourly})
+    whole: defaultdict[str, float] = defaultdict(float)
+    turns: defaultdict[str, float] = defaultdict(float)
+    for one in fit.hourly:
+        into = whole if len(one.edges) == 1 else turns
+        into[one.edges[0]] += (one.passed - one.counted) * per_hour(one) / hours
+    values = {**turns, **whole}
+    told = "Vehicles an hour more (red) or fewer (blue) in the run than counted; dark grey: as many; light: not counted"
+    return f"<figure>{lines_picture(mapping, values)}<figcaption>{told}</figcaption></figure>"

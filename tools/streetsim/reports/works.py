@@ -1,0 +1,197 @@
+"""Road works on a page: where and when, what passes them, the queue over time, and who goes another way."""
+import os
+from collections import defaultdict
+from collections.abc import Iterable, Sequence
+from dataclasses import dataclass
+from html import escape
+from math import hypot
+from statistics import fmean
+
+from streetsim.model import tables
+from streetsim.model.folder import Folder
+from streetsim.model.mapping import Map, Shape
+from streetsim.reports.comparing import Difference, paired
+from streetsim.reports.markup import change_told, clock, table
+from streetsim.results.reading import Runs
+from streetsim.results.values import traffic_of
+
+LEFT, WIDE, HIGH = 50, 900, 200  # pixels of a picture of queues
+LEAST = 20.0  # vehicles an hour that an edge wins or loses, to be told
+MOST = 6  # edges told that win, and that lose
+# Of works.csv, what stands on the page.
+MEANS = ("vehicles", "capacity_per_hour", "mean_delay_s", "queue_50_m", "queue_95_m")
+GREATEST = ("greatest_delay_s", "queue_max_m", "longest_stand_s")
+Place = tuple[str, str, str, str]  # edge, lane, from and to in metres, as works.csv has them
+
+
+@dataclass(slots=True)
+class Seen:
+    """Works at one place: rows of works.csv by period, and queues by clock, of all seeds."""
+
+    place: Place
+    rows: dict[tuple[int, int], list[dict[str, str]]]
+    queues: dict[int, list[float]]  # metres
+
+
+def seen_in(runs: Runs) -> list[Seen]:
+    """The works of runs, in the order of their table; none where there were none."""
+    found: dict[Place, Seen] = {}
+    for folder in runs.folders.values():
+        rows = rows_of(folder)
+        for row in rows:
+            place = row["edge"], row["lane"], row["from_m"], row["to_m"]
+            seen = found.setdefault(place, Seen(place, defaultdict(list), defaultdict(list)))
+            seen.rows[int(row["begin"]), int(row["end"])].append(row)
+        if rows:
+            note_queues(folder, list(found.values()))
+    return list(found.values())
+
+
+def rows_of(folder: Folder) -> list[dict[str, str]]:
+    """The rows of a run's works.csv; none where it has none."""
+    return folder.works() if os.path.exists(f"{folder.path}/{tables.WORKS_FILE}") else []
+
+
+def note_queues(folder: Folder, places: Sequence[Seen]) -> None:
+    """Notes the queues before works at each poll of a run."""
+    queues = {(row["edge"], row["lane"], int(row["time"])): float(row["metres"]) for row in before_works(folder)}
+    for seen in places:
+        edge, lane, *_ = seen.place
+        first, last = min(begin for begin, _ in seen.rows), max(end for _, end in seen.rows)
+        for time in polls(folder, first, last):
+            seen.queues[time].append(queues.get((edge, lane, time), 0.0))
+
+
+def before_works(folder: Folder) -> Iterable[dict[str, str]]:
+    """The rows of queues.csv of queues before works."""
+    return (row for row in folder.queues() if row["before"] == tables.BEFORE_WORKS)
+
+
+def polls(folder: Folder, first: int, last: int) -> range:
+    """The clocks at which lanes were polled from a first to a last second."""
+    every = folder.every
+    return range((first // every + 1) * every, last + 1, every) if every else range(0)
+
+
+def stretches(runs: Runs) -> list[Shape]:
+    """The shapes of what is closed, for a map."""
+    mapping = runs.first.mapping
+    return [part_of(mapping, seen.place) for seen in seen_in(runs)]
+
+
+def part_of(mapping: Map, place: Place) -> Shape:
+    """The piece of an edge's line from one place to another."""
+    edge, lane, begin, end = place
+    links = mapping.links_of[edge]
+    link = mapping.links[next((one for one in links if int(lane) in mapping.links[one].lanes), links[0])]
+    shares = float(begin) / link.metres, float(end) / link.metres
+    return [along(link.shape, share) for share in (shares[0], sum(shares) / 2, shares[1])]
+
+
+def along(shape: Shape, share: float) -> tuple[float, float]:
+    """The point at a share of a line, 0 to 1."""
+    lengths = [hypot(x - begin_x, y - begin_y) for (begin_x, begin_y), (x, y) in zip(shape, shape[1:])]
+    left = share * sum(lengths)
+    for (begin, end), length in zip(zip(shape, shape[1:]), lengths, strict=True):
+        if left <= length and length:
+            return begin[0] + (end[0] - begin[0]) * left / length, begin[1] + (end[1] - begin[1]) * left / length
+        left -= length
+    return shape[-1][0], shape[-1][1]
+
+
+def section(plans: Sequence[Runs], shown: tuple[int, int]) -> str:
+    """The road works of plans, as HTML; empty where none had any."""
+    parts = []
+    for runs in plans:
+        parts += [place_told(runs, seen) for seen in seen_in(runs)]
+    if parts and len(plans) == 2:
+        parts.append(other_ways(plans, shown))
+    return "".join(parts)
+
+
+def place_told(runs: Runs, seen: Seen) -> str:
+    """Works at one place: where, when, a table by period, and the queue over time."""
+    edge, lane, begin, end = seen.place
+    first, last = min(start for start, _ in seen.rows), max(stop for _, stop in seen.rows)
+    street = f"{runs.names.street(edge)} ({edge})" if runs.names.street(edge) else edge
+    where = f"{street}, {runs.names.came(edge)}, lane {lane}, {float(begin):.0f} to {float(end):.0f} m"
+    title = f"{runs.name}: {where}, from {clock(first)} to {clock(last)}"
+    head = ["period", "passed", "capacity/h", "mean delay, s", "queue 50 %, m", "95 %", "greatest delay, s"]
+    head += ["greatest queue, m", "longest stand, s"]
+    rows = [
+        [f'<span class="ids">{clock(start)} to {clock(stop)}</span>', *(mean_of(own, name) for name in MEANS)]
+        + [most_of(own, name) for name in GREATEST]
+        for (start, stop), own in sorted(seen.rows.items())
+    ]
+    picture = f'<div class="picture">{queues_picture(seen)}</div>' if seen.queues else ""
+    return f'<section class="whole"><h3>{escape(title)}</h3>{table(head, rows)}{picture}</section>'
+
+
+def mean_of(rows: Iterable[dict[str, str]], name: str) -> str:
+    """The mean of a column over seeds; empty where none has it."""
+    values = [float(row[name]) for row in rows if row[name]]
+    return f"{fmean(values):.1f}".removesuffix(".0") if values else ""
+
+
+def most_of(rows: Iterable[dict[str, str]], name: str) -> str:
+    """The greatest of a column over seeds; empty where none has it."""
+    values = [float(row[name]) for row in rows if row[name]]
+    return f"{max(values):.0f}" if values else ""
+
+
+def queues_picture(seen: Seen) -> str:
+    """The queue before works over time: the mean over seeds, and the greatest."""
+    times = sorted(seen.queues)
+    most = max(1.0, *(max(own) for own in seen.queues.values()))
+    across, down = (WIDE - LEFT - 10) / max(1, times[-1] - times[0]), (HIGH - 40) / most
+
+    def line(values: Sequence[float], style: str) -> str:
+        points = " ".join(
+            f"{LEFT + (time - times[0]) * across:.1f},{HIGH - 25 - value * down:.1f}"
+            for time, value in zip(times, values, strict=True)
+        )
+        return f'<polyline points="{points}" fill="none" {style}/>'
+
+    means = line([fmean(seen.queues[time]) for time in times], 'stroke="#225588" stroke-width="2"')
+    greatest = line([max(seen.queues[time]) for time in times], 'stroke="#c04000" stroke-dasharray="4 3"')
+    marks = [
+        f'<text x="{LEFT - 6}" y="15" text-anchor="end">{most:.0f} m</text>',
+        f'<text x="{LEFT}" y="{HIGH - 8}">{clock(times[0])}</text>',
+        f'<text x="{WIDE - 10}" y="{HIGH - 8}" text-anchor="end">{clock(times[-1])}</text>',
+        f'<line x1="{LEFT}" x2="{WIDE - 10}" y1="{HIGH - 25}" y2="{HIGH - 25}" stroke="#666"/>',
+        f'<text x="{WIDE / 2:.0f}" y="{HIGH - 8}" text-anchor="middle">queue before the works: mean of the runs, '
+        "and broken the greatest</text>",
+    ]
+    shape = f'viewBox="0 0 {WIDE} {HIGH}" role="img" aria-label="Queue before the works over time"'
+    return f'<svg class="bars" {shape}>{greatest}{means}{"".join(marks)}</svg>'
+
+
+def other_ways(plans: Sequence[Runs], shown: tuple[int, int]) -> str:
+    """The edges that more and fewer vehicles use with the second plan, for sure."""
+    names, found = plans[1].names, []
+    for edge, change in flow_changes(plans, shown).items():
+        if abs(change.change) >= LEAST and (change.is_sure() or change.half is None):
+            found.append((change.change, edge, change))
+    if not found:
+        return "<p>No street has 20 vehicles an hour more or fewer for sure.</p>"
+    ranked = sorted(found, key=lambda one: (one[0], one[1]))
+    told = [*ranked[::-1][:MOST], *ranked[:MOST]] if len(ranked) > 2 * MOST else ranked[::-1]
+    rows = [
+        [escape(names.approach(edge)), escape(edge), f"{one.before:.0f}", f"{one.after:.0f}", change_told(one)]
+        for _, edge, one in told
+    ]
+    head = ["streets with more and fewer vehicles", "edge", "vehicles/h before", "after", "change"]
+    return table(head, rows, names=2)
+
+
+def flow_changes(plans: Sequence[Runs], shown: tuple[int, int]) -> dict[str, Difference]:
+    """The change of vehicles an hour on each edge, paired by seed."""
+    sides = []
+    for runs in plans:
+        flows: defaultdict[str, dict[int, float]] = defaultdict(dict)
+        for seed, folder in runs.folders.items():
+            for edge, one in traffic_of(folder.edges(), *shown).items():
+                flows[edge][seed] = one.flow
+        sides.append(flows)
+    both = {edge: paired(sides[0][edge], own) for edge, own in sides[1].items() if edge in sides[0]}
+    return {edge: change for edge, change in both.items() if change}

@@ -1,0 +1,121 @@
+"""Road works and counts on a page, of folders written by hand."""
+import html
+import re
+import shutil
+import unittest
+
+from test_reports import Given
+from streetsim.counts.judging import judged
+from streetsim.counts.reporting import counts_section
+from streetsim.counts.values import Count
+from streetsim.model.tables import EDGES, QUEUES, WORKS, write_table
+from streetsim.reports.works import along, part_of, seen_in, stretches
+from streetsim.results.reading import read_runs
+
+PLACE = {"edge": "a", "lane": 0, "from_m": "30.0", "to_m": "60.0"}
+
+
+def told(path):
+    """The text of a page without its tags."""
+    text = re.sub("<[^>]*>", " ", path.read_text().partition("<header")[2])
+    return html.unescape(re.sub(r"\s+", " ", text))
+
+
+class Works(Given):
+    """The second plan closes 30 to 60 m of edge a from 0:05 to 0:20; 400 vehicles an hour then take edge b less."""
+
+    def setUp(self):
+        super().setUp()
+        for plan, flows in (("before", (700, 702)), ("after", (300, 302))):
+            for seed, flow in enumerate(flows, 1):
+                folder = self.folder / f"{plan}/seed-{seed}"
+                rows = [(0, 900, "a", flow // 4, flow // 4, 10, 30, 9), (0, 900, "b", flow // 4, flow // 4, 10, 30, 9)]
+                write_table(f"{folder}/edges.csv", EDGES, rows)
+                if plan == "after":
+                    self.write_works(folder, seed)
+
+    def write_works(self, folder, seed):
+        head = ["a", 0, "30.0", "60.0"]
+        numbers = (100 + seed, 1200 + 100 * seed, "10.0", "40.0", "5.0", "15.0", 20 + seed, 12)
+        rows = [(300, 900, *head, *numbers), (900, 1200, *head, 50, "", "", "", "0.0", "0.0", "0.0", 0)]
+        write_table(f"{folder}/works.csv", WORKS, rows)
+        queues = [(310, "a", 0, 2, 10.0 * seed, "works"), (320, "a", 0, 9, 70.0, "stop line")]
+        write_table(f"{folder}/queues.csv", QUEUES, queues)
+
+    def test_where_it_is(self):
+        """A third of the way along a line of 75 m is at 25 m; 30 to 60 m of edge a lie on its line."""
+        self.assertEqual(along([(0, 0), (75, 0)], 1 / 3), (25, 0))
+        self.assertEqual(along([(0, 0), (0, 10), (30, 10)], 0.5), (10, 10))
+        runs = read_runs(str(self.folder / "after"))
+        self.assertEqual(stretches(runs), [part_of(runs.first.mapping, ("a", "0", "30.0", "60.0"))])
+        begin, _, end = stretches(runs)[0]
+        self.assertEqual((round(begin[0]), round(end[0])), (30, 60))
+
+    def test_queues_over_time(self):
+        """Polls every 10 s from 310 s on, 10 and 20 m then, no queue later; those at stop lines are none."""
+        [seen] = seen_in(read_runs(str(self.folder / "after")))
+        self.assertEqual((seen.queues[310], seen.queues[320], max(seen.queues)), ([10.0, 20.0], [0.0, 0.0], 1200))
+
+    def test_the_page(self):
+        page = self.page(*self.plans())
+        text = told(page)
+        for words in (
+            "after: a, from the west, lane 0, 30 to 60 m, from 0:05 to 0:20",
+            "0:05 to 0:15 101.5 1350 10 5 15 40 22 12",  # means of two seeds, of the greatest the greatest
+            "0:15 to 0:20 50 0 0 0 0",
+        ):
+            with self.subTest(words):
+                self.assertIn(words, text)
+        self.assertIn("road works", text)
+        self.assertIn('class="works"', page.read_text())
+        self.assertNotIn('class="works"', self.page(self.folder / "before").read_text())
+
+    def test_streets_with_fewer(self):
+        """175 vehicles a quarter hour before and 75 after with both seeds: 700 and 300 an hour, 400 fewer."""
+        self.assertIn("b 700 300 -400.0 ± 0.0", told(self.page(*self.plans())))
+
+
+class Counts(Given):
+    def setUp(self):
+        super().setUp()
+        for seed in (1, 2):
+            rows = [(0, 900, "a", 25, 25, 10, 30, 9), (900, 1800, "a", 25, 25, 10, 30, 9)]
+            write_table(f"{self.folder}/before/seed-{seed}/edges.csv", EDGES, rows)
+
+    def test_the_page(self):
+        """50 passed of 50 counted in half an hour, and of a turn 20 of 80: hourly 40 and 160, GEH 120 / 10."""
+        counts = self.write("c.csv", "begin,end,from,to,vehicles,group\n0,1800,a,,50,west\n0,1800,a,b,80,west\n")
+        page = self.folder / "page.html"
+        self.tool("report", self.folder / "before", "--counts", counts, "-o", page)
+        text = told(page)
+        for words in (
+            "before, its first seed: GEH is below 5 for 50.0 % of the counts by hour, which does not pass",
+            "0:00 to 0:30 2 50.0 130 70 -46.2 not passed",
+            "west 0:00 to 0:30 130 70 -46.2",
+            "from the west to the east a to b 0:00 80 20 12.0",
+        ):
+            self.assertIn(words, text)
+        self.assertEqual(page.read_text().count('r="3"'), 2)
+
+    def test_faults(self):
+        for words, said in (
+            (("--attribute", "left"), "--attribute is of --counts: give it too"),
+            (("--counts", self.folder / "no.csv"), "no.csv"),
+            (("--short", "--counts", "x"), "--counts is of the appendix, which --short leaves out"),
+        ):
+            run = self.folder / "before"
+            self.assertIn(said, self.tool("report", run, *words, "-o", self.folder / "x.html", status=2)[1])
+
+    def test_points_of_the_scatter(self):
+        """A count that fits and one that does not have other colours; the axis goes to 1.08 of the greatest."""
+        shutil.rmtree(self.folder / "after")
+        counts = [Count(0, 3600, ("a",), 100, "x"), Count(0, 3600, ("b",), 100, "x")]
+        runs = read_runs(str(self.folder / "before"))
+        text = counts_section("p", judged(counts, [100, 400]), runs.first.mapping)
+        self.assertIn("counted: 432 vehicles/h", text)
+        self.assertEqual((text.count('fill="#c04000"'), text.count('fill="#225588"')), (1, 1))
+        self.assertIn("b: +300", text)
+
+
+if __name__ == "__main__":
+    unittest.main()
