@@ -1,11 +1,12 @@
 #!/usr/bin/python3
-"""Buses that stop, here and in SUMO, and prints a table of what their stops add.
+"""Buses that stop, and lights that wait for them, here and in SUMO; prints a table of each.
 
-Usage: bench/buses.py PROGRAM --work FOLDER --seeds FIRST-LAST
+Usage: bench/buses.py PROGRAM --work FOLDER --seeds FIRST-LAST [--table stops|priority]
 
 Stops: a street of two edges of 600 m, of one lane or two, a bus each 120 s that stands at a stop 345 m from an edge's \
 begin, and cars by chance for an hour. What stops add is the mean trip, of buses and of cars, less that of the same \
-seed without stops.
+seed without stops. Priority: the corridor of five lights of tools/examples, with buses each 180 s both ways that make \
+a stop of 20 s; in SUMO a TraCI script does the same, and for fixed plans by the same logic.
 """
 
 import csv
@@ -15,6 +16,7 @@ from collections import Counter
 from statistics import fmean
 
 import shared
+from buses_priority import priority_rows
 
 # Lanes, the edge of the stop, cars an hour. Buses to the second edge enter on either lane here, and in SUMO by chance.
 STREETS = (
@@ -119,8 +121,13 @@ def main():
     parser = shared.parser_of(__doc__)
     parser.add_argument("--work", required=True, help="a folder for what is made")
     parser.add_argument("--seeds", default="1-3")
+    parser.add_argument("--table", choices=["stops", "priority"], help="one of them alone")
     args = parser.parse_args()
-    stop_rows(args, shared.work_of(args))
+    work = shared.work_of(args)
+    if args.table != "priority":
+        stop_rows(args, work)
+    if args.table != "stops":
+        priority_rows(args, work)
 
 
 main()

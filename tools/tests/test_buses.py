@@ -3,8 +3,10 @@ import csv
 import unittest
 
 from support import PROGRAM, Case, lane, needs_simulator, net
+from streetsim.actuated.logic import Actuated, Phase
 from streetsim.base.files import Fault
 from streetsim.base.report import Report
+from streetsim.buses.coordinated import Coordinated
 from streetsim.buses.stopping import PATIENCE, Road, Stopping
 from streetsim.importing.convert import convert
 from streetsim.model.stops import MADE, MISSED, OTHER_LANE, STANDING, Visit
@@ -294,6 +296,132 @@ class Runs(Case):
         wrong = self.write("wrong.toml", text + '[variant.a]\n[variant.b]\nstops = "some"\n')
         _, said = self.tool("study", wrong, "--out", self.folder / "x", "--program", PROGRAM, status=2)
         self.assertIn("stops = 'some' is neither 'made' nor 'none'", said)
+
+
+# Two streets of 300 m cross; the light has 30 s for each, and 5 s between.
+CROSS = net(
+    [
+        *(("w", "W", "X", [lane("w", 0, 300.0)]), ("e", "X", "E", [lane("e", 0, 300.0)])),
+        *(("n", "N", "X", [lane("n", 0, 300.0)]), ("s", "X", "S", [lane("s", 0, 300.0)])),
+    ],
+    [("w", 0, "e", 0, 'tl="L" linkIndex="0"'), ("n", 0, "s", 0, 'tl="L" linkIndex="1"')],
+    '<tlLogic id="L" type="static" programID="0" offset="0"><phase duration="30" state="Gr"/>'
+    '<phase duration="5" state="yr"/><phase duration="30" state="rG"/><phase duration="5" state="ry"/></tlLogic>',
+)
+
+
+class Planned(unittest.TestCase):
+    """The logic of a light with listed seconds: greens of 30 s, of at least 15 s, and 10 s more at most."""
+
+    PHASES = [Phase("Gr", 30, 15, 40), Phase("yr", 5, 5, 5), Phase("rG", 30, 15, 40), Phase("ry", 5, 5, 5)]
+
+    def ended(self, until, calls=(), offset=0):
+        light = Coordinated(self.PHASES, ())
+        light.start(0, offset)
+        calls = dict(calls)
+        for clock in range(1, until + 1):
+            if clock in calls:
+                light.call(clock, calls[clock])
+            if light.due <= clock:
+                light.look(clock, lambda _: 0.0)
+        return [(row.phase, row.begin, row.seconds, row.why) for row in light.ended]
+
+    def test_without_buses_it_is_its_plan(self):
+        told = [(0, 0, 30, "listed"), (1, 30, 5, "listed"), (2, 35, 30, "listed"), (3, 65, 5, "listed")]
+        self.assertEqual(self.ended(70), told)
+        # It begins 20 s before its first phase ends.
+        self.assertEqual(self.ended(20, offset=60)[0], (0, 0, 20, "listed"))
+
+    def test_a_bus_keeps_its_green_and_the_plan_comes_back(self):
+        # Seen from 25 to 37 s: the green lasts 37 s, and the next one ends as planned at 65 s.
+        told = self.ended(70, {25: (0,), 37: ()})
+        self.assertEqual(told[:3], [(0, 0, 37, "listed"), (1, 37, 5, "listed"), (2, 42, 23, "listed")])
+
+    def test_no_longer_than_its_most(self):
+        self.assertEqual(self.ended(60, {25: (0,)})[0], (0, 0, 40, "most"))
+
+    def test_a_bus_fetches_its_green_when_the_others_had_their_least(self):
+        # Seen at 5 s: the green of the others ends at 15 s, its own begins at 20 s, and lasts its most, to 60 s, since
+        # the plan ends it at 65 s; the next one comes back to the plan at 100 s.
+        told = self.ended(110, {5: (2,), 25: ()})
+        self.assertEqual(told[:3], [(0, 0, 15, "bus"), (1, 15, 5, "listed"), (2, 20, 40, "most")])
+        self.assertEqual(told[3:5], [(3, 60, 5, "listed"), (0, 65, 35, "listed")])
+
+    def test_later_than_the_least_it_is_fetched_at_once(self):
+        self.assertEqual(self.ended(30, {22: (2,)})[0], (0, 0, 22, "bus"))
+
+    def test_a_driven_light_waits_too(self):
+        # A green of 5 to 50 s that detectors would end at 5 s.
+        phases = [Phase("Gr", 5, 5, 50, (0,)), Phase("yr", 3, 3, 3), Phase("rG", 5, 5, 50, (1,)), Phase("ry", 3, 3, 3)]
+        light = Actuated(phases, (3.0, 3.0))
+        light.start(0)
+        light.call(2, (0,))
+        for clock in range(1, 31):
+            if clock == 20:
+                light.call(clock, ())
+            if light.due <= clock:
+                light.look(clock, lambda _: 99.0)
+        self.assertEqual([(row.phase, row.seconds) for row in light.ended], [(0, 20), (1, 3), (2, 5)])
+
+
+class Priorities(Case):
+    BUSES = '<vehicle id="v" type="bus" line="7" depart="{}"><route edges="n s"/></vehicle>'
+
+    def made(self, depart, *words, status=0, program=CROSS, cars=""):
+        net_file = self.write("x.net.xml", program)
+        routes = self.write("r.rou.xml", f"<routes>{BUS}{cars}{self.BUSES.format(depart)}</routes>")
+        run, mapping, out = self.folder / "run.jsonl", self.folder / "map.json", self.folder / "out"
+        self.tool("import", net_file, "--routes", routes, "--dawdle", 0, "-o", run, "--map", mapping)
+        return self.tool("run", run, "--map", mapping, "--until", 200, "--out", out, *words, status=status)
+
+    def phases(self):
+        with open(self.folder / "out/phases.csv", encoding="utf-8") as file:
+            return [(int(row["begin"]), int(row["phase"]), int(row["seconds"]), row["ended"])
+                    for row in csv.DictReader(file)]
+
+    def arrival(self):
+        with open(self.folder / "out/trips.csv", encoding="utf-8") as file:
+            return int(list(csv.DictReader(file))[-1]["arrival"])
+
+    @needs_simulator
+    def test_a_bus_fetches_its_green(self):
+        # It departs at 71 s, when the other street's second green began at 70 s, is in cell 3 + 2k at 74 + k s, and is
+        # 15 s before the end of 40 cells in cell 10, at 78 s: the green of 30 s ends at 85 s, after half of it, and its
+        # own begins at 90 s. It is in the last cell at 92 s and passes in that step, without priority in that from 105
+        # s on.
+        said, told = self.made(71, "--priority", "bus")
+        self.assertIn("1 lights wait for 1 vehicles that are seen 15 s before", told)
+        self.assertEqual(self.phases()[:7], [
+            *((0, 0, 30, "listed"), (30, 1, 5, "listed"), (35, 2, 30, "listed"), (65, 3, 5, "listed")),
+            *((70, 0, 15, "bus"), (85, 1, 5, "listed"), (90, 2, 45, "most")),
+        ])
+        with_it = self.arrival()
+        self.made(71)
+        self.assertEqual(self.arrival() - with_it, 13)
+
+    @needs_simulator
+    def test_by_a_line_and_buses_apart(self):
+        cars = '<flow id="c" begin="0" end="60" period="10"><route edges="w e"/></flow>'
+        said, _ = self.made(71, "--priority", "7", "--seen", 10, cars=cars)
+        told = r"\nbus: 1 of 1 arrived, mean trip [\d.]+ s; passenger: 6 of 6 arrived, mean trip [\d.]+ s"
+        self.assertRegex(said, told)
+
+    @needs_simulator
+    def test_wrong_words(self):
+        for words, why in (
+            (("--priority", "tram"), "--priority 'tram': no vehicle is of this class or line"),
+            (("--seen", 9), "--seen is of vehicles with --priority"),
+            (("--priority", "bus", "--seen", 0), "--seen: '0' is not 1 to 60"),
+        ):
+            with self.subTest(why):
+                _, told = self.made(71, *words, status=2)
+                self.assertIn(why, told)
+                self.assertEqual(len(told.splitlines()[-1:]), 1)
+
+    @needs_simulator
+    def test_a_light_that_can_not_wait_is_told(self):
+        _, told = self.made(71, "--priority", "bus", program=CROSS.replace('duration="30"', 'duration="30.5"', 1))
+        self.assertIn("lights do not wait for them, as their phases are no whole seconds: L", told)
 
 
 if __name__ == "__main__":

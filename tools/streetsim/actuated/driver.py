@@ -3,7 +3,7 @@ seconds that it names itself, and each phase that begins is sent as a plan, the 
 """
 from __future__ import annotations
 
-from collections.abc import Callable, Iterable, Iterator, Sequence
+from collections.abc import Callable, Collection, Iterable, Iterator, Sequence
 from dataclasses import dataclass, field
 from functools import partial
 from math import inf
@@ -115,6 +115,13 @@ class Driver:
     def due(self) -> int:
         """The next second at which a light is looked at."""
         return min((one.due() for one in self.controllers), default=limits.CLOCK)
+
+    def call(self, clock: int, calls: Iterable[tuple[str, Collection[int]]]) -> None:
+        """Has buses call phases of some lights from now on."""
+        called = dict(calls)
+        for one in self.controllers if called else ():
+            if one.name in called and isinstance(one.logic, Actuated):
+                one.logic.call(clock, called[one.name])
 
     def look(self, clock: int, senses: Senses) -> Iterator[Command]:
         """Looks at the lights that are due, and gives what is to be sent before the next step."""

@@ -7,7 +7,7 @@ that as the way from the detector to the stop line takes, else each second.
 """
 from __future__ import annotations
 
-from collections.abc import Callable, Iterator, Sequence
+from collections.abc import Callable, Collection, Iterator, Sequence
 from dataclasses import dataclass, field
 from math import ceil
 from typing import NamedTuple
@@ -16,7 +16,7 @@ GapOf = Callable[[int], float]  # the seconds since a detector last saw anybody,
 GO, YELLOW = "Gg", "yY"  # letters of a state
 BY_GAP, BY_MOST, LISTED = "gap", "most", "listed"  # why a phase ended
 BY_OTHER, BY_CALL = "barrier", "call"  # those of a ring: with the other one, or after resting until somebody came
-BY_SCRIPT = "script"
+BY_SCRIPT, BY_BUS = "script", "bus"
 
 
 @dataclass(slots=True, frozen=True)
@@ -67,6 +67,7 @@ class Actuated:
     ended: list[Ended] = field(default_factory=list)
     first: dict[int, int] = field(default_factory=dict)  # by phase: the detector that extended it last
     told_to_end: bool = False  # by a script, when it is looked at next
+    called: Collection[int] = ()  # phases that buses keep, or fetch, within bounds
 
     def start(self, now: int, offset: int = 0) -> None:
         """Begins where a light with the listed seconds would be that began its first phase at an offset."""
@@ -81,7 +82,7 @@ class Actuated:
         """Goes on to the next phase if this one is over; says whether. Sets when to look again."""
         phase = self.phases[self.at]
         may_stay = phase.is_green and now - self.since < phase.most and not self.told_to_end
-        wait = self.wait(phase, gap) if may_stay else 0
+        wait = self.stays(phase, gap) if may_stay else 0
         if wait:
             self.due = min(max(now + wait, self.since + phase.least), self.since + phase.most)
             return False
@@ -90,6 +91,16 @@ class Actuated:
         self.at = (self.at + 1) % len(self.phases) if phase.next is None else phase.next
         self.since, self.due = now, now + self.phases[self.at].shortest
         return True
+
+    def stays(self, phase: Phase, gap: GapOf) -> int:
+        """The seconds until a green can end: by buses where any call, else by its detectors."""
+        return int(self.at in self.called) if self.called and phase.is_extended else self.wait(phase, gap)
+
+    def call(self, now: int, phases: Collection[int]) -> None:
+        """Has buses keep or fetch some phases from now on; none where no bus is seen any more."""
+        self.called = phases
+        if phases and self.at not in phases:
+            self.due = min(self.due, max(now, self.since + self.phases[self.at].shortest))
 
     def state(self) -> str:
         """What is shown."""
@@ -129,6 +140,8 @@ class Actuated:
             return BY_SCRIPT
         if not phase.is_extended:
             return LISTED
+        if self.called and self.at not in self.called and now - self.since < phase.most:
+            return BY_BUS
         return BY_MOST if now - self.since >= phase.most else BY_GAP
 
     def wait(self, phase: Phase, gap: GapOf) -> int:

@@ -1,13 +1,15 @@
 """Buses of a run, while it goes: each is asked where it is when it could have come near its stop, and there its lanes
-are looked at and closed as `Stopping` says. What is sent is kept, so that runs which repeat this one send it again."""
+are looked at and closed as `Stopping` says; and when it could be seen before a light that waits for it. What is sent is
+kept, so that runs which repeat this one send it again."""
 from __future__ import annotations
 
+from collections import defaultdict
 from collections.abc import Callable, Iterable, Iterator, Mapping, Sequence
-from dataclasses import dataclass, field
+from dataclasses import dataclass
 
 from streetsim.base import limits
 from streetsim.base.client import Lane, Vehicle
-from streetsim.buses.planned import Planned
+from streetsim.buses.planned import Ahead, Planned
 from streetsim.buses.stopping import APPROACH, Road, Stopping
 from streetsim.model.mapping import Map, Place
 from streetsim.model.runs import Command, Run
@@ -33,15 +35,40 @@ class Done:
 
 @dataclass(slots=True)
 class Bus:
-    """A vehicle with stops to come."""
+    """A vehicle with stops to come, or lights that wait for it."""
 
     owner: int  # its place in the run's file
     plan: Sequence[int]
     visits: list[Visit]  # to come
+    lights: list[Ahead]  # to come
     due: int  # clock
     car: int = 0
     stopping: Stopping | None = None  # on the link of its next stop
     closed: frozenset[Closed] = frozenset()
+
+
+class Calls:
+    """What vehicles with priority call at lights."""
+
+    def __init__(self) -> None:
+        self.by_light: defaultdict[str, dict[int, frozenset[int]]] = defaultdict(dict)  # phases by vehicle
+        self.changed: set[str] = set()  # lights
+
+    def set(self, owner: int, ahead: Ahead | None) -> None:
+        """Has a vehicle call at one light, or at none."""
+        for light, calls in self.by_light.items():
+            if owner in calls and (ahead is None or ahead.light != light):
+                del calls[owner]
+                self.changed.add(light)
+        if ahead and self.by_light[ahead.light].get(owner) != ahead.phases:
+            self.by_light[ahead.light][owner] = ahead.phases
+            self.changed.add(ahead.light)
+
+    def taken(self) -> list[tuple[str, frozenset[int]]]:
+        """The lights where something is called since this was asked last, and the phases called there."""
+        found = [(light, frozenset().union(*self.by_light[light].values())) for light in sorted(self.changed)]
+        self.changed.clear()
+        return found
 
 
 class Fleet:
@@ -49,16 +76,18 @@ class Fleet:
 
     def __init__(self, plan: Planned, run: Run, mapping: Map) -> None:
         self.mapping, self.turns = mapping, {(turn.link, turn.lane, turn.next) for turn in mapping.turns}
+        self.plan, self.calls = plan, Calls()
         self.done: list[Done] = []
-        self.buses: dict[int, Bus] = {}
         self.closed: frozenset[Closed] = frozenset()  # by all
+        visits: defaultdict[int, list[Visit]] = defaultdict(list)
         for visit in plan.visits:
-            if visit.vehicle not in self.buses:
-                command = run.enters[visit.vehicle].command
-                first = max(run.start(), command["depart"]) + 1
-                self.buses[visit.vehicle] = Bus(visit.vehicle, command["plan"], [], first)
-            self.buses[visit.vehicle].visits.append(visit)
-        for bus in self.buses.values():
+            visits[visit.vehicle].append(visit)
+        self.buses: dict[int, Bus] = {}
+        for owner in sorted({*visits, *plan.ahead}):
+            command = run.enters[owner].command
+            first = max(run.start(), command["depart"]) + 1
+            bus = Bus(owner, command["plan"], visits[owner], [*plan.ahead.get(owner, ())], first)
+            self.buses[owner] = bus
             bus.due += self.seconds(bus, 0, 0)
 
     def due(self) -> int:
@@ -76,35 +105,62 @@ class Fleet:
         far = [bus for bus in due if not bus.stopping]
         for bus, reply in zip(far, ask(bus.owner for bus in far) if far else (), strict=True):
             self.locate(clock, bus, reply)
-        near = [bus for bus in due if bus.stopping and bus.owner in self.buses]
+        near = [bus for bus in due if bus.stopping]
         if near:
             wanted = {(bus.visits[0].link, lane) for bus in near if bus.stopping for lane in bus.stopping.wants(clock)}
             seen = lanes(sorted(wanted)) if wanted else {}
             for bus in near:
                 self.attend(clock, bus, seen, ask)
+        for bus in due:
+            if not bus.visits and not bus.lights:
+                del self.buses[bus.owner]
         yield from self.changes()
 
     def locate(self, clock: int, bus: Bus, reply: Vehicle) -> None:
         """Notes where a bus is that is on its way, and when it is to be looked at next."""
-        if reply.state in ENDED:
-            self.end(bus)
-            return
-        at, cell = len(bus.plan) - len(reply.plan), reply.cell or 0
-        waits = 0
+        at, cell, waits = len(bus.plan) - len(reply.plan), reply.cell or 0, 0
         if reply.state == "buffer":  # it has left its link
             at, waits = at + 1, max(0, (reply.ready or 0) - clock)
+        if reply.state in ENDED:
+            at = len(bus.plan)
         bus.car = reply.car
         while bus.visits and bus.visits[0].at < at:
             self.note(bus, Done(bus.visits[0], MISSED))
-        if not bus.visits:
-            del self.buses[bus.owner]
+        bus.lights = [one for one in bus.lights if one.at >= at]
+        self.call(bus, at, cell, waits)
+        if not bus.visits and not bus.lights:
             return
-        visit = bus.visits[0]
-        if reply.state == "cell" and at == visit.at and visit.last - cell <= self.reach(visit):
-            assert reply.lane is not None
-            bus.stopping = Stopping(visit, self.road(bus, visit), reply.lane)
-            return
+        if reply.state == "cell" and bus.visits and at == bus.visits[0].at:
+            visit = bus.visits[0]
+            if visit.last - cell <= self.reach(visit):
+                assert reply.lane is not None
+                bus.stopping = Stopping(visit, self.road(bus, visit), reply.lane)
+                return
         bus.due = clock + max(1, waits + self.seconds(bus, at, cell))
+
+    def call(self, bus: Bus, at: int, cell: int, waits: int) -> None:
+        """Has the next light wait for a bus that is near enough, unless it stops before."""
+        ahead = bus.lights[0] if bus.lights else None
+        if ahead and (stops_before(bus, ahead) or waits + self.between(bus, at, cell, ahead) > self.plan.seen):
+            ahead = None
+        self.calls.set(bus.owner, ahead)
+
+    def between(self, bus: Bus, at: int, cell: int, ahead: Ahead) -> int:
+        """The fewest seconds from a cell of a link of its plan to the stop line of a light."""
+        return int(self.before(bus, at, cell, ahead.at) + self.links_left(bus, at, cell, ahead.at))
+
+    def links_left(self, bus: Bus, at: int, cell: int, last: int) -> float:
+        """The seconds on the last of some links of its plan, from a cell of the first."""
+        link = self.mapping.links[bus.plan[last]]
+        return (link.cells - (cell if at == last else 0)) / link.limit
+
+    def before(self, bus: Bus, at: int, cell: int, last: int) -> float:
+        """The fewest seconds from a cell of a link of its plan to the begin of a later one."""
+        links, begin, found = self.mapping.links, cell, 0.0
+        for link in bus.plan[at:last]:
+            found += max(0, links[link].cells - begin) / links[link].limit + self.mapping.nodes[links[link].end][3]
+            begin = 0
+        return found
 
     def reach(self, visit: Visit) -> int:
         """The cells before a stop from which on its lanes are looked at in each second."""
@@ -119,14 +175,15 @@ class Fleet:
         return Road(2, link.limit, link.cells, (leads[0], leads[1]))
 
     def seconds(self, bus: Bus, at: int, cell: int) -> int:
-        """The fewest seconds from a cell of a link of its plan until its lanes are looked at."""
-        visit, links = bus.visits[0], self.mapping.links
-        begin, found = cell, 0.0
-        for link in bus.plan[at : visit.at]:
-            found += max(0, links[link].cells - begin) / links[link].limit + self.mapping.nodes[links[link].end][3]
-            begin = 0
-        cells = visit.last - self.reach(visit) - begin
-        return int(max(0.0, found + cells / links[visit.link].limit))
+        """The fewest seconds from a cell of a link of its plan until it is to be looked at."""
+        found = []
+        if bus.visits:
+            visit = bus.visits[0]
+            cells = visit.last - self.reach(visit) - (cell if at == visit.at else 0)
+            found.append(self.before(bus, at, cell, visit.at) + cells / self.mapping.links[visit.link].limit)
+        if bus.lights and not stops_before(bus, bus.lights[0]):
+            found.append(self.between(bus, at, cell, bus.lights[0]) - self.plan.seen)
+        return max(0, int(min(found)))
 
     def attend(self, clock: int, bus: Bus, seen: Mapping[Place, Lane], ask: Ask) -> None:
         """Looks at a bus on the link of its stop; where it is not there any more, it is asked where it is."""
@@ -153,14 +210,6 @@ class Fleet:
         """Keeps what became of a bus's next stop."""
         bus.visits.pop(0)
         self.done.append(done)
-        if not bus.visits:
-            self.buses.pop(bus.owner, None)
-
-    def end(self, bus: Bus) -> None:
-        """One who has arrived makes no stop any more."""
-        for visit in [*bus.visits]:
-            self.note(bus, Done(visit, MISSED))
-        bus.closed = frozenset()
 
     def changes(self) -> Iterator[Command]:
         """What is to be closed and opened now."""
@@ -181,6 +230,11 @@ class Fleet:
                 else:
                     left.append(Done(visit, AHEAD))
         return [*self.done, *left]
+
+
+def stops_before(bus: Bus, ahead: Ahead) -> bool:
+    """Whether a bus has a stop to make before a light."""
+    return bool(bus.visits) and bus.visits[0].at <= ahead.at
 
 
 def seen_on(lane: Lane | None) -> list[Seen]:

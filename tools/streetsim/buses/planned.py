@@ -1,4 +1,4 @@
-"""The stops of a run that are made."""
+"""The stops of a run that are made, and the lights that wait for vehicles with priority."""
 from __future__ import annotations
 
 from collections import defaultdict
@@ -10,18 +10,32 @@ from streetsim.model.mapping import Map
 from streetsim.model.runs import Run
 from streetsim.model.stops import Visit
 
+SEEN = 15  # seconds before a stop line, where nothing else is asked
 OTHER_WAY = "as the run has another way for them than the map"
 
 
 @dataclass(frozen=True, slots=True)
+class Ahead:
+    """A light on a vehicle's way that waits for it."""
+
+    at: int  # the place in its plan of the link before the light
+    light: str
+    phases: frozenset[int]  # in which its movement is green
+
+
+@dataclass(frozen=True, slots=True)
 class Planned:
-    """Those of a run."""
+    """Those of a run. ahead: of vehicles with priority, the lights on their way."""
 
     visits: tuple[Visit, ...] = ()
     unmade: Mapping[str, tuple[str, ...]] = field(default_factory=dict)  # by reason, vehicle at stop
+    ahead: Mapping[int, tuple[Ahead, ...]] = field(default_factory=dict)
+    seen: int = 0  # seconds before a stop line from which on lights wait for them
+    told: tuple[str, ...] = ()  # of priority
 
     def notes(self) -> Iterator[str]:
-        """Says which stops are not made, by reason."""
+        """Says which stops are not made, by reason, and what lights do."""
+        yield from self.told
         for why, names in self.unmade.items():
             yield f"{len(names):,} stops of vehicles are not made, {why}: {some(names)}"
 

@@ -5,6 +5,7 @@ from streetsim.base import limits, program
 from streetsim.base.words import (
     Parser, add_jobs, add_lights, add_lost, add_merge, add_rounds, add_run, time_within, within,
 )
+from streetsim.buses.planned import SEEN
 from streetsim.cli.given import given_words
 from streetsim.outputs.kinds import KINDS, kinds_of
 from streetsim.sumo.slowing import LIMITS
@@ -114,6 +115,18 @@ def add_buses(made: argparse.ArgumentParser) -> None:
         choices=["made", "none"],
         default="made",
         help="made: vehicles stop where and as long as SUMO's files say; none: they drive by (default %(default)s)",
+    )
+    made.add_argument(
+        "--priority",
+        default="",
+        metavar="NAMES",
+        help="classes of vehicles or lines, with commas between, for which lights keep or fetch a green within bounds",
+    )
+    made.add_argument(
+        "--seen",
+        type=within(1, 60),
+        metavar="S",
+        help=f"seconds before the stop line from which on such a vehicle is seen (default {SEEN})",
     )
 
 

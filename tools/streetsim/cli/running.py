@@ -13,7 +13,8 @@ from streetsim.base.jobs import side_by_side
 from streetsim.base.progress import UnderWay
 from streetsim.base.seeds import interval, seeds_of
 from streetsim.base.words import listed
-from streetsim.buses.planned import planned
+from streetsim.buses.planned import SEEN, planned
+from streetsim.buses.priority import prioritised
 from streetsim.model import trust
 from streetsim.model.folder import LIGHTS, NAME
 from streetsim.model.mapping import Map
@@ -59,6 +60,7 @@ def run_by(words: argparse.Namespace, given: Sequence[str], again: Sequence[str]
         settings = replace(settings, buses=planned(run, mapping))
     if words.lights == "actuated" and mapping.actuated:
         settings = replace(settings, lights=driven_lights(run, mapping))
+    settings = with_priority(words, run, mapping, settings)
     if told_of := told_of_polls(run, mapping, settings):
         print(told_of, file=sys.stderr)
     if words.seeds:
@@ -76,6 +78,22 @@ def write_inputs(words: argparse.Namespace, folder: str, run: Run, mapping: Map)
     write_kept(folder, run)
     if words.junctions is not None:
         write_lights(folder, mapping, words.map)
+
+
+def with_priority(words: argparse.Namespace, run: Run, mapping: Map, settings: Settings) -> Settings:
+    """The settings with lights that wait for the vehicles of --priority; Fault where a word of it means nothing."""
+    names = listed(words.priority)
+    if not names:
+        if words.seen is not None:
+            raise Fault("--seen is of vehicles with --priority")
+        return settings
+    if words.lights == "listed" and mapping.actuated:
+        raise Fault("--priority and --lights listed: lights that wait for buses do not show their listed seconds")
+    seen = words.seen or SEEN
+    found = prioritised(run, mapping, names, seen, settings.lights)
+    buses = replace(settings.buses, ahead=found.ahead, seen=seen, told=found.told)
+    lights = replace(settings.lights, driven=(*settings.lights.driven, *found.lights))
+    return replace(settings, buses=buses, lights=lights)
 
 
 def settings_of(words: argparse.Namespace, run: Run) -> Settings:
@@ -124,6 +142,8 @@ def report(figures: Figures, name: str) -> None:
     for told in figures.notes:
         print(f"{name}{told}", file=sys.stderr)
     print(f"{name}{figures.told}")
+    if figures.apart:
+        print(f"{name}{figures.apart}")
     if figures.doubts:
         print(f"{name}{trust.verdict(figures.doubts)}")
 

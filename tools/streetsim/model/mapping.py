@@ -84,6 +84,7 @@ class Map:
     programs: list[Json] = field(default_factory=list)  # of actuated lights, as sumo.programs.kept_programs
     # Of edges and junctions that have one: {"edges": {id: name}, "junctions": {id: name}}; model.names tells them.
     names: Json = field(default_factory=dict)
+    fixed: list[Json] = field(default_factory=list)  # of other lights that buses and others pass, in the same form
     visits: list[Visit] = field(default_factory=list)  # stops that vehicles are to make
 
     def __post_init__(self) -> None:
@@ -122,6 +123,7 @@ class Map:
             **({"rings": self.rings} if self.rings else {}),
             **({"programs": self.programs} if self.programs else {}),
             **({"names": self.names} if self.names else {}),
+            **({"fixed": self.fixed} if self.fixed else {}),
             **({"visits": [list(asdict(visit).values()) for visit in self.visits]} if self.visits else {}),
         }
 
@@ -142,6 +144,7 @@ def map_from(path: FilePath, value: Json) -> Map:
         more |= {"location": value.get("location", {}), "actuated": value.get("actuated", [])}
         more |= {"rings": value.get("rings", []), "programs": value.get("programs", [])}
         more |= {"names": value.get("names", {})}
+        more["fixed"] = value.get("fixed", [])
         more["visits"] = [Visit(*visit) for visit in value.get("visits", ())]
         more |= {key: value[key] for key in KEYS if key not in ("links", "turns")}
         return Map(links=links, turns=turns, **more)

@@ -1,6 +1,7 @@
 """A run into a folder: its tables, its setting, SUMO's output files and the tables of junctions."""
 import json
 import os
+from collections import defaultdict
 from collections.abc import Iterable, Iterator, Sequence
 from contextlib import AbstractContextManager
 from dataclasses import asdict, dataclass, field, replace
@@ -23,7 +24,7 @@ from streetsim.model.mapping import Map, Place
 from streetsim.model.names import Names, write_named
 from streetsim.model.runs import Line, Run
 from streetsim.model.sources import digest_of
-from streetsim.model.stops import MISSED, OTHER_LANE
+from streetsim.model.stops import MISSED, OTHER_LANE, classes_of
 from streetsim.model.tables import Entry, write_table
 from streetsim.outputs.writing import Outputs
 from streetsim.run import rows
@@ -73,6 +74,7 @@ class Figures:
     notes: list[str]  # what the tables do not have
     told: str  # in the line of its end
     doubts: list[str]  # why it is not to be trusted
+    apart: str = ""  # of a run with stops or priority, the trips of each class of vehicles
 
 
 def one_run(making: Making, run: Run, mapping: Map, settings: Settings, folder: str, tell: Tell) -> Figures:
@@ -111,7 +113,21 @@ def one_run(making: Making, run: Run, mapping: Map, settings: Settings, folder: 
         notes=told,
         told=", ".join(filter(None, (driven.told(), f"{rescues:,} rescues", yielding.told(), records.ended))),
         doubts=doubts,
+        apart=by_class(trips, mapping) if settings.buses.visits or settings.buses.ahead else "",
     )
+
+
+def by_class(trips: Sequence[Entry], mapping: Map) -> str:
+    """The mean trips of each class of vehicles, of rows of trips.csv, where there are several."""
+    found: defaultdict[str, list[int | None]] = defaultdict(list)
+    for vclass, (_, _, arrival, duration, *_) in zip(classes_of(mapping.kinds, len(trips)), trips, strict=True):
+        found[vclass].append(duration if arrival != "" else None)
+    told = []
+    for vclass, all_ in sorted(found.items()):
+        some_ = [one for one in all_ if one is not None]
+        mean = f", mean trip {fmean(some_):.1f} s" if some_ else ""
+        told.append(f"{vclass}: {len(some_):,} of {len(all_):,} arrived{mean}")
+    return "; ".join(told) if len(told) > 1 else ""
 
 
 def lit_lines(sent: Iterable[tuple[int, Line]], mapping: Map) -> Iterator[tuple[int, Line]]:

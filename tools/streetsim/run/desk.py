@@ -112,6 +112,7 @@ class Desk:
         self.records.calls += 1
         self.at_works(target)
         self.send_at(target, list(map(own_line, self.fleet.look(target, self.vehicles, self.lanes))))
+        self.driver.call(target, self.fleet.calls.taken())
         self.send_at(target, list(map(own_line, self.driver.look(target, self.senses))))
         return target
 

@@ -13,7 +13,7 @@ from streetsim.sumo.demand import Vehicle, enters, kinds_of
 from streetsim.sumo.detectors import placed
 from streetsim.sumo.net import SumoNet, actuated
 from streetsim.sumo.network import Network, Options
-from streetsim.sumo.programs import kept_programs
+from streetsim.sumo.programs import fixed_programs, kept_programs, lights_of_riders
 from streetsim.sumo.rules import warn_of_rules
 from streetsim.sumo.signals import movements, signals
 from streetsim.sumo.slowing import slowed
@@ -56,6 +56,7 @@ def converted(net: SumoNet, types: Types, vehicles: Sequence[Vehicle], options: 
     network.yields = conflicts_of(net, network, flows)
     network.actuated = actuated(net, (light for light, _ in made))
     network.programs = kept_programs(net, network, lights, flows)
+    network.fixed = fixed_programs(net, network, lights, flows, lights_of_riders(entered, driven, types, network))
     return (
         network,
         lights,
@@ -103,6 +104,7 @@ def map_of(network: Network, lights: list[tuple[str, int]], names: list[str], re
         rings=network.rings,
         names=network.names,
         visits=network.visits,
+        fixed=network.fixed,
     )
 
 

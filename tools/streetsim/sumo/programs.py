@@ -1,15 +1,19 @@
 """What a map keeps of lights that SUMO times by detectors: their programs, the lanes before them, who gives way there.
 The package actuated reads it."""
 from collections import defaultdict
-from collections.abc import Iterable, Sequence
+from collections.abc import Container, Iterable, Sequence
 from dataclasses import astuple
+from itertools import pairwise
 from typing import Any
 
 from streetsim.base.files import Json
+from streetsim.model.runs import Command
+from streetsim.sumo.demand import Vehicle
 from streetsim.sumo.losses import Flows
 from streetsim.sumo.net import STATIC, Connection, SumoNet, connections_of
 from streetsim.sumo.network import Network
 from streetsim.sumo.signals import light_of
+from streetsim.sumo.types import Kind, Types
 
 MOST_BEFORE = 4  # lanes before one, on which its detector may lie
 
@@ -46,6 +50,41 @@ def kept_programs(
             "nodes": [node_of(number, at_junction[name], net, flows, name) for number, name in junctions],
             **({"timing": [list(one) for one in program.timing]} if program.timing else {}),
         })
+    return found
+
+
+def fixed_programs(
+    net: SumoNet, network: Network, lights: Iterable[tuple[str, int]], flows: Flows, wanted: Container[str]
+) -> list[Json]:
+    """Of some lights that are timed by seconds alone, what is kept of others but for their detectors: so that they can
+    wait for buses."""
+    nodes = defaultdict(list)
+    for light, node in lights:
+        if light in wanted and net.programs[light].kind == STATIC:
+            nodes[light].append((node, network.nodes[node]))
+    at_junction = connections_of(net) if nodes else {}
+    return [
+        {
+            "light": light,
+            "program": program.name,
+            "offset": program.offset,
+            "phases": [[seconds, state, *bounds] for (seconds, state), bounds in zip(program.phases, program.bounds)],
+            "nodes": [node_of(number, at_junction[name], net, flows, name) for number, name in numbers],
+        }
+        for light, numbers in sorted(nodes.items())
+        for program in (net.programs[light],)
+    ]
+
+
+def lights_of_riders(
+    entered: Iterable[Command], driven: Iterable[Vehicle], types: Types, network: Network
+) -> set[str]:
+    """The lights that vehicles pass which have a line or are of another class than cars."""
+    light_at = {(link, following): turn.light for (link, _, following), turn in network.turns.items() if turn.light}
+    found: set[str] = set()
+    for command, vehicle in zip(entered, driven, strict=True):
+        if vehicle.line or types.kinds.get(vehicle.type, Kind()).vclass != Kind().vclass:
+            found.update(light for pair in pairwise(command["plan"]) if (light := light_at.get(pair)))
     return found
 
 

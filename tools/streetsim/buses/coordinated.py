@@ -1,0 +1,47 @@
+"""A light with listed seconds that waits for buses: each phase ends when its plan says, as far as its bounds allow; so
+that after a bus it comes back to its plan by itself."""
+from __future__ import annotations
+
+from dataclasses import dataclass
+
+from streetsim.actuated.lights import Driven
+from streetsim.actuated.logic import Actuated, GapOf, Phase
+
+
+@dataclass(slots=True)
+class Coordinated(Actuated):
+    """Its logic; what detectors extend in another one lasts as planned here."""
+
+    planned: int = 0  # clock at which the plan has the phase begin that is shown
+
+    def start(self, now: int, offset: int = 0) -> None:
+        """Begins where its plan is."""
+        Actuated.start(self, now, offset)
+        self.planned = self.due - self.phases[self.at].seconds
+
+    def look(self, now: int, gap: GapOf) -> bool:
+        """Goes on where a phase is over; the plan's clock goes on with it, by whole cycles where it is far off."""
+        seconds, self.due = self.phases[self.at].seconds, now
+        if not Actuated.look(self, now, gap):
+            return False
+        cycle = sum(phase.seconds for phase in self.phases)
+        self.planned += seconds
+        self.planned += cycle * ((now - self.planned + cycle // 2) // cycle)
+        return True
+
+    def wait(self, phase: Phase, gap: GapOf) -> int:
+        """The seconds until the plan ends the phase, from when it is looked at."""
+        return max(0, self.planned + phase.seconds - self.due)
+
+    def why(self, phase: Phase, now: int) -> str:
+        """Why a phase ends now: as listed, but where a bus has changed that."""
+        why = Actuated.why(self, phase, now)
+        return "listed" if why == "gap" else why
+
+
+@dataclass(frozen=True, slots=True)
+class Fixed(Driven):
+    """Such a light of a run."""
+
+    def logic(self) -> Actuated:
+        return Coordinated(self.phases, self.gaps, self.lead)

@@ -1,0 +1,123 @@
+"""Who has priority at which lights of a run, and within which bounds: by a class of vehicles or a line."""
+from __future__ import annotations
+
+from collections import defaultdict
+from collections.abc import Collection, Iterable, Iterator, Mapping, Sequence
+from dataclasses import dataclass
+from itertools import pairwise
+from math import ceil
+from typing import Any
+
+from streetsim.actuated.kept import Listed, node_of
+from streetsim.actuated.lights import Driven, Light, Lights
+from streetsim.actuated.logic import GO, Phase
+from streetsim.base.files import Fault
+from streetsim.base.report import some
+from streetsim.buses.coordinated import Fixed
+from streetsim.buses.planned import Ahead
+from streetsim.model.mapping import Map
+from streetsim.model.runs import Run
+from streetsim.model.stops import classes_of, lines_of
+
+LEAST = 5  # seconds of a green without bounds of its own, or half of what is listed
+
+Way = tuple[int, int]  # a link and the next one
+Turns = list[tuple[str, int]]  # lights, and places in their states
+
+
+@dataclass(frozen=True)
+class Priority:
+    """Of a run."""
+
+    lights: tuple[Light, ...]  # that are driven for it, beside those that detectors drive
+    ahead: Mapping[int, tuple[Ahead, ...]]  # by vehicle
+    told: tuple[str, ...]
+
+
+def prioritised(run: Run, mapping: Map, names: Sequence[str], seen: int, driven: Lights) -> Priority:
+    """Who has priority, of classes and lines that are named, seen so many seconds before a stop line; driven: the
+    lights that detectors drive."""
+    owners = named(run, mapping, names)
+    timed = {line.command["node"] for _, line in run.timed if line.command["cmd"] == "signal"}
+    changed = {light for light, node in mapping.signals if node in timed}
+    wanted = lights_of(run, mapping, owners)
+    found: dict[str, Driven] = {one.name: one for one in driven.driven if isinstance(one, Driven)}
+    others = {one.name for one in driven.driven if not isinstance(one, Driven)}
+    kept, mine = {one["light"]: one for one in mapping.fixed}, []
+    unable: defaultdict[str, list[str]] = defaultdict(list)
+    for light in sorted(wanted):
+        try:
+            if light not in found:
+                mine.append(fixed_light(light, kept, seen, {"changed": changed, "rings": others}))
+                found[light] = mine[-1]
+        except Listed as why:
+            unable[str(why)].append(light)
+    turns, plans = turns_of(mapping), {owner: run.enters[owner].command["plan"] for owner in owners}
+    ahead = {owner: way for owner, plan in plans.items() if (way := tuple(ahead_of(plan, turns, found)))}
+    count = len({one.light for way in ahead.values() for one in way})
+    told = [f"{count:,} lights wait for {len(ahead):,} vehicles that are seen {seen} s before"]
+    told += [f"lights do not wait for them, {why}: {some(lights)}" for why, lights in unable.items()]
+    return Priority(tuple(mine), ahead, tuple(told))
+
+
+def named(run: Run, mapping: Map, names: Sequence[str]) -> list[int]:
+    """The vehicles of classes or lines; Fault where one of these has none."""
+    count = len(run.enters)
+    classes, lines = classes_of(mapping.kinds, count), lines_of(mapping.kinds, count)
+    for name in names:
+        if name not in classes and name not in lines:
+            raise Fault(f"--priority {name!r}: no vehicle is of this class or line")
+    return [owner for owner in range(count) if classes[owner] in names or lines[owner] in names]
+
+
+def lights_of(run: Run, mapping: Map, owners: Iterable[int]) -> set[str]:
+    """The lights that some vehicles pass."""
+    light_at = {(turn.link, turn.next): turn.light for turn in mapping.turns if turn.light}
+    pairs = (pair for owner in owners for pair in pairwise(run.enters[owner].command["plan"]))
+    return {light for pair in pairs if (light := light_at.get(pair))}
+
+
+def fixed_light(light: str, kept: Mapping[str, Any], seen: int, unlike: Mapping[str, Collection[str]]) -> Fixed:
+    """A light with listed seconds, of what a map keeps of its program."""
+    if light in unlike["changed"]:
+        raise Listed("as lines of the run change their plans")
+    if light in unlike["rings"]:
+        raise Listed("as NEMA lights have none here")
+    if light not in kept:
+        raise Listed("as detectors drive them in SUMO and not here, or an older streetsim-import wrote the map")
+    program = kept[light]
+    if any(seconds != round(seconds) or seconds < 1 for seconds, *_ in program["phases"]):
+        raise Listed("as their phases are no whole seconds")
+    phases = tuple(bounded(row, seen) for row in program["phases"])
+    nodes = tuple(node_of(one) for one in program["nodes"])
+    return Fixed(light, round(program["offset"]), phases, 2.0, (), (), nodes, (), program["program"])
+
+
+def bounded(kept: Sequence[Any], seen: int) -> Phase:
+    """A phase with its bounds: those of the file; else a green lasts half its seconds and LEAST at least, and is kept
+    for as many seconds more as a vehicle is seen before the stop line."""
+    seconds, state, least, most, *_ = kept
+    phase = Phase(state, round(seconds), round(seconds), round(seconds))
+    if not phase.is_green:
+        return phase
+    least = min(phase.seconds, max(LEAST, ceil(seconds / 2))) if least is None else round(least)
+    return Phase(state, phase.seconds, least, phase.seconds + seen if most is None else max(least, round(most)))
+
+
+def ahead_of(plan: Sequence[int], turns: Mapping[Way, Turns], lights: Mapping[str, Driven]) -> Iterator[Ahead]:
+    """The lights on a vehicle's way that wait for it, in their order."""
+    for at, pair in enumerate(pairwise(plan)):
+        own = [(light, index) for light, index in turns.get(pair, ()) if light in lights]
+        if own:
+            light, indexes = lights[own[0][0]], {index for _, index in own}
+            phases = [at for at, phase in enumerate(light.phases) if any(phase.state[index] in GO for index in indexes)]
+            yield Ahead(at, light.name, frozenset(phases))
+
+
+def turns_of(mapping: Map) -> dict[Way, Turns]:
+    """By link and next link the lights of its turns, and their places in a state."""
+    found: defaultdict[Way, Turns] = defaultdict(list)
+    for turn in mapping.turns:
+        if turn.light:
+            found[turn.link, turn.next].append((turn.light, turn.index))
+    return found
