@@ -136,8 +136,8 @@ def trips_told(found: Costs) -> list[str]:
         return ["No trip arrived with both plans."]
     slower, quicker = found.share(True), found.share(False)
     told = (
-        f"Of {len(found.changes):,} trips of the same vehicles {quicker:.0%} become quicker by more than {NOTICED} s, "
-        f"{slower:.0%} slower by more than {NOTICED} s"
+        f"Of {len(found.changes):,} trips of the same vehicles {100 * quicker:.0f} % become quicker by more than "
+        f"{NOTICED} s, {100 * slower:.0f} % slower by more than {NOTICED} s"
     )
     tenth = found.tenth()
     told += f"; one in ten takes {tenth} s longer or more." if tenth > 0 else "."
