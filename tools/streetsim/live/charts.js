@@ -12,7 +12,7 @@ const BANDS = [
 // Both traffics in one picture: a band for each value.
 function drawComparison(canvas, { now, was, watched }) {
   const bands = BANDS.filter(band => band.words !== "queue" || watched !== null);
-  canvas.width = canvas.parentElement.clientWidth - 4; canvas.height = bands.length * BAND + 14;
+  fitCanvas(canvas, canvas.parentElement.clientWidth - 4, bands.length * BAND + 14);
   const pen = canvas.getContext("2d"), own = colours();
   pen.fillStyle = own.ground; pen.fillRect(0, 0, canvas.width, canvas.height);
   if (now.series.length < 2) return;
@@ -25,19 +25,25 @@ function drawComparison(canvas, { now, was, watched }) {
 
 function drawBand(pen, { band, top, sides, span, wide, watched }) {
   const points = sides.map(([world]) => world.series.filter(point => band.of(point) !== null)), values = points.flat().map(band.of);
-  const most = Math.max(1, ...values), least = Math.min(0, ...values), high = BAND - 22;
+  const most = values.reduce((one, other) => Math.max(one, other), 1), least = values.reduce((one, other) => Math.min(one, other), 0), high = BAND - 22;
   const y = value => top + 18 + high * (1 - (value - least) / (most - least)), x = clock => CHART_LEFT + (wide - CHART_LEFT - 6) * (clock - span[0]) / Math.max(1, span[1] - span[0]);
   pen.font = "11px sans-serif"; pen.fillStyle = colours().ink; pen.setLineDash([]);
   pen.fillText(band.words === "queue" ? `standing before ${junctionText(watched)}` : band.words, 2, top + 11);
   pen.fillText(most.toFixed(most < 10 ? band.digits : 0), 2, top + 26); pen.fillText("0", 2, y(0) + 3);
   sides.forEach(([, colour, dashes, word], i) => {
     pen.strokeStyle = pen.fillStyle = colour; pen.setLineDash(dashes); pen.lineWidth = 1.5; pen.beginPath();
-    for (const point of points[i]) pen.lineTo(x(point.clock), y(band.of(point)));
+    for (const point of thinned(points[i], wide)) pen.lineTo(x(point.clock), y(band.of(point)));
     pen.stroke();
     const last = points[i].at(-1), text = last ? `${word} ${band.of(last).toFixed(band.digits)}` : "";
     pen.fillText(text, wide - 4 - pen.measureText(text).width - (sides.length - 1 - i) * 110, top + 11);
   });
   pen.setLineDash([]);
+}
+
+// Not more points than there are pixels, the last one among them.
+function thinned(points, most) {
+  const each = Math.ceil(points.length / most);
+  return each > 1 ? points.filter((_, i) => (points.length - 1 - i) % each === 0) : points;
 }
 
 const junctionText = number => junctions.get(number).name;

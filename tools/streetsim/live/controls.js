@@ -146,7 +146,7 @@ function watchButtons() {
   for (const [id, act] of Object.entries(acts)) at(id).onclick = act;
   at("save").onclick = () => saveAs("session.jsonl", session.saved(), "application/x-ndjson");
   at("whole").onclick = () => { scene.moved = false; scene.fit(); draw(1); };
-  at("maps").onchange = () => { showMaps(); };
+  at("maps").onchange = () => { showMaps(); return guarded(async () => { await worlds.showWas(at("maps").value !== "now"); draw(1); }); };
   at("compare").onchange = () => guarded(async () => { worlds.wanted = at("compare").checked; await worlds.follow(); showMaps(); draw(1); showTables(); });
   onkeydown = onKey;
 }

@@ -36,6 +36,9 @@ const MOST_CELLS_OF_CAR = 4;
 // To the nearest, halves to the even one, as Python does.
 const roundEven = value => { const near = Math.round(value); return Math.abs(value % 1) === .5 && near % 2 ? near - 1 : near; };
 
+// Gives a canvas a size, where it has another one: a canvas whose size is set is made anew.
+function fitCanvas(canvas, width, height) { if (canvas.width !== width || canvas.height !== height) Object.assign(canvas, { width, height }); }
+
 // Does something of the engine's, one after another; what goes wrong is told.
 let turn = Promise.resolve(), busy = false;
 function guarded(act) {

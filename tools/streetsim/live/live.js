@@ -8,13 +8,13 @@ let session, scene, worlds, views = [], own = "", module = null, stepped = 0, fr
 
 // ---- traffic
 
-function isShown(link) { return views.some(view => view.isInView(link)) || wave.has(link) || followed !== null && worlds.now.cars.get(followed)?.[0] === link; }
+function isShown(link) { return views.some(view => view.isShown && view.isInView(link)) || wave.has(link) || followed !== null && worlds.now.cars.get(followed)?.[0] === link; }
 
 async function advance(steps) {
   await worlds.advance(steps, isShown);
   stepped = performance.now();
   if (wave.path.length) wave.note(worlds.now);
-  showLog(session);
+  if (!playing) showLog(session);
 }
 
 async function lookAgain() { await worlds.look(isShown); draw(1); showTables(); }
@@ -50,13 +50,14 @@ function showTold(far) {
   if (playing && told === session.clock) return;
   told = session.clock;
   at("told").textContent = `${clockText(session.clock)}, ${cells + buffers} driving, ${still} standing, ${arrived} arrived, ${waiting} to come${far ? "; streets by density" : ""}`;
-  const closed = session.lanes.reduce((sum, lane) => sum + (lane.state?.closed.length ?? 0), 0), gain = worlds.gain();
+  const closed = [...session.closed].reduce((sum, lane) => sum + lane.state.closed.length, 0), gain = worlds.gain();
   document.body.dataset.shown = JSON.stringify({ clock: session.clock, driving: cells + buffers, standing: still, arrived, seen: worlds.now.cars.size, closed, far, gain });
 }
 
 function showTables() {
   showQueues(worlds.now, lane => { showPlace(lane.link); choose(stretchOf({ link: lane.link, lane: lane.lane }, 0, lane.link.metres)); });
   showChanges(session, undo); showComparison(); showWave();
+  if (playing) showLog(session);
   showDetectors(session).catch(() => {});
 }
 

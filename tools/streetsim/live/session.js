@@ -20,12 +20,21 @@ const MOST_BATCH = 500; // steps of one request
 const COUNT = '{"cmd":"count"}';
 const CHANGING = new Set(["signal", "close", "reopen", "takeout"]); // commands that change what traffic does
 
+// How many vehicles of a lane's reply stand, on cells or behind them.
+function standing({ cells, buffer }) {
+  let count = buffer.length;
+  for (const car of cells) if (car[2] === 0) count++;
+  return count;
+}
+
 class Session {
   constructor(engine, data, own) {
     this.engine = engine; this.data = data; this.own = own;
     this.isKept = Boolean(data.kept) && engine.which === 0; this.isAgain = false; // doing what was done before
     this.joint = new Map(data.links.filter(link => link.lanes === 2).map(link => [link.number, link.cells]));
-    this.lanes = data.links.flatMap(link => Array.from({ length: link.lanes }, (_, lane) => ({ link, lane, ask: JSON.stringify({ cmd: "lane", link: link.number, lane }), state: null, seen: -1 })));
+    this.lanes = data.links.flatMap(link => Array.from({ length: link.lanes }, (_, lane) => ({ link, lane, ask: JSON.stringify({ cmd: "lane", link: link.number, lane }), state: null, seen: -1, still: 0 })));
+    this.fresh = new Set(); this.freshAt = -1; // the lanes that were seen at this clock
+    this.closed = new Set(); // lanes on which something is closed, as they were last seen
     this.changes = []; // {text, made: clock, commands: [{clock, command}]}, in the order of their making
   }
 
@@ -34,6 +43,7 @@ class Session {
     const replies = (await this.engine.begin(anew)).map(reply => JSON.parse(reply));
     this.clock = this.data.start; this.timed = 0; this.turn = 0;
     this.merges = new Merges(this.joint);
+    this.fresh.clear(); this.closed.clear();
     for (const command of this.data.works) this.merges.done(this.clock, command);
     this.sent = []; this.changes = []; this.detectors = []; this.count = null;
     this.pending = []; // commands of changes whose second is still to come, {clock, command}
@@ -69,8 +79,9 @@ class Session {
   }
 
   // Makes steps, and looks at lanes: those in view where they are few, and a part of all, so that each is seen once in a round.
-  async advance(steps, isInView = () => false) {
-    const target = this.clock + steps, looks = this.looks(isInView);
+  // isRound: whether that part is asked too.
+  async advance(steps, isInView = () => false, isRound = true) {
+    const target = this.clock + steps, looks = this.looks(isInView, isRound);
     let seen = null;
     await this.tellDue();
     do {
@@ -125,14 +136,22 @@ class Session {
     if (command.cmd === "meter") this.detectors.push({ number: reply.meter, ...command });
   }
 
-  looks(isInView) {
+  looks(isInView, isRound) {
     const seen = this.lanes.filter(lane => isInView(lane.link)), near = seen.length <= MOST_LOOKS ? seen : [];
+    if (!isRound) return near;
     const size = Math.ceil(this.lanes.length / ROUND), from = (this.turn++ % ROUND) * size;
     return [...new Set([...near, ...this.lanes.slice(from, from + size)])];
   }
 
   saw(looks, replies) {
-    looks.forEach((lane, i) => { lane.state = JSON.parse(replies[i]); lane.seen = this.clock; });
+    if (this.freshAt !== this.clock) this.fresh.clear();
+    this.freshAt = this.clock;
+    looks.forEach((lane, i) => {
+      const state = JSON.parse(replies[i]);
+      Object.assign(lane, { state, seen: this.clock, still: standing(state) });
+      this.fresh.add(lane);
+      if (state.closed.length) this.closed.add(lane); else this.closed.delete(lane);
+    });
   }
 
   // Looks at all lanes in view, or at all of the network.

@@ -15,7 +15,7 @@ function showChanges({ changes }, undo, most = MOST_CHANGES) {
 }
 
 function showQueues(world, show) {
-  const { session } = world, rows = session.lanes.filter(lane => lane.state).map(lane => [lane, standing(lane), comers(lane, session.clock)]).filter(([, still, waiting]) => still + waiting > 0);
+  const { session } = world, rows = session.lanes.filter(lane => lane.still || lane.state?.waiting.length).map(lane => [lane, lane.still, comers(lane, session.clock)]).filter(([, still, waiting]) => still + waiting > 0);
   rows.sort((a, b) => b[1] + b[2] - a[1] - a[2] || a[0].link.number - b[0].link.number);
   const body = rows.slice(0, MOST_ROWS).map(([lane, still, waiting]) => {
     const row = rowOf([laneText(lane.link, lane.lane), String(still), String(waiting), clockText(lane.seen)]);

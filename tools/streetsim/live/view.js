@@ -8,7 +8,15 @@ class View {
     this.canvas = canvas; this.scene = new Scene(canvas, of); this.world = world; this.kept = null;
   }
 
-  isInView(link) { return this.scene.isInView(link); }
+  // The links in view, kept while nobody looks elsewhere.
+  get links() {
+    const { x, y, scale, links, canvas: { width, height } } = this.scene, key = `${x} ${y} ${scale} ${width} ${height}`;
+    if (this.inView?.key !== key) this.inView = { key, links: new Set(links.filter(link => this.scene.isInView(link))) };
+    return this.inView.links;
+  }
+
+  isInView(link) { return this.links.has(link); }
+  get isShown() { return !this.canvas.parentElement.hidden; }
 
   resize(wide, high) { this.scene.resize(wide, high); this.kept = null; }
 
@@ -16,13 +24,13 @@ class View {
   lookAs({ scene }) { Object.assign(this.scene, { x: scene.x, y: scene.y, scale: scene.scale, moved: true }); }
 
   draw(part, isPlaying) {
-    const { scene } = this, shown = scene.links.filter(link => scene.isInView(link)), lanes = shown.reduce((sum, link) => sum + link.lanes, 0), far = lanes > MOST_LOOKS;
+    const { scene } = this, shown = [...this.links], lanes = shown.reduce((sum, link) => sum + link.lanes, 0), far = lanes > MOST_LOOKS;
     scene.colours = colours();
     scene.clear();
     this.drawStreets(shown, far, isPlaying);
     if (!far) {
-      this.drawClosed(shown);
-      scene.drawCars([...this.world.cars.keys()].filter(car => scene.isInView(this.world.cars.get(car)[0])).map(car => this.world.between(car, part)));
+      this.drawClosed();
+      this.drawCars(part);
       this.drawStopLines(shown);
     }
     this.drawDetectors();
@@ -47,7 +55,7 @@ class View {
     const { scene } = this, own = colours();
     if (!far) this.drawAreas();
     for (const link of shown) scene.drawLink(link, far ? scaled(own.density, Math.min(1, this.world.density(link) / .5)) : own.street);
-    if (far) this.drawClosed(shown);
+    if (far) this.drawClosed();
     if (scene.scale > MARKS) for (const link of shown) this.drawMarks(link);
     if (scene.scale > DIRECTIONS) for (const link of shown) this.drawDirection(link);
     this.drawNames(shown);
@@ -96,8 +104,14 @@ class View {
     pen.textAlign = "start";
   }
 
-  drawClosed(shown) {
-    for (const link of shown) for (const lane of this.world.lanesOf(link)) for (const [first, last] of lane.state?.closed ?? []) this.scene.drawCells(link, lane.lane, first, last, colours().closed);
+  drawCars(part) {
+    const { world, links } = this, cars = [];
+    for (const [car, [link]] of world.cars) if (links.has(link)) cars.push(world.between(car, part));
+    this.scene.drawCars(cars);
+  }
+
+  drawClosed() {
+    for (const { link, lane, state } of this.world.session.closed) if (this.isInView(link)) for (const [first, last] of state.closed) this.scene.drawCells(link, lane, first, last, colours().closed);
   }
 
   // A red stop line is whole, and a green one has gaps.
@@ -106,7 +120,7 @@ class View {
     for (const link of shown) {
       const now = this.world.greensAt(link.end);
       if (!now) continue;
-      const isGreen = now.greens.some(([from]) => from === link.number);
+      const isGreen = now.has(link.number);
       scene.pen.setLineDash(isGreen ? [Math.max(2, scene.scale), Math.max(2, scene.scale)] : []);
       scene.drawStopLine(link, isGreen);
     }

@@ -69,8 +69,9 @@ class Wave {
   // ---- drawing
 
   draw(canvas) {
-    canvas.width = canvas.parentElement.clientWidth - 4; canvas.height = this.path.length ? WAVE_HIGH : 0;
+    canvas.hidden = !this.path.length;
     if (!this.path.length) return;
+    fitCanvas(canvas, canvas.parentElement.clientWidth - 4, WAVE_HIGH);
     const pen = canvas.getContext("2d"), length = this.path.at(-1).to, now = session.clock, from = now - PAST;
     this.each = (canvas.width - WAVE_LEFT - 4) / (PAST + COMING);
     this.x = clock => WAVE_LEFT + (clock - from) * this.each;
