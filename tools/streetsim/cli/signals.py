@@ -15,6 +15,9 @@ from streetsim.outputs.folder import Making
 from streetsim.pictures.drawing import drawing
 from streetsim.pictures.plots import Corridor, refuse_broken
 from streetsim.sessions.machines import machines
+from streetsim.signals.bounded import (
+    Asked, Found, ground_of, outcomes, searched_bounds, verified_bounds, write_found_bounds,
+)
 from streetsim.signals.formulas import streets_of
 from streetsim.signals.found import Target, compared, doubts_of, tell, write_found
 from streetsim.signals.in_sumo import sumo_for, verified
@@ -74,6 +77,12 @@ def add_search(made: argparse.ArgumentParser) -> None:
     made.add_argument(
         "--change", default=",".join(CHANGES), help="what may be changed, with commas between (default %(default)s)"
     )
+    made.add_argument(
+        "--bounds",
+        action="store_true",
+        help="find least, most and max-gap of actuated lights, which detectors then drive, in place of plans of "
+        "seconds; the best of those is found too, with the other words, and said beside it",
+    )
     made.add_argument("--cycle", metavar="S-S", help=f"cycles to try (default {CYCLES})")
     made.add_argument(
         "--least",
@@ -131,6 +140,8 @@ def main(arguments: list[str]) -> int:
     with Slow(f"reading {words.run}"):
         town = read_town(reading)
     check_cycles(words, town, cycles)
+    if words.bounds:
+        return bounds_found(words, reading, town, changed, cycles)
     making = Making(reading.program, words.rounds)
     target = Target(words.output, words.out, corridor_of(words, town), making, words.until)
     in_sumo = sumo_for(reading, town.mapping, town.run) if words.verify_sumo else None
@@ -147,6 +158,30 @@ def main(arguments: list[str]) -> int:
     rows, doubts = compared(town, before, after, sumo), list(doubts_of(town, before, after, sumo))
     write_found(target, town, search, rows, doubts)
     return tell(town, search, rows, stopped, doubts, sumo)
+
+
+def bounds_found(
+    words: argparse.Namespace, reading: Reading, town: Town, changed: Sequence[str], cycles: range
+) -> int:
+    """Finds bounds of actuated lights, and the best plan of seconds beside them; gives the status."""
+    if words.edges:
+        raise Fault("--edges draws plans of seconds, and --bounds finds none")
+    ground, check = ground_of(reading, town), check_seeds(words)
+    tried = tried_seeds(check)
+    in_sumo = sumo_for(reading, town.mapping, town.run) if words.verify_sumo else None
+    with machines(words.jobs, words.cluster, ground.sessions) as workers:
+        seeds = seeds_of(words.seeds, "--seeds") if words.seeds else ()
+        search, stopped = searched_bounds(Asked(words.budget, seeds, words.least), workers, ground, tried)
+        before, after = ([*outcomes(workers, [one], check)] for one in (ground.given, search.best[1]))
+    with machines(words.jobs, words.cluster, [town.session]) as workers:
+        known = sorted({*tried, *(seeds_of(words.seeds, "--seeds") if words.seeds else ())})
+        sessions = sessions_of(town, known, Runner(workers, town))
+    with machines(words.jobs, words.cluster, sessions) as workers:
+        runner = Runner(workers, town)
+        fixed, _ = searched(words, runner, changed, cycles, search_seeds(words, runner, tried))
+        beside = runner.outcomes(fixed.best[1], check)
+    sumo = verified_bounds(in_sumo, ground, search.best[1], check, words.jobs) if in_sumo else None
+    return write_found_bounds(words.output, words.out, ground, Found(search, stopped, before, after, beside, sumo))
 
 
 def changes_of(words: argparse.Namespace) -> tuple[list[str], range]:
@@ -196,7 +231,8 @@ def reading_of(words: argparse.Namespace, changed: Sequence[str]) -> Reading:
         least=words.least,
         keep=listed(words.keep),
         rounds=words.rounds,
-        reserve=words.reserve if {"splits", "cycle"} & {*changed} else 0,
+        reserve=words.reserve if {"splits", "cycle"} & {*changed} or words.bounds else 0,
+        fixed=words.bounds,
     )
 
 

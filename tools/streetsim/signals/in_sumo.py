@@ -112,6 +112,15 @@ def sumo_for(reading: Reading, mapping: Map, run: Run) -> InSumo:
 
 def verified(in_sumo: InSumo, town: Town, plan: Plan, seeds: Sequence[int], jobs: int) -> Verified:
     """What SUMO says of the plan given and of a plan found, for each seed."""
+    with tempfile.TemporaryDirectory() as folder:
+        paths = [f"{folder}/{name}.add.xml" for name in ("given", "found")]
+        for path, lights in zip(paths, (town.plan, plan), strict=True):
+            write_additional(path, town.lights, lights, PROGRAM_ID)
+        return verified_files(in_sumo, town, paths, seeds, jobs)
+
+
+def verified_files(in_sumo: InSumo, town: Town, paths: Sequence[str], seeds: Sequence[int], jobs: int) -> Verified:
+    """The same of two files, of what is given and of what was found."""
     enters = zip(town.mapping.cars, (line.command["depart"] for line in town.run.enters), strict=True)
     departs = {name: depart for name, depart in enters if depart < in_sumo.until}
 
@@ -120,17 +129,13 @@ def verified(in_sumo: InSumo, town: Town, plan: Plan, seeds: Sequence[int], jobs
         told(1)
         return mean_trip(trips, departs, in_sumo.until), teleports
 
-    with tempfile.TemporaryDirectory() as folder:
-        paths = [f"{folder}/{name}.add.xml" for name in ("given", "found")]
-        for path, lights in zip(paths, (town.plan, plan), strict=True):
-            write_additional(path, town.lights, lights, PROGRAM_ID)
-        tasks = [(path, seed) for path in paths for seed in seeds]
-        meanwhile = Meanwhile("runs of SUMO", len(tasks))
-        done: set[int] = set()
-        means, teleports = zip(
-            *side_by_side(run, tasks, jobs, lambda place, _: meanwhile.show(add(done, place))), strict=True
-        )
-        meanwhile.end()
+    tasks = [(path, seed) for path in paths for seed in seeds]
+    meanwhile = Meanwhile("runs of SUMO", len(tasks))
+    done: set[int] = set()
+    means, teleports = zip(
+        *side_by_side(run, tasks, jobs, lambda place, _: meanwhile.show(add(done, place))), strict=True
+    )
+    meanwhile.end()
     half = len(seeds)
     return Verified(list(means[:half]), list(means[half:]), (sum(teleports[:half]), sum(teleports[half:])))
 

@@ -7,13 +7,13 @@ from __future__ import annotations
 import contextlib
 from collections.abc import Callable, Collection, Generator, Iterable, Mapping, Sequence
 from dataclasses import dataclass, field
-from typing import Any
+from typing import Any, TypeVar
 
 from streetsim.signals.formulas import Streets, proposals
 from streetsim.signals.plans import Light, Plan
 
 Key = tuple[tuple[str, int, tuple[int, ...]], ...]  # of a plan: lights, offsets, durations
-Change = Callable[[Plan, int], Plan | None]  # of a plan, with a sign
+Tried = TypeVar("Tried")  # a plan, or bounds of lights
 
 SHARES = (0.25, 0.12, 0.06, 0.03)  # of the cycle, by which offsets are moved
 SECONDS = (8, 4, 2, 1)  # of green that are moved between phases
@@ -37,27 +37,29 @@ class Trial:
 class Search:
     """Plans by their values, each asked for once; the best of them, and what was tried."""
 
-    value: Callable[[Sequence[Plan]], Generator[float, None, None]]  # of plans: gives their values in order
+    value: Callable[[Sequence[Any]], Generator[float, None, None]]  # of plans: gives their values in order
     budget: int  # simulations
     seeds: int  # simulations that one plan takes
     # Hears of each trial; gives whether the user has asked for an end.
     told: Callable[[Search], bool] = lambda search: False
-    seen: dict[Key, float] = field(default_factory=dict)
+    seen: dict[Any, float] = field(default_factory=dict)
     trials: list[Trial] = field(default_factory=list)
     best: tuple[float, Any] = (float("inf"), None)  # value and plan, none before the first trial
     spent: bool = False  # the budget ended it
+    # What names a plan: equal ones have equal keys.
+    key_of: Callable[[Any], Any] = lambda plan: key_of(plan)
 
     @property
     def simulations(self) -> int:
         """How many were made so far."""
         return self.trials[-1].simulations if self.trials else 0
 
-    def values(self, steps: Sequence[tuple[str, Plan]]) -> list[float]:
+    def values(self, steps: Sequence[tuple[str, Any]]) -> list[float]:
         """The values of plans, (what was tried, plan), as far as the budget goes; Ended where it goes no further."""
-        new: dict[Key, tuple[str, Plan]] = {}
+        new: dict[Any, tuple[str, Any]] = {}
         for step, plan in steps:
-            if key_of(plan) not in self.seen:
-                new.setdefault(key_of(plan), (step, plan))
+            if self.key_of(plan) not in self.seen:
+                new.setdefault(self.key_of(plan), (step, plan))
         room = (self.budget - self.simulations) // self.seeds
         tried = list(new.items())[:room]
         self.spent = len(tried) < len(new)
@@ -70,16 +72,16 @@ class Search:
                     raise Ended
         if self.spent:
             raise Ended
-        return [self.seen[key_of(plan)] for _, plan in steps]
+        return [self.seen[self.key_of(plan)] for _, plan in steps]
 
-    def note(self, key: Key, step: str, plan: Plan, value: float) -> None:
+    def note(self, key: Any, step: str, plan: Any, value: float) -> None:
         """Notes the value of a plan, and whether it is the best."""
         self.seen[key] = value
         if value < self.best[0]:
             self.best = value, plan
         self.trials.append(Trial(self.simulations + self.seeds, step, value, self.best[0]))
 
-    def cost(self, step: str, plan: Plan) -> float:
+    def cost(self, step: str, plan: Any) -> float:
         """The value of one plan, of a step's name."""
         return self.values([(step, plan)])[0]
 
@@ -144,7 +146,7 @@ def climb_splits(search: Search, plan: Plan, lights: Mapping[str, Light], order:
     return plan
 
 
-def climb(search: Search, plan: Plan, step: str, change: Change) -> Plan:
+def climb(search: Search, plan: Tried, step: str, change: Callable[[Tried, int], Tried | None]) -> Tried:
     """Repeats a change as long as it helps, and where the first does not help its contrary; gives the plan. step: its
     name."""
     best = search.cost(step, plan)
@@ -157,12 +159,12 @@ def climb(search: Search, plan: Plan, step: str, change: Change) -> Plan:
     return plan
 
 
-def shift_of(names: Sequence[str], seconds: int) -> Change:
+def shift_of(names: Sequence[str], seconds: int) -> Callable[[Plan, int], Plan | None]:
     """A change: the offsets of some lights by some seconds."""
     return lambda plan, sign: {**plan, **{name: plan[name].shifted(sign * seconds) for name in names}}
 
 
-def move_of(light: Light, source: int, target: int, seconds: int) -> Change:
+def move_of(light: Light, source: int, target: int, seconds: int) -> Callable[[Plan, int], Plan | None]:
     """A change: some seconds of green from one phase of a light to another."""
 
     def change(plan: Plan, sign: int) -> Plan | None:

@@ -2,10 +2,11 @@
 import json
 import sys
 from collections.abc import Iterable, Iterator, Mapping, Sequence
-from dataclasses import dataclass, field
+from dataclasses import dataclass, field, replace
 from types import MappingProxyType
 from typing import Any, NamedTuple
 
+from streetsim.actuated.lights import ACTUATED
 from streetsim.base.files import Fault
 from streetsim.base.report import some
 from streetsim.model.mapping import Map
@@ -17,7 +18,7 @@ from streetsim.sessions.machines import Function, Machines
 from streetsim.sessions.prepared import Outcome, Session, vehicle_seconds
 from streetsim.signals.light_lines import LightLines, read_plans
 from streetsim.signals.plans import Light, Plan, light_of, why_kept
-from streetsim.sumo.net import SumoNet
+from streetsim.sumo.net import STATIC, SumoNet
 
 EXACT, CAREFUL = 0, 1  # places of sessions: that of the report, that of the search
 
@@ -34,6 +35,7 @@ class Reading(NamedTuple):
     keep: Sequence[str]  # lights that are left as they are
     rounds: int = 0  # by which vehicles give way without a light
     reserve: int = 0  # of the search: of 1,000, by which its vehicles slow down more often
+    fixed: bool = False  # plans of seconds are found for lights that detectors drive too
 
 
 @dataclass(slots=True)
@@ -107,10 +109,13 @@ def searched_lights(reading: Reading, run: Run, mapping: Map, net: SumoNet) -> t
     lights, plan = {}, {}
     reasons: dict[str, list[str]] = {}
     for name in names:
-        if why := why_kept(name, net.programs[name], asked, timed):
+        program = net.programs[name]
+        if reading.fixed and program.kind == ACTUATED:
+            program = replace(program, kind=STATIC)
+        if why := why_kept(name, program, asked, timed):
             reasons.setdefault(why, []).append(name)
         else:
-            lights[name], plan[name] = light_of(name, net.programs[name], reading.least)
+            lights[name], plan[name] = light_of(name, program, reading.least)
     for why, kept in reasons.items():
         print(f"not changed, {why}: {some(kept)}", file=sys.stderr)
     if not lights:

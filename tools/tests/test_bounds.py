@@ -1,0 +1,90 @@
+"""Bounds and gaps of actuated lights: what a search changes, and what it writes."""
+import csv
+import unittest
+
+from support import PROGRAM, Case, needs_simulator
+from test_actuated import PHASES, street
+from streetsim.actuated.lights import driven_lights
+from streetsim.model.mapping import read_map
+from streetsim.model.runs import read_run
+from streetsim.signals.bounds import Bounds, given_bounds, kept_with, key_of, search_bounds, with_bounds, write_bounds
+from streetsim.signals.search import Search
+
+OWN = Bounds(((0, 5, 40), (2, 5, 30)), 3.0)
+
+
+class Changing(unittest.TestCase):
+    def test_a_gap_and_a_green(self):
+        self.assertEqual(OWN.with_gap(2.5), Bounds(OWN.greens, 2.5))
+        self.assertIsNone(OWN.with_gap(8.5))
+        self.assertEqual(OWN.with_green(1, 7, 35, 5), Bounds(((0, 5, 40), (2, 7, 35)), 3.0))
+        # No least below the lowest, and none as long as the most.
+        self.assertIsNone(OWN.with_green(0, 4, 40, 5))
+        self.assertIsNone(OWN.with_green(0, 40, 40, 5))
+        # One that was lower before stays as it is allowed.
+        low = Bounds(((0, 3, 40),), 3.0)
+        self.assertEqual(low.with_green(0, 3, 50, 5), Bounds(((0, 3, 50),), 3.0))
+
+    def test_the_search_finds_the_least_of_a_bowl(self):
+        # The value is least at a gap of 2 s, a most of 55 s and a least of 9 s.
+        def value(bounded):
+            [own] = bounded.values()
+            [(_, least, most)] = own.greens
+            return 100 + (own.gap - 2) ** 2 + abs(most - 55) + abs(least - 9)
+
+        search = Search(lambda plans: (value(one) for one in plans), 500, 1, key_of=key_of)
+        search_bounds(search, {"L": Bounds(((0, 5, 40),), 3.0)}, 5)
+        [own] = search.best[1].values()
+        self.assertEqual(own, Bounds(((0, 9, 56 if own.greens[0][2] == 56 else 55),), 2.0))
+        self.assertEqual(search.trials[0].step, "given")
+
+
+@needs_simulator
+class Runs(Case):
+    def imported(self, departs=range(0, 300, 4)):
+        run, mapping = self.folder / "run.jsonl", self.folder / "map.json"
+        vehicles = "".join(
+            f'<vehicle id="v{at}" depart="{at}"><route edges="a b"/></vehicle>' for at in departs
+        )
+        net = self.write("x.net.xml", street(PHASES + '<param key="max-gap" value="4"/>'))
+        routes = self.write("x.rou.xml", f"<routes>{vehicles}</routes>")
+        self.tool("import", net, "--routes", routes, "-o", run, "--map", mapping)
+        return net, run, mapping
+
+    def test_bounds_of_a_map(self):
+        _, run, path = self.imported()
+        mapping = read_map(str(path))
+        lights = driven_lights(read_run(str(run)), mapping)
+        self.assertEqual(given_bounds(lights, ()), {"L": Bounds(((0, 5, 40),), 4.0)})
+        self.assertEqual(given_bounds(lights, ("L",)), {})
+        [made] = with_bounds(lights, mapping, {"L": Bounds(((0, 8, 60),), 2.0)}).driven
+        self.assertEqual((made.phases[0].least, made.phases[0].most, made.gaps), (8, 60, (2.0,)))
+        self.assertEqual(kept_with(mapping.programs[0], OWN)["parameters"], {"max-gap": "3"})
+        write_bounds(str(self.folder / "x.add.xml"), mapping, {"L": Bounds(((0, 8, 60),), 2.0)})
+        text = (self.folder / "x.add.xml").read_text(encoding="utf-8")
+        self.assertIn('<tlLogic id="L" type="actuated" programID="streetsim" offset="0">', text)
+        self.assertIn('<param key="max-gap" value="2"/>', text)
+        self.assertIn('<phase duration="30" state="G" minDur="8" maxDur="60"/>', text)
+        self.assertIn('<phase duration="3" state="y"/>', text)
+
+    def test_the_command(self):
+        # A vehicle each 4 s, and nobody crosses: the longer the green the better, so its most goes up.
+        net, run, mapping = self.imported()
+        words = run, "--map", mapping, "--plans", net, "--until", 900, "--bounds", "--budget", 12, "--seeds", 1
+        out = self.folder / "out"
+        places = "-o", self.folder / "found.add.xml", "--out", out, "--jobs", 2, "--program", PROGRAM
+        # Two seeds give an interval that shows nothing.
+        said, _ = self.tool("signals", *words, "--check", "101-102", "--cycle", "40-60", *places, status=1)
+        self.assertIn("the best plan of seconds: ", said)
+        with open(out / "lights.csv", encoding="utf-8") as file:
+            [row] = csv.DictReader(file)
+        self.assertEqual((row["most_before"], row["gap_before"]), ("40", "4"))
+        self.assertTrue(int(row["most_after"]) >= 40 or float(row["gap_after"]) != 4)
+        with open(out / "before-after.csv", encoding="utf-8") as file:
+            self.assertEqual([one["figure"] for one in csv.DictReader(file)], [
+                "mean_trip_s", "mean_trip_of_best_fixed_s",
+            ])
+
+
+if __name__ == "__main__":
+    unittest.main()
