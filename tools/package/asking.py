@@ -32,7 +32,7 @@ def tools(top: Path) -> list[Path]:
 
 def help_of(cache: str, path: Path, *words: str) -> str:
     """What a command prints by --help. Python's cache is a folder elsewhere: none is left beside the sources."""
-    surroundings = {**os.environ, "COLUMNS": WIDE, "LC_ALL": "C.UTF-8", "PYTHONPYCACHEPREFIX": cache}
+    surroundings = {**os.environ, "COLUMNS": WIDE, "PYTHONPYCACHEPREFIX": cache}
     surroundings.pop("PYTHONDONTWRITEBYTECODE", None)
     done = subprocess.run([path, *words, "--help"], env=surroundings, capture_output=True, text=True, check=False)
     if done.returncode:

@@ -47,7 +47,7 @@ def build(tree: Path, log: Path) -> Path:
     """Builds the package in a tree with all that is staged, and gives its file beside the tree."""
     changes = (tree / "CHANGELOG.md").read_text(encoding="utf-8")
     (tree / "debian/changelog").write_text(changelog(changes, maintainer_of(tree)), encoding="utf-8")
-    surroundings = {**os.environ, "LC_ALL": "C.UTF-8", "DEB_BUILD_OPTIONS": "nocheck terse"}
+    surroundings = {**os.environ, "DEB_BUILD_OPTIONS": "nocheck terse"}
     with log.open("w") as said:
         words = ["dpkg-buildpackage", "--build=binary", "--no-sign"]
         done = subprocess.run(words, cwd=tree, env=surroundings, stdout=said, stderr=said, check=False)

@@ -57,9 +57,9 @@ def pack(top: Path, out: Path) -> int:
     with tempfile.TemporaryDirectory(prefix="streetsim-package-") as place:
         tree = Path(place) / "streetsim"
         copy_commit(top, tree)
-        surroundings = {**os.environ, "SOURCE_DATE_EPOCH": epoch, "PYTHONDONTWRITEBYTECODE": "1"}
+        alike = {"SOURCE_DATE_EPOCH": epoch, "TZ": "UTC", "LC_ALL": "C.UTF-8", "PYTHONDONTWRITEBYTECODE": "1"}
         words: list[str | Path] = [sys.executable, tree / "package", "--commit", commit, "--out", out.resolve()]
-        return subprocess.run(words, cwd=place, env=surroundings, check=False).returncode
+        return subprocess.run(words, cwd=place, env={**os.environ, **alike}, check=False).returncode
 
 
 def version_of(tree: Path) -> str:

@@ -14,6 +14,7 @@ import sys
 import tempfile
 import tomllib
 import unittest
+from concurrent.futures import ThreadPoolExecutor
 from html.parser import HTMLParser
 from importlib.util import find_spec
 from pathlib import Path
@@ -160,7 +161,8 @@ class Links(HTMLParser):
 
 @needs_packed
 class Packed(Case):
-    """Two packages, of two clones; the one is unpacked, and installed as a wheel."""
+    """Two packages, of two clones, one of them made on one processor, in another zone and another language; the other
+    is unpacked, and installed as a wheel."""
 
     @classmethod
     def setUpClass(cls):
@@ -168,8 +170,12 @@ class Packed(Case):
         cls.addClassCleanup(made.cleanup)
         cls.place = Path(made.name)
         cls.one, cls.other = cls.place / "one/out", cls.place / "elsewhere"
-        cls.do([cls.clone("one") / "package"])
-        cls.do([cls.clone("other") / "package", "--out", cls.other])
+        alone = ["taskset", "--cpu-list", min(os.sched_getaffinity(0))]
+        words = [*alone, cls.clone("other") / "package", "--out", cls.other]
+        with ThreadPoolExecutor(1) as pool:
+            other = pool.submit(cls.do, words, TZ="Asia/Tokyo", LC_ALL="C")
+            cls.do([cls.clone("one") / "package"])
+            other.result()
         cls.deb = cls.one / f"streetsim_{VERSION}_amd64.deb"
         cls.do(["dpkg-deb", "-x", cls.deb, cls.place / "root"])
         cls.usr = cls.place / "root/usr"
