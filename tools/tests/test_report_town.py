@@ -46,7 +46,8 @@ def map_of():
         streets[edge] = f"Avenue {end[0]}" if begin[0] == end[0] else f"Long Street of the {end[1]} Mills"
     nodes = [[name(*place), 200 * place[0], 200 * place[1], 1] for place in places]
     return {
-        "nodes": nodes, "links": links, "turns": turns, "signals": [], "cars": [], "options": {"classes": ["passenger"]},
+        "nodes": nodes, "links": links, "turns": turns, "signals": [], "cars": [],
+        "options": {"classes": ["passenger"]},
         "warnings": [f"warning: {what} of the import, as long as such lines are" for what in "abcdefghijklmn"],
         "names": {"edges": streets},
     }
