@@ -71,8 +71,10 @@ class SignalEnv:
         return self.observations(), self.figures()
 
     def step(self, actions: Mapping[str, int]) -> tuple[dict[str, Observation], dict[str, float], bool, bool, dict]:
-        """Makes a step under green phases by light; who is not named goes on. Gives observations, rewards, whether
-        nobody is left, whether the time is over, and figures."""
+        """Makes a step of `every` seconds. actions: the number of a green phase by light. A light that is not named
+        goes on as it is, as does one that was changed, or reset, less than `least` seconds ago; ValueError for a phase
+        that it does not have. Gives observations, rewards, whether nobody is left, whether the time is over, and
+        figures."""
         session = self.running()
         changed = [name for name, action in actions.items() if self.choose(name, action)]
         for second in range(self.every):

@@ -141,6 +141,7 @@ class Driver:
 
 
 def controller_of(light: Light, mapping: Map, meters: range) -> Controller:
+    """What drives a light, as its type has it. meters: its detectors by number, from 0 through those of all lights."""
     if isinstance(light, Driven):
         logic = light.logic()
         return Controller(light, logic, partial(Shown(light, mapping).plans, logic), meters)

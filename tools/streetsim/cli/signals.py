@@ -199,7 +199,8 @@ def changes_of(words: argparse.Namespace) -> tuple[list[str], range]:
 
 
 def check_seeds(words: argparse.Namespace) -> range:
-    """The seeds of the report; refuses a budget of no plan, and seeds by which a plan would be found and judged."""
+    """The seeds of --check, by which the plan that is found is judged. Refuses fewer than two of them, one that --seeds
+    names too, and a --budget below the simulations of one plan: one for each seed of --seeds."""
     seeds, check = seeds_of(words.seeds, "--seeds") if words.seeds else range(1), seeds_of(words.check, "--check")
     if len(check) < 2:
         raise Fault(f"--check {words.check}: an interval needs two seeds at least")

@@ -91,8 +91,9 @@ def kind_of(trip: Trip, kinds: Sequence[str]) -> str:
 
 
 def corrected(basis: Basis, one: Attempt, costs: Costs, counted: Any, before: Any) -> Any:
-    """The counts that the next fit is to meet: what passed less than it would by the seconds that the run showed is
-    made up for by half; but not behind full edges, where more demand would only make the queue longer."""
+    """What the next fit is to meet, by count: the mean of what the last fit was to meet (before) and of what was
+    counted, less half of what passed in the run beyond what would pass by the seconds that it showed; 0 at least. At
+    full edges and next after them it is what was counted: more demand would only make the queue longer."""
     numpy, _ = needed()
     shown = stacked(basis, costs) @ one.fitted.whole
     apart = numpy.array(one.passed) - shown

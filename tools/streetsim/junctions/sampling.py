@@ -23,7 +23,8 @@ NORMAL = 1.96  # half the 95 % interval of a normal distribution, in standard de
 
 
 def moments(start: int, until: int) -> list[int]:
-    """Clocks to look at: one at random in each of so many equal parts of every quarter hour."""
+    """Clocks to look at, rising, after the start and up to the end: one at random in each of `LOOKS` equal parts of a
+    quarter hour, but for a last part that is not whole. The same start and end give the same clocks."""
     draws, part = Random(1), QUARTER / LOOKS
     count = int((until - start) / part)
     return sorted({start + 1 + int((place + draws.random()) * part) for place in range(count)} - {until + 1})

@@ -142,7 +142,8 @@ class Recorder(Desk):
         self.lanes_file.write(json.dumps({"clock": clock, "lanes": shown}, separators=(",", ":")) + "\n")
 
     def note_works(self, clock: int, lanes: Mapping[Place, Lane]) -> None:
-        """The queues before works that are under way."""
+        """Notes at a poll the queue before each of the works that are under way, in vehicles and metres; none where
+        nobody queues."""
         for one in self.works.watched:
             place = one.closure
             if place.begin < clock <= place.end:

@@ -36,7 +36,8 @@ class Streets:
 
 
 def streets_of(run: Run, mapping: Map, lights: Mapping[str, Light]) -> Streets:
-    """Flows, their tree, and loads of the vehicles of a run at some lights."""
+    """What formulas need of the vehicles of a run at some lights: the lights by how many pass, the tree of the heaviest
+    flows between them, its hops, and the loads of their phases."""
     plans = [line.command["plan"] for line in run.enters]
     light_at = {node: light for light, node in mapping.signals if light in lights}
     light_of = [light_at.get(link.end) for link in mapping.links]

@@ -132,7 +132,8 @@ def tell(
 
 
 def budget_ended(search: Search) -> str:
-    """After how many plans the budget ended a search, in words; nothing where it did not."""
+    """How a sentence on a search ends, from its comma on, where the budget ended the search: after how many plans;
+    nothing where it did not."""
     return f", where --budget ended the search after {len(search.trials):,} plans" if search.spent else ""
 
 

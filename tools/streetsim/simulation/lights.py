@@ -172,7 +172,8 @@ def check_state(name: str, state: str, length: int) -> None:
 
 
 def check_phases(name: str, phases: Sequence[tuple[float, str]], length: int) -> None:
-    """Refuses phases, (seconds, state), with such states, or that last no time."""
+    """Refuses phases, (seconds, state), with a state that `check_state` refuses, or that last no time. length: how many
+    signals the light has."""
     for duration, state in phases:
         check_state(name, state, length)
         if not duration > 0:
