@@ -3,13 +3,14 @@ import csv
 import json
 import unittest
 from math import inf
+from types import SimpleNamespace
 
 from support import PROGRAM, Case, lane, needs_simulator, net
 from streetsim.actuated.detectors import Layout, LitLane, Spot, Stretch, Way, extending, spots
 from streetsim.actuated.driver import gap_by
-from streetsim.actuated.lights import driven_lights, phase_of
-from streetsim.actuated.logic import Actuated, Phase
-from streetsim.actuated.showing import lasting, plan_of
+from streetsim.actuated.lights import Driven, driven_lights, phase_of
+from streetsim.actuated.logic import Actuated, Ended, Phase
+from streetsim.actuated.showing import Shown, lasting, plan_of
 from streetsim.base.client import Row, Rows
 from streetsim.base.report import Report
 from streetsim.importing.convert import convert
@@ -181,6 +182,18 @@ class Reading(unittest.TestCase):
         self.assertFalse(phase_of([3, "y", None, None, []]).is_extended)
         self.assertGreater(phase_of([42, "G", 5, None, []]).most, 100_000)
 
+    def test_lengths_are_running_means(self):
+        # Of 42 s as listed; the newest counts for a fifth: 42 + 0.2 (12 - 42) = 36, 36 + 0.2 (11 - 36) = 31. The first
+        # phase of a run may have begun before it.
+        phases = (Phase("G", 42, 5, 50, (0,)), Phase("y", 3, 3, 3))
+        shown = Shown(Driven("L", 0, phases, 2.0, (), (), ()), SimpleNamespace(links=[]))
+        light = Actuated(phases, ())
+        self.assertEqual(shown.learn(light), (42, 3))
+        light.ended = [Ended(1, 0, 1, "listed"), Ended(0, 1, 12, "gap"), Ended(1, 13, 3, "listed")]
+        self.assertEqual(shown.learn(light), (36, 3))
+        light.ended.append(Ended(0, 16, 11, "gap"))
+        self.assertEqual(shown.learn(light), (31, 3))
+
     def test_a_plan_begins_now_and_stays(self):
         rows = [frozenset({(0, 0, 1)})] * 3 + [frozenset()] * 2
         command = plan_of(7, rows, 1000)
@@ -252,6 +265,21 @@ class Runs(Case):
     def test_parameters_without_an_effect_are_passed_over(self):
         more = PHASES + '<param key="jam-threshold" value="-1"/><param key="colour" value="red"/>'
         self.assertEqual([one.name for one in self.lights(more).driven], ["L"])
+
+    def test_detectors_are_given_to_the_lights_that_most_pass(self):
+        # Two lights with one detector each, and room for one: the others of the 1,024 are the user's own.
+        found = self.lights()
+        [light] = found.driven
+        self.assertEqual(found.meters, 1)
+        routes = '<routes><vehicle id="v" depart="0"><route edges="a b"/></vehicle></routes>'
+        loops = "".join(f'<inductionLoop id="d{at}" lane="a_0" pos="9" freq="60" file="x"/>' for at in range(1024))
+        paths = self.write("x.net.xml", street(PHASES)), [self.write("x.add.xml", f"<additional>{loops}</additional>")]
+        lines, mapping = run_and_map(
+            convert(*paths, [self.write("x.rou.xml", routes)], Options(), Report()), Report()
+        )
+        none = driven_lights(run_of_texts("run", lines), mapping)
+        self.assertEqual((none.driven, none.listed), ((), {"L": "as no more than 1,024 detectors are to be had"}))
+        self.assertEqual(none.going_by(mapping), [light.name])
 
     def rows(self, folder):
         with open(folder / "phases.csv", encoding="utf-8") as file:

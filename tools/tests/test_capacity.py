@@ -69,6 +69,9 @@ class Formulas(unittest.TestCase):
         self.assertAlmostEqual(gap_capacity(400), 1000.3, delta=0.5)
         self.assertAlmostEqual(gap_capacity(1000), 572.3, delta=0.5)
         self.assertAlmostEqual(gap_capacity(0.001), 1440, delta=1)
+        # Also of flows that are no more than a rounding error.
+        for flow in (1e-9, 1e-14, 1e-300):
+            self.assertAlmostEqual(gap_capacity(flow), 1440, delta=0.01)
         self.assertEqual(gap_capacity(0), float("inf"))
 
     def test_starts(self):

@@ -125,6 +125,20 @@ class Runs(Case):
         listed = Ground(PROGRAM, None, None, 300, 3600, driven=False)
         self.assertEqual(listed.lights(read, found).going_by(found), ["L"])
 
+    def test_a_plan_by_time_of_day_takes_the_place_of_detectors(self):
+        # A line of the run's own at 60 s: until then the light is driven, as above.
+        run, mapping = self.imported()
+        plan = {"cmd": "signal", "node": 1, "offset": 0, "phases": [[30, [[0, 0, 1]]], [30, []]], "at": 60}
+        with open(run, "a", encoding="utf-8") as file:
+            file.write(json.dumps(plan) + "\n")
+        out = self.folder / "out"
+        said, _ = self.tool("run", run, "--map", mapping, "--out", out, "--until", 1200)
+        self.assertNotIn("listed seconds", said)
+        rows = (out / "phases.csv").read_text(encoding="utf-8").splitlines()
+        self.assertEqual(rows[-1], "58,L,1,y,2,")
+        signals = json.loads((out / "setting.json").read_text(encoding="utf-8"))["signals"]
+        self.assertIn("[[30, [[0, 0, 1]]], [30, []]]", json.dumps(signals))
+
     def test_a_page(self):
         # As above: 30 s of green, 3 of yellow, 20 of red, 5 of green; a reply to steps has what is shown from then on.
         run, mapping = map(str, self.imported())

@@ -96,6 +96,28 @@ class Minor(Rounds):
         self.assertIn(f", 1 junctions without a light give way by {yielding['lines']} signal lines", said)
         self.assertEqual(self.setting("nobody")["yielding"]["lines"], 0)
 
+    def test_rounds_and_lights_that_detectors_drive(self):
+        # Behind the junction a light, whose green those hold who come while it is red. Who waits to join waits as without it,
+        # and runs that repeat the one that counts send the same lines.
+        phases = '<phase duration="20" state="G" minDur="5" maxDur="40"/><phase duration="3" state="y"/>'
+        phases += '<phase duration="9" state="r"/>'
+        light = f'<tlLogic id="L" type="actuated" programID="0" offset="0">{phases}</tlLogic>'
+        beyond = f'<edge id="z" from="B" to="F">{lane("z", 0, 300)}</edge><edge '
+        lit = '<connection from="e" to="z" fromLane="0" toLane="0" state="O" tl="L" linkIndex="0"/></net>'
+        text = junction().replace("<edge ", beyond, 1).replace("<junction", light + "<junction", 1)
+        end = '<junction id="F" type="dead_end" x="0" y="0"/><junction'
+        text = text.replace("</net>", lit).replace("<junction", end, 1)
+        departs = [(4 * at, "w") for at in range(30)]
+        self.imported(text, routes([*departs, (50, "s")]).replace(' e"', ' e z"'))
+        said, _ = self.run_it("--until", 600, "--sumo-output", "tripinfo", name="lit")
+        self.assertIn("1 junctions without a light give way", said)
+        self.assertGreater(self.trips("lit")["s.50"], 138 + 22 - 50)
+        rows = (self.folder / "lit/phases.csv").read_text(encoding="utf-8").splitlines()
+        self.assertTrue([row for row in rows if row.endswith(",gap") and int(row.split(",")[-2]) > 5])
+        told = (self.folder / "lit/sumo/tripinfo.xml").read_text(encoding="utf-8")
+        seconds = sorted(float(part.split('"')[1]) for part in told.split(" duration=")[1:])
+        self.assertEqual(seconds, sorted(map(float, self.trips("lit").values())))
+
     def test_equal_words_give_equal_bytes_and_polls_change_nothing(self):
         self.run_it("--until", 600)
         self.run_it("--until", 600, name="again")

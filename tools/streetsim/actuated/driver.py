@@ -39,6 +39,7 @@ class Controller:
     shows: list[Command] = field(default_factory=list)  # the plans that were sent last
     wraps: float = inf  # the clock by which these would begin anew
     in_force: bool = True  # its plans are shown; else it goes on unseen, as in SUMO
+    stopped: float = inf  # the clock from which on a plan of the run's own holds
 
     @property
     def name(self) -> str:
@@ -74,7 +75,7 @@ class Controller:
 
     def due(self) -> int:
         """The next second at which it is looked at."""
-        return int(min(self.logic.due, self.wraps))
+        return int(min(self.logic.due, self.wraps)) if self.stopped == inf else limits.CLOCK
 
 
 class Driver:
@@ -95,6 +96,12 @@ class Driver:
         """The controller of a light's program; of the one in force where none is named."""
         own = (one for one in self.controllers if one.name == light)
         return next((one for one in own if (one.in_force if program is None else one.light.program == program)), None)
+
+    def stop(self, node: int, clock: int) -> None:
+        """A plan of the run's own takes the place of what drives the light of a node."""
+        for one in self.controllers:
+            if one.stopped == inf and any(own.node == node for own in one.light.nodes):
+                one.in_force, one.stopped = False, clock
 
     def release(self, light: str) -> None:
         """Shows no more of what drives a light."""
@@ -126,6 +133,8 @@ class Driver:
     def look(self, clock: int, senses: Senses) -> Iterator[Command]:
         """Looks at the lights that are due, and gives what is to be sent before the next step."""
         for one in self.controllers:
+            if one.stopped < inf:
+                continue
             if one.logic.due <= clock and one.looks(clock, self.first, senses):
                 yield from one.begins(clock)
             elif one.wraps <= clock:
@@ -136,7 +145,7 @@ class Driver:
         return sorted(
             (row.begin, one.name, row.phase, state, row.seconds, row.why)
             for one in self.controllers
-            for row, state in one.logic.told(until)
+            for row, state in one.logic.told(int(min(until, one.stopped)))
         )
 
 

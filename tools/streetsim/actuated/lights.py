@@ -93,9 +93,10 @@ def driven_lights(run: Run, mapping: Map) -> Lights:
     use = passing(run, mapping)
     for light in sorted(mapping.actuated, key=lambda one: -use[one]):
         try:
-            if any(node in timed for name, node in mapping.signals if name == light):
-                raise Listed("as lines of the run change their plans")
-            found = driven_of(kept_of(kept, light), mapping)
+            own = kept_of(kept, light)
+            if any(node in timed for name, node in mapping.signals if name == light) and is_long(own):
+                raise Listed("as lines of the run show their phases one by one")
+            found = driven_of(own, mapping)
             if len(found.cells) > left:
                 raise Listed(f"as no more than {limits.METERS:,} detectors are to be had")
             left -= len(found.cells)
@@ -103,6 +104,11 @@ def driven_lights(run: Run, mapping: Map) -> Lights:
         except Listed as why:
             listed[light] = str(why)
     return Lights(tuple(driven), listed)
+
+
+def is_long(kept: Mapping[str, Any]) -> bool:
+    """Whether a program's listed seconds do not fit in one plan, so that the import tells it by lines with clocks."""
+    return sum(phase[0] for phase in kept["phases"]) > limits.PHASES * limits.PHASE_STEPS
 
 
 def idle_lights(mapping: Map, left: int) -> Iterator[Light]:

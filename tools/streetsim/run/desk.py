@@ -71,6 +71,8 @@ class Desk:
         while self.sent < len(self.run.timed) and self.run.timed[self.sent][0] <= clock:
             line = self.run.timed[self.sent][1]
             due += [*map(own_line, self.works.merges.before(line.command)), line]
+            if line.command["cmd"] == "signal":
+                self.driver.stop(line.command["node"], clock)
             self.works.merges.done(clock, line.command)
             self.sent += 1
         self.send_at(clock, due)

@@ -102,6 +102,8 @@ class Simulation:
             if line.command.get("node") not in self.shown.forgotten:
                 due += [*map(line_of, self.merges.before(line.command)), line.text.encode() + b"\n"]
                 self.merges.done(self.clock, line.command)
+                if line.command["cmd"] == "signal":
+                    self.driving.driver.stop(line.command["node"], self.clock)
             self.sent += 1
         self.send(due)
         self.show(self.shown.due(self.clock))
