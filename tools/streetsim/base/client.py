@@ -24,11 +24,14 @@ class Refused(Exception):
     number = 0
 
     def __init__(self, at: int | None = None, part: str | None = None) -> None:
+        """at: the place of the fault, from 0, in a list; part: of a network, which list that is (nodes, links, turns,
+        or values: zone, dawdle, change, start); none where the refusal has no place."""
         self.at, self.part = at, part
         place = f" at {at}" if part is None else f" at {at} of {part}"
         super().__init__(f"{self.number} {type(self).__name__}{'' if at is None else place}")
 
     def __eq__(self, other: object) -> bool:
+        """Equal are those of one class with the same place."""
         return (
             isinstance(other, Refused) and type(self) is type(other) and (self.at, self.part) == (other.at, other.part)
         )
@@ -67,6 +70,7 @@ class Starved(Exception):
     """Memory was wanting: the command was not done and may be sent again."""
 
     def __eq__(self, other: object) -> bool:
+        """All are equal, so that a list of replies can be compared."""
         return type(self) is type(other)
 
     __hash__ = Exception.__hash__
@@ -103,7 +107,8 @@ class Short:
 
 @dataclass(slots=True, frozen=True)
 class Vehicle:
-    """Where a vehicle is: state is waiting, cell, buffer, arrived or taken, and tells which of the rest there are."""
+    """Where a vehicle is: state is waiting (to enter), cell, buffer, arrived or taken (out), and tells which of the
+    fields below are given; the others keep their defaults."""
 
     car: int  # its number, from 0 by the order of entering
     state: str
@@ -119,17 +124,19 @@ class Vehicle:
 
     @property
     def place(self) -> tuple[int, int]:
-        """The link and the lane of one on cells or in a buffer."""
+        """The link and the lane of one on cells or in a buffer; AssertionError for others."""
         assert self.link is not None and self.lane is not None
         return self.link, self.lane
 
 
 @dataclass(slots=True, frozen=True)
 class Lane:
-    cells: Entries  # of (car, cell of its front, speed), with the size where it is above 1; the greatest cell first
-    buffer: Entries  # of (car, speed, ready), from the front
-    waiting: Entries  # of (car, depart)
-    closed: tuple[tuple[int, int], ...]  # of (first, last)
+    """All that is on one lane and waits before it, the reply to lane."""
+
+    cells: Entries  # of (car, cell of its front, speed in cells a step[, size in cells above 1]); greatest cell first
+    buffer: Entries  # of (car, speed, clock from which it may go on), from the front
+    waiting: Entries  # of (car, clock from which it wishes to enter)
+    closed: tuple[tuple[int, int], ...]  # of (first, last) cell, both included
 
 
 @dataclass(slots=True, frozen=True)
@@ -144,12 +151,13 @@ class Row:
 
     @property
     def flow(self) -> float:
-        """Vehicles a step."""
+        """Vehicles a step; 0 where there is no step yet."""
         return self.passes / self.steps if self.steps else 0.0
 
     @property
     def density(self) -> float:
-        """The share of steps with a vehicle on the cell: vehicles a cell."""
+        """The share, 0 to 1, of steps with a vehicle on the cell, which stands for vehicles a cell; 0 where there is no
+        step yet."""
         return self.occupied / self.steps if self.steps else 0.0
 
     @property
@@ -158,12 +166,14 @@ class Row:
         return self.speeds / self.passes if self.passes else None
 
     def kmh(self, cell_metres: float = limits.CELL_METRES) -> str:
-        """The same in km/h, as it stands in a table."""
+        """The mean speed in km/h as it stands in a table, with one decimal; empty where nobody passed."""
         return "" if self.mean_speed is None else f"{self.mean_speed * (3.6 * cell_metres):.1f}"
 
 
 @dataclass(slots=True, frozen=True)
 class Rows:
+    """The rows of a detector, the reply to read."""
+
     now: Row  # the running period, with the steps it has so far
     rows: tuple[Row, ...]  # the last full periods, at most 32, the oldest first
 
@@ -186,7 +196,7 @@ Reply = Refused | Starved | Loaded | Short | Vehicle | Lane | Rows | Census | in
 
 def reply_of(value: Any) -> Reply:
     """The typed reply of a JSON object; a refusal or Starved is given as a value. Plain numbers answer enter, advance,
-    signal, close, takeout and meter."""
+    signal, close, reopen, takeout and meter. KeyError, TypeError and the like where it is no reply."""
     if "error" in value:
         return REFUSALS[value["error"]](value.get("at"), value.get("part"))
     if "starved" in value:
@@ -220,7 +230,7 @@ def entries(lists: Numbers) -> Entries:
 
 
 def read_reply(line: bytes) -> Reply:
-    """The typed reply of a line."""
+    """The typed reply of a line, as `reply_of` gives it; NoReply where it is none."""
     try:
         return reply_of(json.loads(line))
     except (ValueError, TypeError, KeyError, AttributeError):
@@ -228,8 +238,8 @@ def read_reply(line: bytes) -> Reply:
 
 
 def line_of(command: Command) -> bytes:
-    """The line of a command: a dictionary, or a line that is ready (with or without its end). A blank line would get
-    no reply, and two lines two: they are refused here."""
+    """The line of a command, with its end: of a dictionary, or of a line that is ready (with or without its end). A
+    blank line would get no reply, and two lines two: ValueError for both."""
     if isinstance(command, dict):
         return json.dumps(command, separators=(",", ":")).encode() + b"\n"
     line = (command.encode() if isinstance(command, str) else command).removesuffix(b"\n")
@@ -239,14 +249,14 @@ def line_of(command: Command) -> bytes:
 
 
 def help_of(program: str) -> str:
-    """What a program says of its words; nothing where it has none, as the program of a live page."""
+    """What a program prints on --help; empty where it prints nothing, as the program of a live page does."""
     words = [program, "--help"]
     return subprocess.run(words, stdin=subprocess.DEVNULL, capture_output=True, text=True, check=False).stdout
 
 
 def words_of(program: str, calls: int = 0, keep: str | PathLike[str] | None = None) -> list[str]:
-    """The words by which a program takes any number of calls, or so many, or any number and keeps its session in a
-    file."""
+    """The command line that starts a program. keep: a file, in which its session is kept; else calls: how many calls it
+    takes before it refuses them, 0 for no end."""
     if keep is not None:
         return [program, "--keep", fspath(keep)]
     if calls:
@@ -269,6 +279,9 @@ class Client:
         calls: int = 0,
         keep: str | PathLike[str] | None = None,
     ) -> None:
+        """program: a path or a command's name, else that of STREETSIM_PROGRAM; workers: threads, from 1; calls: how
+        many it takes, 0 for no end; keep: a file of the session, which goes before calls. Fault where there is no
+        program."""
         program = find_program(program)
         words = words_of(program, calls, keep) + (["--workers", str(workers)] if workers != 1 else [])
         self.errors = tempfile.TemporaryFile()
@@ -292,13 +305,14 @@ class Client:
             self.end()
 
     def close(self) -> None:
-        """Ends the input and waits for the program; raises if its status is not 0."""
+        """Ends the input and waits for the program; ProgramEnded if its status is not 0."""
         status, told = self.end()
         if status:
             raise ProgramEnded(status, told)
 
     def end(self) -> tuple[int, str]:
-        """Waits for the program's end; gives its status and standard error."""
+        """Ends the input and waits for the program's end; gives its status and what it wrote on standard error. Later
+        calls give the same again."""
         if self.ended is not None:
             return self.ended
         for pipe in (self.input, self.output):
@@ -313,7 +327,8 @@ class Client:
         return self.ended
 
     def exchange(self, lines: Iterable[bytes]) -> Iterator[bytes]:
-        """Sends lines and gives their replies as bytes. Chunks fit in the pipe; a longer line goes alone."""
+        """Sends lines, each with its end, and gives the reply to each as bytes, in order. They go in chunks that fit in
+        the pipe; a longer line goes alone. ProgramEnded where the program ends before it replied."""
         chunk: list[bytes] = []
         size = 0
         for line in lines:
@@ -338,8 +353,8 @@ class Client:
         return replies
 
     def batch(self, commands: Iterable[Command]) -> list[Reply]:
-        """Sends many commands, dictionaries or ready lines, and gives all replies; refusals stand among them as
-        values."""
+        """Sends commands, dictionaries or ready lines, and gives the typed reply to each, in order; refusals and
+        Starved stand among them as values and do not end the batch."""
         return [read_reply(reply) for reply in self.exchange(map(line_of, commands))]
 
     def ask(self, cmd: str, **fields: Any) -> Any:
@@ -375,17 +390,18 @@ class Client:
         )
 
     def signal(self, node: int, phases: Sequence[Sequence[Any]], offset: int = 0) -> int:
-        """Sets a node's plan, phases of (steps, [(link, lane, next), ..]) with who may go; gives the cycle, in
-        steps."""
+        """Sets a node's plan: phases of (steps, [(link, lane, next link), ..]) with who may go; offset: by how many
+        steps the cycle is ahead of the clock, 0 to the cycle less 1. Gives the cycle, in steps."""
         return self.ask("signal", node=node, offset=offset, phases=phases)
 
     def enter(self, plan: Sequence[int], lane: int = 0, depart: int = 0, size: int = 1) -> int:
-        """Gives the vehicle's number. plan: links; lane: of the first one; depart: the clock from which on it wishes to
-        enter; size: cells that it takes."""
+        """Adds a vehicle and gives its number, from 0. plan: its links, in order; lane: of the first of them; depart:
+        the clock from which on it wishes to enter; size: cells that it takes, 1 to 4."""
         return self.ask("enter", plan=plan, lane=lane, depart=depart, **({} if size == 1 else {"size": size}))
 
     def advance(self, steps: int = 1) -> int:
-        """Makes so many steps, asking again for those that a short reply left, and gives the clock."""
+        """Makes so many steps, 0 to 10,000, of a second each, asking again for those that a short reply left, and gives
+        the clock."""
         reply = self.ask("advance", steps=steps)
         while isinstance(reply, Short):
             steps -= reply.short
@@ -393,11 +409,11 @@ class Client:
         return reply
 
     def close_lane(self, link: int, lane: int, first: int, last: int) -> int:
-        """Closes the cells first to last of a lane; gives how many of its cells are closed now."""
+        """Closes the cells first to last, both included, of a lane; gives how many of its cells are closed now."""
         return self.ask("close", link=link, lane=lane, first=first, last=last)
 
     def reopen_lane(self, link: int, lane: int, first: int, last: int) -> int:
-        """Opens the cells first to last of a lane; gives how many of its cells are still closed."""
+        """Opens the cells first to last, both included, of a lane; gives how many of its cells are still closed."""
         return self.ask("reopen", link=link, lane=lane, first=first, last=last)
 
     def takeout(self, car: int) -> int:
@@ -405,20 +421,22 @@ class Client:
         return self.ask("takeout", car=car)
 
     def meter(self, link: int, lane: int, cell: int, period: int) -> int:
-        """Places a detector whose rows have so many steps; gives its number."""
+        """Places a detector on a cell of a lane; period: steps of each of its rows, 1 to 100,000. Gives its number,
+        from 0."""
         return self.ask("meter", link=link, lane=lane, cell=cell, period=period)
 
     def read(self, meter: int) -> Rows:
-        """What a detector, by its number, has noted."""
+        """What a detector, by the number that `meter` gave, has noted."""
         return self.ask("read", meter=meter)
 
     def vehicle(self, car: int) -> Vehicle:
-        """Where a vehicle is, by its number."""
+        """Where a vehicle is, by the number that `enter` gave."""
         return self.ask("vehicle", car=car)
 
     def lane(self, link: int, lane: int) -> Lane:
-        """All that is on and before one lane."""
+        """All that is on one lane, in its buffer, and waits to enter it."""
         return self.ask("lane", link=link, lane=lane)
 
     def count(self) -> Census:
+        """How many vehicles are where, at the present clock."""
         return self.ask("count")

@@ -42,8 +42,9 @@ def open_text(path: FilePath, mode: str) -> TextFile:
 
 
 def open_text(path: FilePath, mode: str = "r") -> TextFile:
-    """Opens a text file. What is read is gzip by its content, and may begin with a byte order mark; what is written is
-    gzip where the name ends with .gz (without time or name inside, so that equal runs give equal bytes)."""
+    """Opens a text file, of UTF-8, to read (mode r) or to write. What is read is gzip by its content, whatever its
+    name, and may begin with a byte order mark; what is written is gzip where the name ends with .gz (without time or
+    name inside, so that equal runs give equal bytes)."""
     if mode == "r":
         return io.TextIOWrapper(open_bytes(path), encoding="utf-8-sig", newline="")
     if str(path).endswith(".gz"):
@@ -57,7 +58,7 @@ def open_bytes(path: FilePath) -> IO[bytes]:
 
 
 def is_gzip(path: FilePath) -> bool:
-    """Whether a file is gzip; a pipe, which is read once, by its name."""
+    """Whether a file is gzip, by its first bytes; a pipe or device, which is read once, by its name (.gz)."""
     if os.path.exists(path) and not os.path.isfile(path):
         return str(path).endswith(".gz")
     with open(path, "rb") as file:
@@ -65,7 +66,7 @@ def is_gzip(path: FilePath) -> bool:
 
 
 class ZippedText:
-    """Writes text to a gzip file."""
+    """Writes text, as UTF-8, to a gzip file without time or name inside."""
 
     def __init__(self, path: FilePath, mode: str) -> None:
         self.raw = open(path, f"{mode}b")
@@ -94,7 +95,8 @@ TextFile = IO[str] | ZippedText  # to write
 
 @contextlib.contextmanager
 def reading(path: FilePath) -> Iterator[None]:
-    """Turns what can go wrong while a file is read into a Fault with the file's name."""
+    """While a file is read, turns what can go wrong (no such file, no XML or JSON, broken gzip, no UTF-8) into a Fault
+    with the file's name."""
     try:
         yield
     except ElementTree.ParseError as fault:
@@ -108,8 +110,8 @@ def reading(path: FilePath) -> Iterator[None]:
 
 
 def elements(path: FilePath, roots: Collection[str] | None) -> Iterator[Element]:
-    """The children of the root of an XML file, each whole, one after another, of which the root keeps none; Fault where
-    the root has none of the given names, if any are given."""
+    """The children of the root of an XML file, each whole, one after another; each is emptied when the next one is
+    asked for. Fault where the root's tag is none of `roots`; none or no roots: any will do."""
     with reading(path), open_bytes(path) as file:
         depth = 0
         for event, element in ElementTree.iterparse(file, ("start", "end")):
@@ -124,7 +126,8 @@ def elements(path: FilePath, roots: Collection[str] | None) -> Iterator[Element]
 
 
 def told(path: FilePath, element: Element) -> str:
-    """An element of a file, as faults name it."""
+    """An element of a file in words, as faults name it: the path, its tag, and its id (or else its from) if it has
+    one."""
     name = element.get("id") or element.get("from")
     return f"{path}: <{element.tag}{f' {name!r}' if name else ''}>"
 
@@ -141,7 +144,7 @@ def attribute(path: FilePath, element: Element, name: str, convert: Callable[[st
 
 
 def attribute(path: FilePath, element: Element, name: str, convert: Callable[[str], Any] = str) -> Any:
-    """An attribute that must be there and must convert."""
+    """An attribute, converted; Fault where the element has none of this name, or `convert` raises ValueError."""
     text = element.get(name)
     if text is None:
         raise Fault(f"{told(path, element)}: no attribute {name!r}")
@@ -159,7 +162,7 @@ def optional(
 
 
 def number(text: str) -> float:
-    """A finite number; ValueError otherwise."""
+    """A finite number of a text; ValueError otherwise."""
     value = float(text)
     if not math.isfinite(value):
         raise ValueError(text)
@@ -167,7 +170,7 @@ def number(text: str) -> float:
 
 
 def only(convert: Callable[[str], Number], holds: Callable[[Number], bool]) -> Callable[[str], Number]:
-    """A conversion that takes only numbers for which something holds; ValueError otherwise."""
+    """A conversion of a text to a number for which something holds; ValueError for other numbers."""
 
     def converted(text: str) -> Number:
         value = convert(text)
@@ -179,24 +182,24 @@ def only(convert: Callable[[str], Number], holds: Callable[[Number], bool]) -> C
 
 
 def at_least_zero(convert: Callable[[str], Number]) -> Callable[[str], Number]:
-    """A conversion that takes no negative number."""
+    """A conversion that takes numbers from 0 on; ValueError for a negative one."""
     return only(convert, lambda value: value >= 0)
 
 
 def above_zero(convert: Callable[[str], Number]) -> Callable[[str], Number]:
-    """A conversion that takes numbers above 0 alone."""
+    """A conversion that takes numbers above 0 alone; ValueError for 0 and below."""
     return only(convert, lambda value: value > 0)
 
 
 def filled(text: str) -> str:
-    """A text that is not empty; ValueError otherwise."""
+    """The text itself, where it is not empty; ValueError otherwise."""
     if not text:
         raise ValueError(text)
     return text
 
 
 def seconds(text: str) -> float:
-    """Seconds of a SUMO time: 3.5, or 01:30:00, or 1:01:30:00 with days; ValueError otherwise."""
+    """The seconds of a SUMO time: 3.5, or 01:30:00, or 1:01:30:00 with days; ValueError where it is none."""
     parts = text.split(":")
     value = sum(float(part) * scale for part, scale in zip(reversed(parts), (1, 60, 3600, 86400), strict=False))
     if len(parts) not in (1, 3, 4) or not -1e9 < value < 1e12:
@@ -205,7 +208,8 @@ def seconds(text: str) -> float:
 
 
 def read_json(path: FilePath, keys: Iterable[str]) -> Json:
-    """The JSON object of a file; Fault where it is none or a key is absent."""
+    """The JSON object of a file; Fault where it holds no object, or one without a key of `keys`. Other keys may stand
+    there too."""
     with reading(path), open_text(path) as file:
         value = json.load(file)
     absent = [key for key in keys if not isinstance(value, dict) or key not in value]
@@ -224,7 +228,8 @@ def read_json_list(path: FilePath) -> list[Json]:
 
 
 def place_of(path: FilePath) -> str:
-    """Where an output is written: a link is followed; Fault where anything but a regular file is there."""
+    """The real path of an output (a link is followed), which need not be there; Fault where anything but a regular file
+    is there."""
     place = os.path.realpath(path)
     if os.path.exists(place) and not os.path.isfile(place):
         raise Fault(f"{path}: exists and is no regular file")
@@ -232,7 +237,7 @@ def place_of(path: FilePath) -> str:
 
 
 def refuse_equal(outputs: Mapping[str, FilePath], inputs: Iterable[FilePath] = ()) -> None:
-    """Refuses outputs, {what the user calls it: path}, of which two are one file, or one is an input."""
+    """Fault where two of the outputs, {what the user calls it: path}, are one file, or one of them is an input."""
     places: dict[str, str] = {}
     for name, path in outputs.items():
         place = os.path.realpath(path)
@@ -246,8 +251,8 @@ def refuse_equal(outputs: Mapping[str, FilePath], inputs: Iterable[FilePath] = (
 
 @contextlib.contextmanager
 def whole_path(path: FilePath) -> Iterator[str]:
-    """A path to write to, whose file takes the place of an output when all is written;
-    after a fault nothing is left."""
+    """A path to write to. When the block ends, the file written there takes the place of the output `path`; after an
+    exception nothing is left and the output is as it was."""
     place = place_of(path)
     try:
         with half_file(place) as half:
@@ -261,17 +266,20 @@ def whole_path(path: FilePath) -> Iterator[str]:
 
 @contextlib.contextmanager
 def whole_file(path: FilePath) -> Iterator[TextFile]:
-    """A text file to write, which takes its name when all is written; after a fault nothing of it is left."""
+    """A text file to write (gzip where the name ends with .gz), which takes its name when the block ends; after an
+    exception nothing of it is left."""
     with whole_path(path) as half, open_text(half, "w") as file:
         yield file
 
 
 @contextlib.contextmanager
 def whole_folder(path: FilePath, last: str, at_wish: Iterable[str] = ()) -> Iterator[str]:
-    """A folder to write to, whose files come to an output folder together; after a fault that folder is as it was.
+    """A folder to write to, whose files come to the output folder `path` together; after an exception that folder is as
+    it was.
 
     A file of the name `last` is away while the others take their places, so that a folder without it is not whole.
-    Beside it files that are only written at wish, and are not now, go too: they are of what stood there before.
+    at_wish: names of files that are written only where the user asks for them: old ones of a run before are removed
+    with it, so that none stays beside new results.
     """
     made = not os.path.isdir(path)
     try:
@@ -291,8 +299,8 @@ def whole_folder(path: FilePath, last: str, at_wish: Iterable[str] = ()) -> Iter
 
 
 def move_files(source: str, target: FilePath, last: str, at_wish: Iterable[str] = ()) -> None:
-    """Moves all files below a folder to their places below another; those of the name `last` at the end.
-    Where one of these is, older files of the names `at_wish` are removed."""
+    """Moves all files below the folder `source` to the same places below `target`; those of the name `last` go last of
+    all. In each folder that gets one, the older files of that name and of the names `at_wish` are removed first."""
     names = [
         os.path.relpath(os.path.join(folder, name), source) for folder, _, files in os.walk(source) for name in files
     ]
@@ -313,7 +321,7 @@ ENDINGS = (signal.SIGTERM, signal.SIGINT, signal.SIGHUP)
 
 @contextlib.contextmanager
 def uninterrupted() -> Iterator[None]:
-    """Holds back the signals that end a tool."""
+    """Holds back, while the block runs, the signals that end a tool; they come after it."""
     before = signal.pthread_sigmask(signal.SIG_BLOCK, ENDINGS)
     try:
         yield
@@ -322,20 +330,21 @@ def uninterrupted() -> Iterator[None]:
 
 
 def end_by_signal(number: int, _frame: FrameType | None) -> NoReturn:
-    """Ends the tool as by a fault, so that nothing half is left."""
+    """Handles a signal: ends the tool by SystemExit, so that nothing half-written is left; the status is 128 and the
+    signal's number."""
     sys.exit(128 + number)
 
 
 def run_tool(main: Main) -> NoReturn:
-    """Runs a tool's main function: a Fault is told in a line, with status 2."""
+    """Runs a tool's main function on the words of the command line and ends the process with its status."""
     for number in (signal.SIGTERM, signal.SIGHUP):
         signal.signal(number, end_by_signal)
     sys.exit(status_of(main))
 
 
 def status_of(main: Main) -> int:
-    """What a tool's main function gives, or the status of what went wrong, which is told: 2 for a Fault or a file, 1
-    where nobody reads the output, 130 for Ctrl-C."""
+    """The status of a tool: what its main function gives, or of what went wrong, which is told on standard error: 2 for
+    a Fault or a file, 1 (untold) where nobody reads the output, 130 (untold) for Ctrl-C."""
     try:
         try:
             return main(sys.argv[1:])
@@ -361,5 +370,5 @@ def tell_fault(text: object) -> None:
 
 
 def drop_output() -> None:
-    """Sends what standard output still holds nowhere, so that it is not tried again at the end."""
+    """Sends standard output nowhere from now on, so that what it still holds fails no second time at the end."""
     os.dup2(os.open(os.devnull, os.O_WRONLY), sys.stdout.fileno())

@@ -15,7 +15,8 @@ FOLDER = ".half-"
 
 @contextlib.contextmanager
 def half_folder(inside: str | os.PathLike[str]) -> Iterator[str]:
-    """A hidden folder to write to inside another one; it is away in the end."""
+    """An empty hidden folder to write to inside another one; it is removed when the block ends. First those that killed
+    tools left there are removed."""
     remove_left(os.path.join(glob.escape(os.fspath(inside)), f"{FOLDER}*"))
     path, held = hold_new(lambda: tempfile.mkdtemp(prefix=FOLDER, dir=inside))
     try:
@@ -27,7 +28,8 @@ def half_folder(inside: str | os.PathLike[str]) -> Iterator[str]:
 
 @contextlib.contextmanager
 def half_file(path: str) -> Iterator[str]:
-    """The path of a hidden file to write beside another one; it is away in the end, or has another name."""
+    """The path of a new hidden file to write beside `path`; it is removed when the block ends, unless it was renamed.
+    First those that killed tools left there are removed."""
     folder, name = os.path.split(path)
     stem, dot, end = name.partition(".")
     remove_left(os.path.join(glob.escape(folder), f".{glob.escape(stem)}.*.half{glob.escape(dot + end)}"))
@@ -41,12 +43,12 @@ def half_file(path: str) -> Iterator[str]:
 
 
 def is_half(path: str) -> bool:
-    """Whether a path is of what is being written, or lies in it."""
+    """Whether a path is of what is being written (`half_folder`, `half_file`), or lies in it."""
     return any(part.startswith(FOLDER) or (part[:1] == "." and ".half" in part) for part in str(path).split(os.sep))
 
 
 def new_file(path: str) -> str:
-    """Makes a file that is empty, or leaves one as it is; gives its path."""
+    """Makes an empty file where there is none, and leaves one that is there as it is; gives its path."""
     os.close(os.open(path, os.O_CREAT | os.O_WRONLY, 0o666))
     return path
 
@@ -64,7 +66,8 @@ def hold_new(make: Callable[[], str]) -> tuple[str, int]:
 
 
 def lock(held: int) -> bool | None:
-    """Takes the lock on an open file: false where another tool holds it, none where its file system has no locks."""
+    """Takes the lock on an open file, by its descriptor, without waiting: true where this tool has it now, false where
+    another holds it, none where its file system has no locks."""
     try:
         fcntl.flock(held, fcntl.LOCK_EX | fcntl.LOCK_NB)
     except BlockingIOError:
@@ -75,7 +78,8 @@ def lock(held: int) -> bool | None:
 
 
 def remove_left(pattern: str) -> None:
-    """Removes the files and folders of a pattern (as glob's) that no tool holds; what cannot be removed stays."""
+    """Removes the files and folders of a pattern (as glob's) that no tool holds; what cannot be removed stays, and
+    nothing is said."""
     for path in glob.glob(pattern, include_hidden=True):
         with contextlib.suppress(OSError):
             held = os.open(path, os.O_RDONLY | os.O_NOFOLLOW)

@@ -1,4 +1,4 @@
-"""Work in processes side by side."""
+"""Work in processes side by side, with results in order, news of how far each is, and the first Fault for all."""
 import multiprocessing
 import os
 import signal
@@ -11,10 +11,10 @@ from streetsim.base.files import Fault
 
 Item = TypeVar("Item")
 Result = TypeVar("Result")
-Tell = Callable[[Any], object]  # how far a work is
-Told = Callable[[int, Any], object]  # the same with the place of its item
-Running = dict[Connection, tuple[int, BaseProcess]]
-CORES = len(os.sched_getaffinity(0))
+Tell = Callable[[Any], object]  # takes any value that says how far a work is
+Told = Callable[[int, Any], object]  # takes the place of an item, from 0, and what its work told
+Running = dict[Connection, tuple[int, BaseProcess]]  # by the pipe that it tells to: place of its item, process
+CORES = len(os.sched_getaffinity(0))  # that this process may use
 
 
 def side_by_side(
@@ -23,11 +23,11 @@ def side_by_side(
     jobs: int = CORES,
     told: Told = lambda place, value: None,
 ) -> list[Result]:
-    """What a function gives for each item, in the items' order.
-    Each runs in a process of its own, at most so many at once.
+    """What a function gives for each item, in the items' order. Each runs in a process of its own, at most `jobs` at
+    once.
 
-    The function gets an item and a function to tell how far it is; what it tells goes to `told(place, value)`.
-    A Fault of one ends all the others and is raised.
+    The function gets an item and a function to tell how far it is; what it tells goes to `told(place, value)`, place:
+    of the item, from 0. A Fault of one ends all the others and is raised.
     """
     waiting = list(enumerate(items))
     running: Running = {}
@@ -47,7 +47,7 @@ def side_by_side(
 
 
 def begin(work: Callable[[Item, Tell], object], place: int, item: Item, running: Running) -> None:
-    """Starts a process; what it tells comes from the pipe that is its key."""
+    """Starts a process for an item, and notes it in `running`; place: of the item, from 0."""
     pipe, end = multiprocessing.Pipe(duplex=False)
     process = multiprocessing.get_context("fork").Process(target=do, args=(work, item, end))
     process.start()
@@ -56,7 +56,7 @@ def begin(work: Callable[[Item, Tell], object], place: int, item: Item, running:
 
 
 def do(work: Callable[[Item, Tell], object], item: Item, pipe: Connection) -> None:
-    """Runs in the process: ends by signals as programs do, and tells a result or a Fault."""
+    """Runs inside the process: ends by signals as programs do, and sends a result or a Fault to the pipe."""
     signal.signal(signal.SIGINT, signal.SIG_IGN)
     for number in (signal.SIGTERM, signal.SIGHUP):
         signal.signal(number, signal.SIG_DFL)
@@ -67,7 +67,8 @@ def do(work: Callable[[Item, Tell], object], item: Item, pipe: Connection) -> No
 
 
 def hear(pipe: Connection, running: Running, results: dict[int, Result], told: Told) -> None:
-    """Takes one message of a process."""
+    """Takes one message of a process: notes its result, or passes on what it tells; raises its Fault, or one where it
+    ended without a result."""
     place, process = running[pipe]
     try:
         kind, value = pipe.recv()

@@ -1,6 +1,6 @@
 """What streetsim takes at most, and its units."""
 CELL_METRES = 7.5
-GAP_METRES = 2.5  # of a vehicle's cells, the gap ahead of it: SUMO's default, so that a car is 5 m long
+GAP_METRES = 2.5  # the part of a vehicle's cells that is the gap ahead of it: SUMO's default, so a car is 5 m long
 CELL_KMH = 27  # one cell a step of one second
 NODES = 4_096  # of a network
 LINKS = 4_096  # of a network

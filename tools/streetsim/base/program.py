@@ -1,4 +1,4 @@
-"""Which program the tools run."""
+"""Which program, the simulator, the tools run."""
 import os
 import shutil
 from pathlib import Path

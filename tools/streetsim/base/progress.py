@@ -12,18 +12,19 @@ PAUSE = 0.2  # seconds between two writings of a line
 
 
 class TerminalLine:
-    """A line that is written over and over on a terminal. Nothing elsewhere."""
+    """A line that is written over and over on a terminal; where the stream is no terminal, nothing is written."""
 
     def __init__(self, stream: IO[str] | None = None) -> None:
+        """stream: where the line is written; none: standard error."""
         self.stream = stream or sys.stderr
         self.shown, self.begin, self.last, self.width = self.stream.isatty(), time.monotonic(), 0.0, 0
 
     def seconds(self) -> float:
-        """Since the begin."""
+        """Seconds since this line was made."""
         return time.monotonic() - self.begin
 
     def is_due(self, ended: bool) -> bool:
-        """Whether to write it now: at most five times a second, and at the end."""
+        """Whether to write it now: on a terminal at most five times a second, and when the work has ended."""
         now = time.monotonic()
         if not self.shown or (now - self.last < PAUSE and not ended):
             return False
@@ -31,11 +32,11 @@ class TerminalLine:
         return True
 
     def write(self, text: str, end: str = "") -> None:
-        """Writes a text from the line's begin on, and what ends it."""
+        """Writes a text from the left end of the line on, and `end` behind it."""
         print(f"\r{text}", end=end, file=self.stream, flush=True)
 
     def write_over(self, text: str) -> None:
-        """Writes it where one was that may be longer."""
+        """Writes a text, with blanks where the one before was longer."""
         self.write(f"{text:{self.width}}")
         self.width = len(text)
 
@@ -47,14 +48,16 @@ class TerminalLine:
 
 
 class Meanwhile(TerminalLine):
-    """How much is done of what, what else there is to say, minutes left."""
+    """A line that says how much of some work is done, and how many minutes are left."""
 
     def __init__(self, what: str, total: int, stream: IO[str] | None = None) -> None:
+        """what: the parts of the work in the plural, as the line says it ("12 of 40 plans"); total: how many there
+        are."""
         super().__init__(stream)
         self.what, self.total = what, total
 
     def show(self, done: int, more: str = "") -> None:
-        """Writes the line where it is due; done: of the total; more: what else there is to say."""
+        """Writes the line where it is due; done: parts done, 0 to the total; more: what else there is to say."""
         if self.is_due(done >= self.total):
             self.write_over(self.line(done, more, self.seconds()))
 
@@ -70,16 +73,18 @@ class Meanwhile(TerminalLine):
 
 
 class UnderWay(TerminalLine):
-    """The clock of a run, or how many of several are done; vehicles on their way, arrived,
-    steps a second. It stays there."""
+    """A line on the terminal with the clock of a run, or how many of several runs are done; vehicles on their way,
+    arrived, steps a second. It is not taken away in the end."""
 
     def __init__(self, until: int, runs: int = 1, stream: IO[str] | None = None) -> None:
+        """until: the clock at which each run ends; runs: how many there are."""
         super().__init__(stream)
         self.until = until
         self.clocks, self.ways, self.arrived = [0] * runs, [0] * runs, [0] * runs
 
     def show(self, clock: int, census: Census | None, run: int = 0) -> None:
-        """Notes how far a run (by its place) is; nothing before its first census."""
+        """Notes how far a run (by its place, from 0) is, and writes the line where it is due; does nothing before the
+        run's first census (none)."""
         if not self.shown or census is None:
             return
         self.clocks[run], self.ways[run], self.arrived[run] = clock, census.cells + census.buffers, census.arrived
@@ -99,7 +104,8 @@ class UnderWay(TerminalLine):
 
 
 class Slow(TerminalLine):
-    """What a tool does and since when, once that has taken two seconds."""
+    """A line that says what a tool does and for how many seconds, once that has taken longer than two seconds; it is
+    taken away in the end."""
 
     def __init__(self, text: str, stream: IO[str] | None = None, wait: float = 2.0) -> None:
         """text: what the tool does; wait: seconds before the line comes."""
@@ -126,12 +132,13 @@ class Slow(TerminalLine):
 
 
 def bar(done: int, total: int) -> str:
-    """What is done, as 30 characters."""
+    """The share that is done, as 30 characters of # and blanks."""
     return f"{'#' * (30 * done // max(1, total)):30}"
 
 
 class Stopping:
-    """Ctrl-C asks for an end, which `asked` then tells; a second one ends the tool as anywhere."""
+    """While the block runs, the first Ctrl-C only sets `asked`, and the caller ends its work when it sees that; a
+    second one ends the tool as anywhere."""
 
     def __init__(self) -> None:
         self.asked = False

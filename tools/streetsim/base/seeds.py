@@ -1,4 +1,4 @@
-"""Seeds, and what runs with several of them tell: means, intervals, how many runs are needed."""
+"""Seeds, and what the results of runs with several of them tell: means, 95 % intervals, how many runs are needed."""
 from collections.abc import Sequence
 from math import ceil, sqrt
 from statistics import NormalDist, fmean, stdev
@@ -16,7 +16,8 @@ STUDENT = (
 
 
 def seeds_of(text: str | int, name: str) -> range:
-    """The seeds of FIRST-LAST, or of one number; Fault where it is neither; name: what the user calls them."""
+    """The seeds of a text FIRST-LAST, both included, or of one number; Fault where it is neither, or names more than
+    1,000. name: what the user calls them."""
     first, _, last = str(text).partition("-")
     last = last or first
     if not (first.isdecimal() and last.isdecimal() and int(first) <= int(last) < min(int(first) + MOST_SEEDS, 2**64)):
@@ -25,8 +26,8 @@ def seeds_of(text: str | int, name: str) -> range:
 
 
 def student(degrees: int) -> float:
-    """The quantile of Student's t at 97.5 % for so many degrees of freedom: of the table, and beyond it by the first
-    terms of its expansion about the normal one, which are exact to 0.001 there."""
+    """The quantile of Student's t at 97.5 % for so many degrees of freedom, from 1: of the table, and beyond it by the
+    first terms of its expansion about the normal one, which are exact to 0.001 there."""
     if degrees <= len(STUDENT):
         return STUDENT[degrees - 1]
     z = NORMAL
@@ -34,24 +35,26 @@ def student(degrees: int) -> float:
 
 
 def half_width(deviation: float, runs: int) -> float:
-    """Half the width of the 95 % interval of a mean of so many runs, two at least, of their standard deviation."""
+    """Half the width of the 95 % interval of a mean of so many runs (two at least), by their standard deviation, in its
+    unit."""
     return student(runs - 1) * deviation / sqrt(runs)
 
 
 def paired(before: Sequence[float], after: Sequence[float]) -> tuple[float, float | None]:
-    """The mean difference of runs with equal seeds, in the order of both, and half the width of its 95 % interval (none
-    for one run)."""
+    """The mean of `after` less `before` over runs with equal seeds in the same order, and half the width of its 95 %
+    interval (none for one run)."""
     return interval([there - here for here, there in zip(before, after, strict=True)])
 
 
 def unpaired(before: Sequence[float], after: Sequence[float]) -> float:
-    """Half the width of the 95 % interval of a difference of means, were the runs of other seeds."""
+    """Half the width of the 95 % interval of a difference of means, if the runs were taken as of other seeds; as many
+    of both, two at least."""
     return half_width(sqrt(stdev(before) ** 2 + stdev(after) ** 2), len(before))
 
 
 def runs_needed(deviation: float, error: float) -> int | None:
-    """The least number of runs whose interval reaches at most an error, in the values' unit, to each side: n = (t s /
-    e)^2 with the t of n - 1; none above a million."""
+    """The least number of runs, two at least, whose 95 % interval reaches at most `error`, in the values' unit, to each
+    side: n = (t s / e)^2 with the t of n - 1; none above a million. deviation: the standard deviation, same unit."""
     low, high = 2, 2
     while half_width(deviation, high) > error:
         if high >= MOST_RUNS:
@@ -64,14 +67,15 @@ def runs_needed(deviation: float, error: float) -> int | None:
 
 
 def seeds_for(values: Sequence[float], spread: float = 0.005, error: float = 0.01, most: int = 10) -> int:
-    """How many seeds a search needs, by runs of the given plan: one where their standard deviation is at most half a
-    percent of the mean; else so many that the standard error of their mean is at most a percent, two at least."""
+    """How many seeds a search needs, by the values of two or more runs of the given plan: one where their standard
+    deviation is at most the share `spread` of the mean; else so many that the standard error of the mean is at most the
+    share `error` of it, 2 to `most`."""
     relative = stdev(values) / fmean(values) if fmean(values) else 0.0
     return 1 if relative <= spread else min(most, max(2, ceil((relative / error) ** 2)))
 
 
 def interval(values: Sequence[float]) -> tuple[float, float | None]:
-    """The mean of some values and half the width of its 95 % interval (none for one value)."""
+    """The mean of one or more values and half the width of its 95 % interval (none for one value)."""
     if len(values) < 2:
         return fmean(values), None
     quantile = STUDENT[len(values) - 2] if len(values) - 2 < len(STUDENT) else 1.96

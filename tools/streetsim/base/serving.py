@@ -1,4 +1,4 @@
-"""A program that serves a run."""
+"""The program, started to serve one run."""
 import contextlib
 from collections.abc import Iterator
 
@@ -8,7 +8,8 @@ from streetsim.base.files import Fault, FilePath
 
 @contextlib.contextmanager
 def serving(program: str | None, path: FilePath, workers: int = 1, client: type[Client] = Client) -> Iterator[Client]:
-    """The program, started for the run of a file, which faults name; what it refuses, and that it ends, is a Fault."""
+    """The program, started for the run of a file, and ended after the block. path: the file, for a Fault's words alone.
+    What the program refuses, and that it ends too early, is a Fault."""
     try:
         with client(program, workers) as sim:
             yield sim

@@ -9,7 +9,7 @@ from typing import Any, NoReturn
 from streetsim.base.files import Fault, seconds
 from streetsim.base.jobs import CORES
 
-ROUNDS, MOST_ROUNDS = 2, 10  # before a run that counts
+ROUNDS, MOST_ROUNDS = 2, 10  # of runs before the one that counts, by default and at most
 FALSE = ("false", "0", "no", "off", "f")  # as SUMO reads a word that is on or off
 FREE = ("--title",)  # words whose text may be empty
 
@@ -29,13 +29,13 @@ class Parser(argparse.ArgumentParser):
         return super().parse_known_args(args, namespace)
 
     def error(self, message: str) -> NoReturn:
-        """The Fault of wrong words."""
+        """Raises the Fault of wrong words, in place of argparse's exit."""
         raise Fault(f"{message.removeprefix('argument ')} (what may be given: {self.prog} --help)")
 
 
 def naming_nothing(words: Sequence[str]) -> str | None:
-    """Tells of the first word without a name in it, as a variable of the shell that is not set leaves one: a tool would
-    go on as if it were not there; none where all name something."""
+    """What is wrong with the first word that has no name in it, as a variable of the shell that is not set leaves one
+    (a tool would go on as if the word were not there); none where all name something."""
     for before, word in zip(("", *words), words):
         name, sign, text = word.partition("=")
         option, value = (name, text) if sign and word.startswith("--") else (before, word)
@@ -45,7 +45,8 @@ def naming_nothing(words: Sequence[str]) -> str | None:
 
 
 def within(least: int, most: int) -> Callable[[str], int]:
-    """A conversion that takes whole numbers from least to most, both included."""
+    """A conversion for argparse that takes whole numbers from least to most, both included; ArgumentTypeError
+    otherwise."""
 
     def number(text: str) -> int:
         if not text.isdecimal() or not least <= int(text) <= most:
@@ -56,7 +57,8 @@ def within(least: int, most: int) -> Callable[[str], int]:
 
 
 def time_within(least: int, most: int) -> Callable[[str], int]:
-    """A conversion that takes whole seconds of a range, written as SUMO's times: 3600, 01:00:00 or 0:01:00:00."""
+    """A conversion for argparse that takes whole seconds from least to most, both included, written as SUMO's times:
+    3600, 01:00:00 or 0:01:00:00; ArgumentTypeError otherwise."""
 
     def time(text: str) -> int:
         value = whole_seconds(text)
@@ -68,7 +70,7 @@ def time_within(least: int, most: int) -> Callable[[str], int]:
 
 
 def whole_seconds(text: str) -> int | None:
-    """The seconds of a SUMO time; none where it is no time or no whole second."""
+    """The seconds of a SUMO time, as `seconds` reads it; none where it is no time or no whole second."""
     try:
         value = seconds(text)
     except ValueError:
@@ -77,18 +79,19 @@ def whole_seconds(text: str) -> int | None:
 
 
 def listed(text: str) -> list[str]:
-    """The names of a list, with spaces or commas between; neither stands in a name of SUMO's."""
+    """The names of a text with blanks or commas between them, in its order, equal ones too; neither stands in a name of
+    SUMO's. Empty where it has none."""
     return [name for name in re.split(r"[\s,]+", text) if name]
 
 
 def add_run(made: argparse.ArgumentParser) -> None:
-    """The words that name what streetsim-import made."""
+    """Adds to a parser the words that name what streetsim-import made: the run and --map."""
     made.add_argument("run", help="the run (.jsonl)")
     made.add_argument("--map", required=True, help="its map of names (.json)")
 
 
 def add_names(made: argparse.ArgumentParser) -> None:
-    """The word that gives names of one's own."""
+    """Adds --names to a parser: a file of names of one's own."""
     made.add_argument(
         "--names",
         metavar="FILE",
@@ -98,7 +101,7 @@ def add_names(made: argparse.ArgumentParser) -> None:
 
 
 def add_jobs(made: argparse.ArgumentParser) -> None:
-    """The word that says how many runs go side by side."""
+    """Adds --jobs to a parser: how many runs go side by side, 1 to 1,024."""
     made.add_argument(
         "--jobs",
         type=within(1, 1024),
@@ -108,7 +111,7 @@ def add_jobs(made: argparse.ArgumentParser) -> None:
 
 
 def add_merge(made: argparse.ArgumentParser) -> None:
-    """The word that says how vehicles merge before works."""
+    """Adds --merge to a parser: how vehicles merge before works."""
     made.add_argument(
         "--merge",
         choices=["turns", "none"],
@@ -119,7 +122,7 @@ def add_merge(made: argparse.ArgumentParser) -> None:
 
 
 def add_lost(made: argparse.ArgumentParser) -> None:
-    """The word that says what those do who lose their only lane by road works."""
+    """Adds --lost to a parser: what those do who lose their only lane by road works; none where it is not given."""
     made.add_argument(
         "--lost",
         choices=["lead", "wait", "bar"],
@@ -129,8 +132,8 @@ def add_lost(made: argparse.ArgumentParser) -> None:
 
 
 def add_rounds(made: argparse.ArgumentParser, default: int | None = ROUNDS, usual: str = "default %(default)s") -> None:
-    """The word that says by how many rounds vehicles give way without a light; usual: what its help says of its
-    default."""
+    """Adds --rounds to a parser: how many runs go before the one that counts, 0 to 10, by which vehicles give way
+    without a light; usual: what its help says of its default."""
     made.add_argument(
         "--rounds",
         type=within(0, MOST_ROUNDS),
@@ -142,7 +145,7 @@ def add_rounds(made: argparse.ArgumentParser, default: int | None = ROUNDS, usua
 
 
 def add_lights(made: argparse.ArgumentParser) -> None:
-    """The word that says whether detectors drive lights."""
+    """Adds --lights to a parser: whether detectors drive lights."""
     made.add_argument(
         "--lights",
         choices=["actuated", "listed"],
@@ -153,6 +156,6 @@ def add_lights(made: argparse.ArgumentParser) -> None:
 
 
 def files_of(words: Iterable[str]) -> list[str]:
-    """The files that words name, each one or several with commas between, as in SUMO; a file whose name has a comma is
-    one."""
+    """The paths of files that words name, each one or several with commas between, as in SUMO; a word that is the name
+    of a file with a comma is that one file. Whether files are there is not looked at otherwise."""
     return [path for word in words for path in ([word] if os.path.exists(word) else filter(None, word.split(",")))]
