@@ -9,6 +9,7 @@ from streetsim.base.report import Report
 from streetsim.buses.coordinated import Coordinated
 from streetsim.buses.stopping import PATIENCE, Road, Stopping
 from streetsim.importing.convert import convert
+from streetsim.model.folder import read_folder
 from streetsim.model.stops import MADE, MISSED, OTHER_LANE, STANDING, Visit
 from streetsim.sumo.converting import run_and_map
 from streetsim.sumo.network import Options
@@ -252,6 +253,7 @@ class Runs(Case):
             **{"id": "v", "line": "7", "stop": "b_0:150", "edge": "b", "lane": "0", "arrival": "13"},
             **{"departure": "33", "dwell_s": "20", "until": "30", "late_s": "3", "state": "made"},
         })
+        self.assertEqual(read_folder(str(out)).stops(), [row])
         [trip] = self.table(out, "trips")
         self.assertEqual(trip["arrival"], "49")
         # Without the stop it arrives at 22 s: of the 27 s more 20 are its dwell, and no loss.
