@@ -271,6 +271,18 @@ class Whole(Sealed):
         text = self.text.replace('id="sealed">{', 'id="sealed">')
         self.assertIn("what is sealed in it cannot be read: the page was changed", self.checked(text)[1])
 
+    def test_a_page_that_means_ill(self):
+        """Its files stay where the check puts them, and its words choose no other program."""
+        for old, new in (("plan-1/map.json", "../map.json"), ("plan-1/map.json", "/tmp/map.json")):
+            self.assertIn(f"a sealed file is called '{new}'", self.checked(self.text.replace(old, new))[1])
+        text = self.text.replace('"run":"plan-1/zero.jsonl"', '"run":"/etc/passwd"')
+        self.assertIn("'/etc/passwd' is not sealed in it", self.checked(text)[1])
+        ill = self.write("ill", "#!/bin/sh\ntouch ran\n")
+        Path(ill).chmod(0o755)
+        text = self.text.replace('"again":[', f'"again":["--program={ill}",', 1)
+        self.assertEqual(self.checked(text)[0], 1)
+        self.assertFalse((self.folder / "ran").exists() or Path("ran").exists())
+
     def test_a_file_beside_the_page(self):
         """Files that are too large for the page; the one beside it may lack, or be another."""
         content = {"words": [], "plans": [], "tools": "", "drawn_by": ""}

@@ -87,17 +87,27 @@ def tell(target: str, found: Sequence[Difference], good: str, note: str = "") ->
 
 def page_again(words: argparse.Namespace, seal: Seal) -> str:
     """The page that the sealed files and words give, with the same seal."""
+    refuse_elsewhere(words.target, seal)
     with tempfile.TemporaryDirectory() as place:
         for name, content in files_of(seal, words.target):
             path = Path(place) / name
-            if ".." in Path(name).parts or path.is_absolute() != Path(place).is_absolute():
-                raise Fault(f"{words.target}: a sealed file is called {name!r}: the page was changed")
             path.parent.mkdir(parents=True, exist_ok=True)
             path.write_bytes(content)
         try:
             return made_again(words, seal, place)
         except (Fault, KeyError, TypeError, AttributeError) as fault:
             raise Fault(f"{words.target}: what is sealed in it gives no such page: {fault}") from None
+
+
+def refuse_elsewhere(target: str, seal: Seal) -> None:
+    """Refuses a seal whose files would be written anywhere but below one folder, or whose runs are none of them."""
+    known = seal.content["files"]
+    for name in known:
+        if ".." in Path(name).parts or Path(name).is_absolute():
+            raise Fault(f"{target}: a sealed file is called {name!r}: the page was changed")
+    for plan in seal.content["plans"]:
+        if lost := [name for name in (plan["run"], plan["map"]) if name not in known]:
+            raise Fault(f"{target}: {lost[0]!r} is not sealed in it: the page was changed")
 
 
 def made_again(words: argparse.Namespace, seal: Seal, place: str) -> str:

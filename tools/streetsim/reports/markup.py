@@ -11,6 +11,9 @@ from streetsim.model.service import COLOURS, LIGHT
 from streetsim.reports.comparing import Difference
 
 
+CHECK = '<p class="small"><a href="#check">How to check the numbers of this page</a>: at its end.</p>'
+
+
 @dataclass(slots=True, frozen=True)
 class Section:
     """A part of a page; content is HTML."""
@@ -91,13 +94,14 @@ def contents(sections: Iterable[Section]) -> str:
 
 
 def page(title: str, lead: str, first: Sequence[Section], appendix: Sequence[Section], last: str = "") -> str:
-    """The whole page: a first page of sections, an appendix with its contents, and what stands at the end (HTML)."""
+    """The whole page: a first page of sections, an appendix with its contents, and what stands at the end (HTML): how
+    the page is checked."""
     text = (Path(__file__).parent / "page.html").read_text(encoding="utf-8")
     links = f'<nav aria-label="Appendix"><h2>Appendix</h2><ol>{contents(appendix)}</ol></nav>' if appendix else ""
     after = "\n".join(shown(one) for one in appendix)
     filled = {
         "TITLE": escape(title), "LEAD": lead, "LEVELS": level_styles(), "LAST": last, "CONTENTS": links,
-        "FIRST": "\n".join(shown(one) for one in first),
+        "FIRST": "\n".join(shown(one) for one in first) + (CHECK if last else ""),
         "APPENDIX": f'<div class="appendix">\n{after}\n</div>' if appendix else "",
     }
     return re.sub("@([A-Z]+)@", lambda mark: filled[mark[1]], text)
