@@ -1,1 +1,2 @@
-"""Lights that detectors drive: their logic, where their detectors lie, and what is shown of it."""
+"""Lights that detectors drive, as SUMO's types actuated and NEMA: their logic, where their detectors lie, and what the
+nodes of a run show of it."""

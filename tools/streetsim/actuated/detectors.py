@@ -16,7 +16,8 @@ MAJOR, MINOR = "G", "g"
 
 
 class Stretch(NamedTuple):
-    """A lane, or one before it that leads to it alone, without a light."""
+    """A lane that ends at the light, or one before it that leads to it alone, without a light between; metres: its
+    length."""
 
     lane: str
     metres: float
@@ -31,9 +32,9 @@ class Spot(NamedTuple):
 
 @dataclass(slots=True, frozen=True)
 class Way:
-    """A connection at the light."""
+    """A connection at the light, from a lane to another one."""
 
-    index: int  # in a state
+    index: int  # its place in a state, from 0
     lane: str
     target: str  # lane
     turns_back: bool = False
@@ -59,7 +60,8 @@ class Layout:
     parameters: Mapping[str, str] = field(default_factory=dict)
 
     def value(self, name: str, usual: float, lane: str = "") -> float:
-        """A number among the parameters, of a lane or of all."""
+        """A number among the program's parameters: that of a lane (name:lane) before that of all lanes, and `usual`
+        where neither is given. ValueError where it is no number."""
         return float(self.parameters.get(f"{name}:{lane}", self.parameters.get(name, usual)))
 
     def indexes(self) -> dict[str, set[int]]:
@@ -71,8 +73,8 @@ class Layout:
 
 
 def spots(layout: Layout, phases: Sequence[Phase]) -> dict[str, Spot]:
-    """By lane, where its detector lies: on each lane that is green in a phase which detectors extend. Lanes with a
-    detector of the user's own, by a parameter of the lane's name, are left out."""
+    """By lane, where its detector lies: on each lane that is green in a phase whose length detectors decide. Lanes with
+    a detector of the user's own, by a parameter of the lane's name, are left out."""
     found = {}
     for lane, least in shortest_greens(layout, phases).items():
         if lane not in layout.parameters:
@@ -85,7 +87,8 @@ def spots(layout: Layout, phases: Sequence[Phase]) -> dict[str, Spot]:
 
 
 def shortest_greens(layout: Layout, phases: Sequence[Phase]) -> dict[str, int]:
-    """By lane the least seconds of its phases that detectors extend; none for lanes that are green in no such one."""
+    """By lane the least seconds of any phase in which it is green and whose length detectors decide; lanes without such
+    a phase are left out."""
     found: dict[str, int] = {}
     for lane, indexes in sorted(layout.indexes().items()):
         own = [one.least for one in phases if one.least != one.most and any(one.state[at] in GO for at in indexes)]
@@ -95,7 +98,8 @@ def shortest_greens(layout: Layout, phases: Sequence[Phase]) -> dict[str, int]:
 
 
 def spot_before(stretches: Iterable[Stretch], metres: float) -> Spot:
-    """So many metres before the end of a lane, or of one that leads to it; at the begin where these are shorter."""
+    """The spot so many metres before the end of the first stretch, going back over the others; at the begin of the last
+    one where they are shorter together. stretches: the lane at the light first."""
     spot = Spot("", 0.0)
     for stretch in stretches:
         spot = Spot(stretch.lane, max(0.0, stretch.metres - metres))
@@ -106,8 +110,9 @@ def spot_before(stretches: Iterable[Stretch], metres: float) -> Spot:
 
 
 def extending(layout: Layout, phases: Sequence[Phase], detected: Iterable[str]) -> list[list[str]]:
-    """For each phase the lanes, of those with a detector, whose detectors extend it: those all of whose ways are green
-    in it, and do not lead to another lane of this light that is red."""
+    """For each phase the lanes, among those that have a detector (`detected`), whose detectors extend it: those all of
+    whose ways are green in it, and do not lead to another lane with a detector of this light that is red. Empty for a
+    phase of one length."""
     indexes, detected = layout.indexes(), sorted(detected)
     leads: defaultdict[str, set[str]] = defaultdict(set)
     for way in layout.ways:
@@ -123,8 +128,9 @@ def extending(layout: Layout, phases: Sequence[Phase], detected: Iterable[str]) 
 
 
 def greens(layout: Layout, phases: Sequence[Phase], state: str) -> set[int]:
-    """The places of a state that count as green: those that go first; of those that give way the ones that never go
-    first, or turn back, beside one of their lane that does, and those on the only lane of an edge."""
+    """The places of a state that count as green: those that go first (G); and of those that give way (g) the ones on
+    the only lane of an edge, and the ones that never go first, or turn back, beside another of their lane that goes
+    first."""
     by_index: defaultdict[int, list[Way]] = defaultdict(list)
     for way in layout.ways:
         by_index[way.index].append(way)

@@ -22,20 +22,20 @@ from streetsim.model.runs import Command
 
 @dataclass(slots=True, frozen=True)
 class Senses:
-    """What a run answers to its lights."""
+    """What a run answers to its lights when they ask for vehicles."""
 
-    read: Callable[[int], Rows]  # what a meter noted
+    read: Callable[[int], Rows]  # what a detector noted, by its number in the run
     lane: Callable[[Place], Lane | None]  # what stands on a lane; none where nothing does
 
 
 @dataclass(slots=True)
 class Controller:
-    """One light of a run."""
+    """One light of a run, with its logic and what was sent for it."""
 
     light: Light
     logic: Actuated | Nema
     plans: Callable[[int], Iterator[Command]]  # of what is shown from a clock on
-    meters: range  # of its detectors
+    meters: range  # the places of its detectors among those of all lights, from 0
     shows: list[Command] = field(default_factory=list)  # the plans that were sent last
     wraps: float = inf  # the clock by which these would begin anew
     in_force: bool = True  # its plans are shown; else it goes on unseen, as in SUMO
@@ -43,46 +43,49 @@ class Controller:
 
     @property
     def name(self) -> str:
+        """SUMO's name of the light."""
         return self.light.name
 
     def starts(self, now: int) -> Iterator[Command]:
-        """The plans at the begin of a run."""
+        """Begins the logic at the clock of a run's begin, and gives the commands that show its first phase."""
         self.logic.start(now, self.light.offset)
         yield from self.begins(now)
 
     def looks(self, now: int, first: int, senses: Senses) -> bool:
-        """Looks at its detectors, of which the first one of all lights has a meter's number; says whether it goes on.
-        """
+        """Has the logic look at its detectors, and says whether another phase begins now. first: the number in the run
+        of the first detector of all lights."""
         if isinstance(self.logic, Nema):
             return self.logic.look(now, present_by(now, senses.lane, self.light.areas))
         return self.logic.look(now, gap_by(now, senses.read, first + self.meters.start))
 
     def begins(self, now: int) -> Iterator[Command]:
-        """The plans of the phase that begins now."""
+        """The commands that show the phase that begins at a clock; none where this program is not in force."""
         self.shows, self.wraps = list(self.plans(now)), now + limits.PHASE_STEPS
         yield from self.shows if self.in_force else ()
 
     def goes_on(self) -> Iterator[Command]:
-        """The plans of a phase that lasts longer than a part of a plan."""
+        """The commands that keep a phase on that lasts longer than a plan can, 600 s; none where this program is not in
+        force."""
         self.wraps = inf
         yield from map(lasting, self.shows if self.in_force else ())
 
     def resumes(self, now: int) -> Iterator[Command]:
-        """The plans of what it has come to, which are shown from now on."""
+        """Puts this program in force, and gives the commands that show from now on what its logic has come to."""
         self.in_force = True
         since = self.logic.since if isinstance(self.logic, Actuated) else now
         yield from self.begins(since) if now - since < limits.PHASE_STEPS else map(lasting, self.shows)
 
     def due(self) -> int:
-        """The next second at which it is looked at."""
+        """The next clock at which it has something to look at or to send."""
         return int(min(self.logic.due, self.wraps)) if self.stopped == inf else limits.CLOCK
 
 
 class Driver:
-    """Those of a run."""
+    """All lights of a run that detectors drive."""
 
     def __init__(self, lights: Iterable[Light], mapping: Map, idle: Iterable[Light] = ()) -> None:
-        """idle: programs that are not in force at the begin, and may come into it."""
+        """lights: those in force from the begin on; idle: programs that are not, and may come into force by a script.
+        Detectors are numbered through both, in this order."""
         self.cells: list[Cell] = []
         self.controllers: list[Controller] = []
         for one, shows in (*((one, True) for one in lights), *((one, False) for one in idle)):
@@ -90,10 +93,10 @@ class Driver:
             self.cells += one.cells
             self.controllers.append(controller_of(one, mapping, meters))
             self.controllers[-1].in_force = shows
-        self.first = 0  # meter
+        self.first = 0  # number in the run of the first detector
 
     def of(self, light: str, program: str | None = None) -> Controller | None:
-        """The controller of a light's program; of the one in force where none is named."""
+        """The controller of a light's program, or of the one in force where none is named; none where there is none."""
         own = (one for one in self.controllers if one.name == light)
         return next((one for one in own if (one.in_force if program is None else one.light.program == program)), None)
 
@@ -104,34 +107,36 @@ class Driver:
                 one.in_force, one.stopped = False, clock
 
     def release(self, light: str) -> None:
-        """Shows no more of what drives a light."""
+        """Takes all programs of a light out of force: nothing more is sent for it."""
         for one in self.controllers:
             one.in_force = one.in_force and one.name != light
 
     def meters(self, first: int) -> Iterator[Command]:
-        """The commands that place the detectors, whose numbers go on from a first one."""
+        """The commands that place the detectors; first: the number in the run that the first of them gets."""
         self.first = first
         for one in self.cells:
             yield {"cmd": "meter", "link": one.link, "lane": one.lane, "cell": one.cell, "period": 1}
 
     def begin(self, start: int) -> Iterator[Command]:
-        """The signals at the begin of a run."""
+        """The signal commands at the begin of a run, whose clock is `start`."""
         for one in self.controllers:
             yield from one.starts(start)
 
     def due(self) -> int:
-        """The next second at which a light is looked at."""
+        """The next clock at which a light is looked at; the greatest clock where there is no light."""
         return min((one.due() for one in self.controllers), default=limits.CLOCK)
 
     def call(self, clock: int, calls: Iterable[tuple[str, Collection[int]]]) -> None:
-        """Has buses call phases of some lights from now on."""
+        """From now on buses call phases of some lights, (light, places of its phases, none of them: no longer); NEMA
+        lights and lights that are not driven are passed over."""
         called = dict(calls)
         for one in self.controllers if called else ():
             if one.name in called and isinstance(one.logic, Actuated):
                 one.logic.call(clock, called[one.name])
 
     def look(self, clock: int, senses: Senses) -> Iterator[Command]:
-        """Looks at the lights that are due, and gives what is to be sent before the next step."""
+        """Looks at the lights that are due at a clock, and gives the commands that are to be sent before the next
+        step."""
         for one in self.controllers:
             if one.stopped < inf:
                 continue
@@ -141,7 +146,8 @@ class Driver:
                 yield from one.goes_on()
 
     def rows(self, until: int) -> list[tuple[int, str, int, str, int, str]]:
-        """The table phases.csv: each phase that was shown, with the ones that had not ended."""
+        """The rows of phases.csv, rising: (begin, light, phase, state, seconds, why it ended). Those under way at the
+        clock `until` end there, with an empty reason."""
         return sorted(
             (row.begin, one.name, row.phase, state, row.seconds, row.why)
             for one in self.controllers
@@ -159,8 +165,9 @@ def controller_of(light: Light, mapping: Map, meters: range) -> Controller:
 
 
 def gap_by(clock: int, read: Callable[[int], Rows], first: int) -> Callable[[int], float]:
-    """The seconds since a detector last saw anybody, by its meter's rows; a first meter has the number of detector 0.
-    Who passed within a second left in its middle, on the mean."""
+    """A function of a detector's place that gives the seconds since it last saw anybody, by its rows of one second;
+    infinite where its 32 rows have nobody. first: the number in the run of the detector at place 0. Who passed within a
+    second is taken to have left in its middle."""
 
     def gap(detector: int) -> float:
         for row in reversed(read(first + detector).rows):
@@ -174,8 +181,8 @@ def gap_by(clock: int, read: Callable[[int], Rows], first: int) -> Callable[[int
 
 
 def present_by(clock: int, lane: Callable[[Place], Lane | None], areas: Sequence[Area]) -> Callable[[int], bool]:
-    """Whether anybody is on an area, by what stands on its lane; asks once for each lane. Who has passed the stop line
-    is on it for a second more, until its rear has."""
+    """A function of an area's place that says whether anybody is on it, by what stands on its lane; each lane is asked
+    for once. Who has passed the stop line is on it for a second more, until its rear has."""
     known: dict[Place, Lane | None] = {}
 
     def present(number: int) -> bool:

@@ -1,4 +1,4 @@
-"""What a map keeps of a program that detectors drive, as both kinds of lights read it; and what they have in common."""
+"""What a map keeps of a program that detectors drive, as both kinds of lights, actuated and NEMA, read it."""
 from __future__ import annotations
 
 from collections.abc import Iterable, Mapping
@@ -8,17 +8,18 @@ from typing import Any
 from streetsim.base.files import Fault, Json
 from streetsim.sumo.net import Connection
 
-LONGEST = 1_000_000  # seconds, where a green has no most
-OFF = ("", "0", "false")
+LONGEST = 1_000_000  # seconds of a green whose program gives no greatest length
+OFF = ("", "0", "false")  # values of a parameter that is not used
 
 
 class Listed(Fault):
-    """Why a light goes by its listed seconds."""
+    """Why a light is not driven by detectors but shows the seconds that its program lists; its text begins with
+    'as'."""
 
 
 @dataclass(frozen=True, slots=True)
 class Cell:
-    """Where a detector is placed."""
+    """Where a detector is placed, by numbers of the run."""
 
     link: int
     lane: int
@@ -27,7 +28,8 @@ class Cell:
 
 @dataclass(frozen=True, slots=True)
 class Area:
-    """The end of a lane that is looked at for vehicles, or another stretch of it: its first cell and its last."""
+    """A stretch of a lane that is looked at for vehicles, mostly its end: its first cell and its last, both
+    included."""
 
     link: int
     lane: int
@@ -47,17 +49,19 @@ class NodeOf:
 
 
 def in_force(programs: Iterable[Json]) -> dict[str, Json]:
-    """What is kept of the programs that lights begin with, by light."""
+    """What a map keeps (`programs`) of the programs that lights begin with, by light; idle ones are left out."""
     return {one["light"]: one for one in programs if not one.get("idle")}
 
 
 def kept_of(kept: Mapping[str, Json], light: str) -> Json:
+    """What is kept of a light's program; raises Listed where nothing is."""
     if light not in kept:
         raise Listed("as their map was written by an older streetsim-import")
     return kept[light]
 
 
 def number_of(text: str) -> float:
+    """The number of a parameter's text; raises Listed where it is none."""
     try:
         return float(text)
     except ValueError:
@@ -65,8 +69,8 @@ def number_of(text: str) -> float:
 
 
 def bounds_of(kept: list[Any]) -> tuple[float, float]:
-    """The least and the most seconds of a phase, as kept. Without a least it lasts as listed; with one and no most it
-    has none, as in SUMO."""
+    """The least and the greatest seconds of a phase, as kept: [seconds, state, least or none, greatest or none, next
+    ones]. Without a least it lasts as listed; with a least and no greatest it has no end, as in SUMO (LONGEST)."""
     seconds, _, least, most, *_ = kept
     shortest = seconds if least is None else least
     longest = most if most is not None else seconds if least is None else LONGEST
@@ -74,6 +78,7 @@ def bounds_of(kept: list[Any]) -> tuple[float, float]:
 
 
 def node_of(kept: Mapping[str, Any]) -> NodeOf:
+    """A node with a light, from what a map keeps of it."""
     connections = tuple(Connection(*one) for one in kept["connections"])
     yields = {request: frozenset(foes) for request, foes in kept["yields"]}
     return NodeOf(kept["node"], connections, yields, {(begin, end): flow for begin, end, flow in kept["flows"]})

@@ -28,7 +28,9 @@ UNLIKE = ("linkMaxDur", "linkMinDur", "vTypes", "coordinated")  # others that ch
 
 @dataclass(frozen=True, slots=True)
 class Driven:
-    """A light that detectors drive."""
+    """An actuated light that detectors drive. offset: seconds; lead: seconds from the detectors to the stop line;
+    cells, gaps: of each detector where it is and for how many seconds nobody may pass; program: SUMO's id of the
+    program."""
 
     name: str
     offset: int
@@ -42,10 +44,11 @@ class Driven:
 
     @property
     def longest(self) -> float:
-        """The seconds in which it has shown all that it shows."""
+        """The seconds of a cycle whose phases are all as long as they may be; of each 600 at most."""
         return sum(min(phase.most, limits.PHASE_STEPS) for phase in self.phases)
 
     def logic(self) -> Actuated:
+        """A fresh logic of this light, for one run."""
         return Actuated(self.phases, self.gaps, self.lead)
 
 
@@ -54,27 +57,30 @@ Light = Driven | DrivenRings
 
 @dataclass(frozen=True)
 class Lights:
-    """Those of a run."""
+    """The lights of a run: those that detectors drive, and why others do not."""
 
     driven: tuple[Light, ...] = ()
     listed: Mapping[str, str] = field(default_factory=dict)  # of the others that SUMO times by detectors: why
 
     @cached_property
     def meters(self) -> int:
+        """How many detectors the driven lights need."""
         return sum(len(one.cells) for one in self.driven)
 
     @cached_property
     def longest(self) -> int:
-        """The seconds in which each light has shown all that it shows."""
+        """The seconds, rounded up, after which each driven light has shown all its phases at their greatest length; 0
+        without any."""
         return ceil(max((one.longest for one in self.driven), default=0.0))
 
     def going_by(self, mapping: Map) -> list[str]:
-        """Those of a map that SUMO times by detectors and that go by their list here."""
+        """The lights of a map that SUMO times by detectors and that are not driven here, but show their listed
+        seconds."""
         own = {one.name for one in self.driven}
         return [light for light in mapping.actuated if light not in own]
 
     def notes(self) -> Iterator[str]:
-        """Says which lights go by their list, by reason."""
+        """A line for each reason why lights show their listed seconds, with some of their names."""
         for why in dict.fromkeys(self.listed.values()):
             names = [light for light, reason in self.listed.items() if reason == why]
             yield f"lights show their listed seconds, {why}: {some(names)}"
@@ -84,8 +90,8 @@ LISTED = Lights()  # all go by their list
 
 
 def driven_lights(run: Run, mapping: Map) -> Lights:
-    """Those that detectors drive in a run, those first that most vehicles pass, as far as there are meters, as counts
-    have others in further runs."""
+    """The lights that detectors drive in a run; the others with the reason. Those that most vehicles pass come first,
+    until the 1,024 detectors that a run may have, less those of the map, are used up."""
     timed = {line.command["node"] for _, line in run.timed if line.command["cmd"] == "signal"}
     kept, left = in_force(mapping.programs), limits.METERS - len(mapping.detectors)
     driven: list[Light] = []
@@ -112,7 +118,8 @@ def is_long(kept: Mapping[str, Any]) -> bool:
 
 
 def idle_lights(mapping: Map, left: int) -> Iterator[Light]:
-    """Those that a script may have driven by another program than the one in force, as far as so many detectors go."""
+    """Lights with a program that is not in force and that a script may put in force, as far as `left` detectors go;
+    programs that cannot be driven, and those that need more detectors than are left, are passed over in silence."""
     for kept in mapping.programs:
         if kept.get("idle"):
             with suppress(Listed):
@@ -123,14 +130,15 @@ def idle_lights(mapping: Map, left: int) -> Iterator[Light]:
 
 
 def passing(run: Run, mapping: Map) -> Counter[str]:
-    """How many vehicles pass each light."""
+    """How many vehicles of a run pass each light, by their plans; lights that nobody passes are left out."""
     light_at = {(turn.link, turn.next): turn.light for turn in mapping.turns if turn.light}
     pairs = (pair for line in run.enters for pair in pairwise(line.command["plan"]))
     return Counter(light_at[pair] for pair in pairs if pair in light_at)
 
 
 def driven_of(kept: Mapping[str, Any], mapping: Map) -> Light:
-    """A light of what a map keeps of its program."""
+    """A light that detectors drive, from what a map keeps of its program; raises Listed where it cannot be driven as in
+    SUMO."""
     if kept["kind"] == NEMA:
         return driven_rings(kept, mapping)
     refuse_unlike(kept)
@@ -153,7 +161,7 @@ def driven_of(kept: Mapping[str, Any], mapping: Map) -> Light:
 
 
 def refuse_unlike(kept: Mapping[str, Any]) -> None:
-    """Refuses a program of which something is not driven as in SUMO."""
+    """Raises Listed for an actuated program of which something is not driven here as in SUMO."""
     if kept["kind"] != ACTUATED:
         raise Listed(f"as {kept['kind']} is not driven here")
     if kept["more"]:
@@ -169,7 +177,7 @@ def refuse_unlike(kept: Mapping[str, Any]) -> None:
 
 
 def phase_of(kept: list[Any]) -> Phase:
-    """A phase, of its seconds, state, least, most and next ones."""
+    """A phase, from what is kept of it: [seconds, state, least, greatest, next ones]; it has no detectors yet."""
     seconds, state, *_, following = kept
     step = following[0] if following and following[0] >= 0 else None
     least, most = bounds_of(kept)
@@ -177,10 +185,12 @@ def phase_of(kept: list[Any]) -> Phase:
 
 
 def with_detectors(phase: Phase, detectors: Iterable[int]) -> Phase:
+    """The phase with the detectors, by their places, that may extend it."""
     return Phase(phase.state, phase.seconds, phase.least, phase.most, tuple(detectors), phase.next)
 
 
 def layout_of(kept: Mapping[str, Any]) -> Layout:
+    """The lanes, ways and parameters at a light, from what a map keeps of its program."""
     lanes = {
         name: LitLane(name, speed, alone, tuple(Stretch(*one) for one in stretches))
         for name, speed, alone, stretches in kept["lanes"]
@@ -189,7 +199,8 @@ def layout_of(kept: Mapping[str, Any]) -> Layout:
 
 
 def gap_of(layout: Layout, lane: str) -> float:
-    """The gap of a lane's detector, of which no more is known than the seconds that a detector keeps."""
+    """The seconds of max-gap of a lane's detector; raises Listed from 32 on, as a detector keeps that many rows of a
+    second."""
     gap = layout.value("max-gap", GAP, lane)
     if gap >= limits.ROWS:
         raise Listed(f"as detectors keep {limits.ROWS} s and max-gap={gap:g}")
@@ -197,7 +208,7 @@ def gap_of(layout: Layout, lane: str) -> float:
 
 
 def cell_of(spot: Spot, mapping: Map) -> Cell | None:
-    """The cell of a spot; none where its lane is not one of the map."""
+    """The cell of a spot; none where the map does not have its lane."""
     place = mapping.place_of(spot.lane)
     if place is None:
         return None
@@ -206,7 +217,8 @@ def cell_of(spot: Spot, mapping: Map) -> Cell | None:
 
 
 def own_detectors(layout: Layout, mapping: Map) -> dict[str, Cell]:
-    """The induction loops of the user's own, by the lanes that they are for."""
+    """The cells of the user's own induction loops, by the lanes that they are for; raises Listed where a parameter
+    names a loop that the map does not have."""
     loops = {one.name: one for one in mapping.detectors if one.kind == E1}
     found = {}
     for lane in layout.lanes:

@@ -21,42 +21,49 @@ BY_SCRIPT, BY_BUS = "script", "bus"
 
 @dataclass(slots=True, frozen=True)
 class Phase:
+    """A phase of an actuated light, as its program has it."""
+
     state: str
     seconds: int  # as listed
-    least: int
-    most: int
-    detectors: tuple[int, ...] = ()  # that may extend it
-    next: int | None = None  # none: the one that follows
+    least: int  # seconds
+    most: int  # seconds
+    detectors: tuple[int, ...] = ()  # places of those that may extend it
+    next: int | None = None  # place of the next phase; none: the one that follows in the program
 
     @property
     def is_green(self) -> bool:
+        """Whether some signal is green (G or g) in its state and none is yellow."""
         return any(one in GO for one in self.state) and not any(one in YELLOW for one in self.state)
 
     @property
     def is_extended(self) -> bool:
-        """Whether detectors say how long it lasts."""
+        """Whether detectors decide how long it lasts."""
         return self.is_green and self.least < self.most
 
     @property
     def usual(self) -> int:
-        """The seconds that it is thought to last as long as nothing is known."""
+        """The seconds that it is thought to last as long as none of it has ended."""
         return min(max(self.seconds, self.least), self.most) if self.is_extended else self.shortest
 
     @property
     def shortest(self) -> int:
+        """The least seconds, one at least."""
         return max(1, self.least)
 
 
 class Ended(NamedTuple):
-    phase: int
-    begin: int
+    """A phase that has ended."""
+
+    phase: int  # its place in the program, or of a NEMA light its name
+    begin: int  # clock
     seconds: int
-    why: str
+    why: str  # one of the words BY_.. and LISTED; empty where it is still under way
 
 
 @dataclass(slots=True)
 class Actuated:
-    """One light. `due` is the next second at which `look` must be called; nothing need be asked before."""
+    """The logic of one actuated light. `due` is the next second at which `look` must be called; nothing need be asked
+    before."""
 
     phases: Sequence[Phase]
     gaps: Sequence[float]  # of each detector: so long nobody, and it extends no green
@@ -70,7 +77,8 @@ class Actuated:
     called: Collection[int] = ()  # phases that buses keep, or fetch, within bounds
 
     def start(self, now: int, offset: int = 0) -> None:
-        """Begins where a light with the listed seconds would be that began its first phase at an offset."""
+        """Begins at the clock `now` where a light with the listed seconds would be whose first phase began at the clock
+        `offset`."""
         self.since, place = now, (now - offset) % max(1, sum(phase.seconds for phase in self.phases))
         for self.at, phase in enumerate(self.phases):
             if place < phase.seconds:
@@ -79,7 +87,8 @@ class Actuated:
         self.due = now + max(1, self.phases[self.at].seconds - place)
 
     def look(self, now: int, gap: GapOf) -> bool:
-        """Goes on to the next phase if this one is over; says whether. Sets when to look again."""
+        """Goes on to the next phase if this one is over at the clock `now`; says whether. Sets `due`, when to look
+        again. gap: the seconds since a detector, by its place, last saw anybody."""
         phase = self.phases[self.at]
         may_stay = phase.is_green and now - self.since < phase.most and not self.told_to_end
         wait = self.stays(phase, gap) if may_stay else 0
@@ -93,49 +102,52 @@ class Actuated:
         return True
 
     def stays(self, phase: Phase, gap: GapOf) -> int:
-        """The seconds until a green can end: by buses where any call, else by its detectors."""
+        """The seconds, 0 for now, until a green can end: as buses say where any calls, else by its detectors."""
         return int(self.at in self.called) if self.called and phase.is_extended else self.wait(phase, gap)
 
     def call(self, now: int, phases: Collection[int]) -> None:
-        """Has buses keep or fetch some phases from now on; none where no bus is seen any more."""
+        """From now on buses call some phases, by their places: the one that is shown stays green until its greatest
+        length, others end at their least. Empty: no bus is seen any more."""
         self.called = phases
         if phases and self.at not in phases:
             self.due = min(self.due, max(now, self.since + self.phases[self.at].shortest))
 
     def state(self) -> str:
-        """What is shown."""
+        """The letters of the signals that are shown."""
         return self.phases[self.at].state
 
     def index(self) -> int:
-        """The place of the phase that is shown, as scripts ask for it."""
+        """The place of the phase that is shown, from 0, as scripts ask for it."""
         return self.at
 
     def phase_name(self) -> str:
-        """Its name, where the logic has one."""
+        """The name of the phase that is shown; here always empty, a NEMA light has one."""
         return ""
 
     def switch(self, _now: int) -> int:
-        """The clock at which it may go on, as scripts ask for it: SUMO's next look at it."""
+        """The clock at which it may go on, as scripts ask for it: when it is looked at next, as in SUMO."""
         return self.due
 
     def go_to(self, index: int, now: int) -> None:
-        """Goes on with another phase, from its begin; when it is looked at next stays, as in SUMO."""
+        """Goes on at the clock `now` with the phase at a place, from its begin; a phase that is shown already goes on.
+        When it is looked at next stays as it was, as in SUMO."""
         if index != self.at:
             self.ended.append(Ended(self.at, self.since, now - self.since, BY_SCRIPT))
             self.at, self.since = index, now
 
     def end_at(self, clock: int) -> None:
-        """Ends the phase at a clock, whoever is seen."""
+        """Has the phase that is shown end at a clock, whoever the detectors see."""
         self.due, self.told_to_end = clock, True
 
     def told(self, until: int) -> Iterator[tuple[Ended, str]]:
-        """The phases so far, with their states; the one under way without a reason for its end."""
+        """The phases that began before the clock `until`, with their states; the one under way ends there, with an
+        empty reason."""
         under_way = [Ended(self.at, self.since, until - self.since, "")] if self.since < until else []
         for row in (*self.ended, *under_way):
             yield row, self.phases[row.phase].state
 
     def why(self, phase: Phase, now: int) -> str:
-        """Why a phase ends now."""
+        """Why a phase ends at the clock `now`: one of the words BY_.. and LISTED."""
         if self.told_to_end:
             return BY_SCRIPT
         if not phase.is_extended:
@@ -145,8 +157,8 @@ class Actuated:
         return BY_MOST if now - self.since >= phase.most else BY_GAP
 
     def wait(self, phase: Phase, gap: GapOf) -> int:
-        """The seconds until the phase can end by its detectors, 0 if it can now: not before the gap of one that saw
-        somebody is long enough. The one that extended the phase last is asked first, and often is enough."""
+        """The seconds until the phase can end by its detectors, 0 if it can now: not before each has seen nobody for
+        its gap. The one that extended the phase last is asked first, and often no other need be."""
         longest, enough = 0, self.lead <= min(self.gaps, default=0.0)
         for detector in sorted(phase.detectors, key=lambda one: one != self.first.get(self.at)):
             seen, most = gap(detector), self.gaps[detector]

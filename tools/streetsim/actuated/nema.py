@@ -23,31 +23,32 @@ LETTERS = "GgyuOs"  # of two phases that show a signal that neither controls, th
 
 @dataclass(slots=True, frozen=True)
 class RingPhase:
-    """A phase of a ring, as its program has it; seconds."""
+    """A phase of a ring, as its program has it; all times in seconds."""
 
-    name: int
+    name: int  # its number, 1 to 8
     state: str
     least: float
     most: float
-    extension: float
+    extension: float  # how long its green stays after somebody was last on an area
     yellow: float
-    red: float
-    areas: tuple[int, ...]
-    least_recall: bool = True
-    most_recall: bool = False
+    red: float  # of all signals, after yellow
+    areas: tuple[int, ...]  # places of those that call and extend it
+    least_recall: bool = True  # called always, for its least time
+    most_recall: bool = False  # called always, for its greatest time
     latching: bool = False  # a call stays until the phase is green
 
     @property
     def change(self) -> float:
+        """The seconds from the end of its green to the begin of the next: yellow and red."""
         return self.yellow + self.red
 
     @property
     def usual(self) -> float:
-        """The seconds that it is thought to last as long as nothing is known."""
+        """The seconds of green that it is thought to last as long as none of it has ended."""
         return (self.least + self.most) / 2
 
     def shown(self, stage: int) -> str:
-        """Its signals at a stage."""
+        """The letters of its signals at a stage (RED, YELLOW, GREEN, ..)."""
         if stage >= GREEN:
             return self.state
         return "".join("y" if one in GO else one for one in self.state) if stage == YELLOW else "r" * len(self.state)
@@ -55,26 +56,29 @@ class RingPhase:
 
 @dataclass(slots=True, frozen=True)
 class Rings:
-    """A program: the numbers of each ring's phases, 0 where it has none, two before the barrier and two behind it; and
-    those in which a ring waits for the other one on each side."""
+    """A program of two rings: for each ring the numbers of its phases, 0 where there is none, two before the barrier
+    and two behind it; and for each side of the barrier the phase in which each ring waits for the other one."""
 
     phases: Sequence[RingPhase]
     orders: tuple[tuple[int, ...], ...]
     barriers: tuple[tuple[int, ...], ...]  # by side: a phase of each ring
 
     def phase(self, name: int) -> RingPhase:
+        """The phase of a number; StopIteration where there is none."""
         return next(one for one in self.phases if one.name == name)
 
     def names(self, ring: int) -> list[int]:
+        """The numbers of the phases of a ring (0 or 1), in its order."""
         return [name for name in self.orders[ring] if name]
 
     def is_at_barrier(self, name: int) -> bool:
+        """Whether the phase of a number is one in which its ring waits for the other."""
         return any(name in side for side in self.barriers)
 
 
 def together(shown: Sequence[tuple[RingPhase, int]]) -> str:
-    """The signals of phases at stages: one that a phase has green first is that phase's, others have the first of some
-    letters."""
+    """The letters that phases at stages show together. A signal that is G in one of these phases shows what that phase
+    shows; any other the first of LETTERS that one of them shows, else red."""
     states, found = [phase.shown(stage) for phase, stage in shown], []
     for at, letters in enumerate(zip(*states, strict=True)):
         own = [letter for letter, (phase, _) in zip(letters, shown, strict=True) if phase.state[at] == "G"]
@@ -86,45 +90,49 @@ class Way(NamedTuple):
     """A change from a phase of a ring to one of it, or to itself."""
 
     target: Running
-    steps: int  # in the ring's order
+    steps: int  # how many phases of the ring on, from 1; all of them: to itself
 
 
 @dataclass(slots=True, eq=False)
 class Running:
-    """A phase of a ring while a run goes."""
+    """A phase of a ring, with what is known of it while a run goes; times in seconds."""
 
     phase: RingPhase
     ring: int
-    side: int
-    at_barrier: bool
+    side: int  # 0 before the barrier, 1 behind it
+    at_barrier: bool  # its ring waits for the other one in it
     rests: bool  # it alone of its ring has a recall, or none of any ring has
     stage: int = RED
-    since: float = 0.0  # its begin
-    end: float = 0.0  # of its green
-    lasts: float = 0.0  # seconds as far as is known
-    most: float = 0.0
+    since: float = 0.0  # clock from which its green is counted
+    end: float = 0.0  # clock at which its green ended
+    lasts: float = 0.0  # seconds of its green as far as is known
+    most: float = 0.0  # greatest seconds of its green
     resting: float = 0.0  # seconds that it may rest from when another one is called
-    ready: bool = False
+    ready: bool = False  # it may end
     called: bool = False  # somebody is on its areas
-    changing: bool = False
+    changing: bool = False  # its yellow or red is under way
     chosen: Running | None = None  # the next one, as it was decided
-    began: int = 0  # as it is told
+    began: int = 0  # clock of its green's begin, as phases.csv has it
     ways: list[Way] = field(default_factory=list)  # the nearest first, to itself last
 
     @property
     def is_green(self) -> bool:
+        """Whether it shows green: GREEN, TRANSFER (waits for the other ring) or REST."""
         return self.stage >= GREEN
 
     @property
     def recalled(self) -> bool:
+        """Whether it is called always, whoever comes."""
         return self.phase.least_recall or self.phase.most_recall
 
     def way(self, target: Running) -> Way:
+        """The change from this phase to another one of its ring, or to itself."""
         return next(one for one in self.ways if one.target is target)
 
 
 class Nema:
-    """One light. `due` is the next second at which `look` must be called; nothing need be asked before."""
+    """The logic of one NEMA light. `due` is the next second at which `look` must be called; nothing need be asked
+    before."""
 
     def __init__(self, rings: Rings) -> None:
         self.rings, self.now, self.due, self.changes = rings, 0, 0, 0
@@ -138,7 +146,8 @@ class Nema:
         self.present: PresentAt = lambda area: False
 
     def running(self, name: int, ring: int, recalls: bool) -> Running:
-        """A phase at rest; recalls: whether any has one."""
+        """A phase before it begins, by its number; ring: 0 or 1; recalls: whether any phase of the light has a
+        recall."""
         phase, others = self.rings.phase(name), [self.rings.phase(one) for one in self.rings.names(ring) if one != name]
         alone = phase.least_recall or phase.most_recall
         alone = alone and not any(one.least_recall or one.most_recall for one in others)
@@ -148,6 +157,7 @@ class Nema:
         return made
 
     def ways(self, one: Running) -> list[Way]:
+        """The changes from a phase to each of its ring, the nearest first, to itself last."""
         own = self.by_ring[one.ring]
         place = own.index(one)
         return [Way(own[(place + steps) % len(own)], steps) for steps in range(1, len(own) + 1)]
@@ -155,26 +165,28 @@ class Nema:
     # What is told
 
     def state(self) -> str:
-        """What both rings show together."""
+        """The letters of the signals that both rings show together."""
         return together([(one.phase, one.stage) for one in self.active])
 
     def index(self) -> int:
-        """0 and 1 by turns as what is shown changes, as SUMO's controller tells scripts."""
+        """0 and 1 by turns as what is shown changes, as SUMO's controller tells scripts; no place of a phase."""
         return self.changes % 2
 
     def phase_name(self) -> str:
+        """The numbers of both rings' phases, as 2+6."""
         return "+".join(str(one.phase.name) for one in self.active)
 
     def switch(self, now: int) -> int:
-        """The clock at which it may go on, as scripts ask for it: each second, as in SUMO."""
+        """The clock at which it may go on, as scripts ask for it: the next second, as in SUMO."""
         return now + 1
 
     def greens(self) -> tuple[tuple[int, bool], ...]:
-        """The phase and whether it is green, of both rings."""
+        """Of both rings the number of the phase, and whether it is green."""
         return tuple((one.phase.name, one.is_green) for one in self.active)
 
     def told(self, until: int) -> Iterator[tuple[Ended, str]]:
-        """The greens so far, with their signals; those under way without a reason for their end."""
+        """The greens that began before the clock `until`, with their letters; those under way end there, with an empty
+        reason."""
         under_way = [
             Ended(one.phase.name, one.began, until - one.began, "")
             for one in self.active
@@ -186,13 +198,15 @@ class Nema:
     # The clock
 
     def start(self, now: int, _offset: int = 0) -> None:
-        """Begins with the first phase of each ring, as SUMO's does without coordination."""
+        """Begins at the clock `now` with the first phase of each ring, as SUMO's does without coordination; the offset
+        has no effect."""
         self.now, self.due = now, now + 1
         for own in self.by_ring:
             self.enter(own[0])
 
     def look(self, now: int, present: PresentAt) -> bool:
-        """A second of both rings; says whether what is green changed. Sets when to look again."""
+        """Makes a second of both rings at the clock `now`; says whether what is green changed. Sets `due`, when to look
+        again. present: whether anybody is on an area, by its place."""
         self.now, self.present, before, state = now, present, self.greens(), self.state()
         for one in self.all:
             if one.phase.latching and not one.called:
@@ -208,7 +222,8 @@ class Nema:
         return self.greens() != before
 
     def wait(self, one: Running) -> int:
-        """The seconds in which nothing can happen in a ring, whatever the other one does meanwhile."""
+        """The seconds in which nothing can happen in the ring of a phase that is shown, whatever the other ring does;
+        `look` takes one at least."""
         phase, left = one.phase, one.lasts - (self.now - one.since)
         if any(other.phase.latching for other in self.all) or one.stage > GREEN:
             return 1
@@ -219,17 +234,19 @@ class Nema:
         return ceil(left) if one.lasts >= one.most else min(ceil(left), int(left - phase.extension) + 1)
 
     def is_on(self, one: Running) -> bool:
-        """Whether anybody is on the areas of a phase, or was where it keeps that."""
+        """Whether anybody is on the areas of a phase, or was since its last green where it is latching."""
         return one.called or any(map(self.present, one.phase.areas))
 
     def is_called(self, one: Running) -> bool:
+        """Whether a phase wants to be green: by a recall, or by somebody on its areas."""
         return one.recalled or self.is_on(one)
 
     def other(self, one: Running) -> Running:
+        """The phase that the other ring shows."""
         return self.active[not one.ring]
 
     def update(self, one: Running) -> None:
-        """How long a phase that is shown lasts, by who is on its areas, and whether it may end."""
+        """Makes a second of a phase that is shown: how long it lasts by who is on its areas, and whether it may end."""
         if not one.is_green:
             one.ready = True
             return
@@ -242,12 +259,14 @@ class Nema:
             one.ready = True
 
     def extends(self, one: Running, since: float) -> bool:
-        """Whether somebody is on an area who makes a green longer: not asked where nobody would."""
+        """Whether somebody on an area makes a green longer than it is; since: seconds of green so far. Areas are not
+        asked where nobody would."""
         longer = max(since + one.phase.extension, one.phase.least) > one.lasts
         return (longer or one.stage == REST) and self.is_on(one)
 
     def rest(self, one: Running, since: float) -> None:
-        """A second of resting: it ends so long after another phase is called as its most is."""
+        """A second of resting in green. From when another phase is called it lasts its greatest time on, and then may
+        end; since: seconds of green so far."""
         most, least = one.phase.most, one.phase.least
         others = (each for each in self.all if each.phase.name not in (one.phase.name, self.other(one).phase.name))
         if any(map(self.is_called, others)):
@@ -267,7 +286,7 @@ class Nema:
     # Changes
 
     def enter(self, one: Running) -> None:
-        """A phase becomes green."""
+        """Begins the green of a phase now; it becomes the one that its ring shows."""
         one.since, one.began, one.ready, one.chosen, one.stage = self.now, self.now, False, None, GREEN
         if one.rests:
             one.stage, one.resting = REST, one.phase.most
@@ -275,7 +294,7 @@ class Nema:
         self.active[one.ring] = one
 
     def go_on(self) -> None:
-        """Goes on with the nearest pair of phases that may follow."""
+        """Has the phases that may end go on towards the nearest pair that may follow; none where there is no pair."""
         pairs = sorted(self.pairs(), key=lambda pair: pair[0])
         if pairs:
             _, *following = pairs[0]
@@ -284,7 +303,8 @@ class Nema:
                     self.leave(one, following)
 
     def leave(self, one: Running, following: Sequence[Running]) -> None:
-        """A phase that may end: yellow, red and the next one by turns, or green for longer."""
+        """Takes a phase that may end one second on towards its ring's one of `following`: yellow, then red, then that
+        one's green; or it stays green where that is itself."""
         if (target := following[one.ring]) is one:
             self.stay(one, following)
             return
@@ -300,13 +320,13 @@ class Nema:
             one.stage = RED
 
     def why(self, one: Running) -> str:
-        """Why a green ends now."""
+        """Why a green ends now: one of the words BY_.. of logic."""
         if one.stage != GREEN:
             return BY_OTHER if one.stage == TRANSFER else BY_CALL
         return BY_MOST if one.lasts >= one.most else BY_GAP
 
     def stay(self, one: Running, following: Sequence[Running]) -> None:
-        """It rests, or waits for the other ring at a barrier."""
+        """Keeps a phase green that could end: it rests where neither ring goes on, else it waits for the other ring."""
         other, phase = self.other(one), one.phase
         one.ready = False
         both = following[other.ring] is other and other.ready
@@ -319,7 +339,8 @@ class Nema:
                 one.lasts = other.lasts + other.since - one.since
 
     def pairs(self) -> Iterator[tuple[float, Running, Running]]:
-        """The phases of both rings that may follow, on one side of the barrier, and how far they are."""
+        """The pairs of phases, one of each ring and both on one side of the barrier, that may follow: (how far away,
+        first, second)."""
         first, second = self.active
         for one, other in product(*(self.following(active) for active in self.active)):
             if one.target.side == other.target.side:
@@ -333,25 +354,27 @@ class Nema:
             yield from found
 
     def pair(self, one: Way, other: Way) -> tuple[float, Running, Running]:
+        """Two changes as (how far away on the mean, phase of the first ring, phase of the second)."""
         distance = (self.distance(one, other, 0) + self.distance(other, one, 1)) / 2
         return distance, one.target, other.target
 
     def distance(self, way: Way, beside: Way, ring: int) -> int:
-        """How far a change is; one that waits in green is as far as the other ring's."""
+        """How far away a change of a ring (0 or 1) is, in phases of its order; one that waits in green is as far as the
+        other ring's change `beside`."""
         own = self.active[ring]
         waits = way.target is own and own.side == beside.target.side and own.stage in (GREEN, TRANSFER)
         return beside.steps if waits else way.steps
 
     def usual_way(self, one: Running, way: Way, beside: Way) -> Way:
-        """Where a ring goes that wished for another side than the other one does: nowhere, if it may not, else to that
-        side's last phase."""
+        """Where a ring goes that wished for another side of the barrier than the other ring's change `beside`: nowhere,
+        if it may not go, else to that side's last phase."""
         if not one.ready or (one.side == beside.target.side and one.is_green):
             return one.way(one)
         name = self.rings.barriers[beside.target.side][one.ring]
         return one.way(next(each for each in self.by_ring[one.ring] if each.phase.name == name))
 
     def following(self, one: Running) -> list[Way]:
-        """The changes that a ring wishes for."""
+        """The changes that a ring wishes for from the phase that it shows; to itself where there is no other."""
         found: list[Way] = []
         decided = one.chosen
         if one.ready:
@@ -362,7 +385,7 @@ class Nema:
         return found or [one.ways[-1]]
 
     def may(self, one: Running, target: Running) -> bool:
-        """Whether a phase may be followed by another one, or by itself."""
+        """Whether a phase may be followed by another one of its ring, or stay itself, now."""
         if target is one:
             return one.is_green
         if not self.is_called(target):
@@ -376,5 +399,5 @@ class Nema:
         return True
 
     def left(self, one: Running) -> float:
-        """The seconds of a change that are to come, as SUMO has them: none of one that is under way."""
+        """The seconds of a change that are to come, as SUMO counts them: 0 while a change is under way."""
         return max(0.0, self.now - one.end - one.phase.change) if one.changing else one.phase.change

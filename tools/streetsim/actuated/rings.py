@@ -17,7 +17,7 @@ ALL = "1,2,3,4,5,6,7,8"  # the phases with a least recall, where none are named
 LEFT = "l"  # where a connection leads
 NEEDED = ("ring1", "ring2", "barrierPhases")
 UNLIKE = ("coordinate-mode", "vTypes")  # parameters that change when SUMO's phases end, and are not driven
-CROSSING = "crossPhaseSwitching"
+CROSSING = "crossPhaseSwitching"  # how the names of further such parameters begin
 
 
 @dataclass(frozen=True, slots=True)
@@ -34,15 +34,16 @@ class DrivenRings:
 
     @property
     def longest(self) -> float:
-        """The seconds in which it has shown all that it shows."""
+        """The seconds in which each phase has been green for its greatest time, with yellow and red."""
         return sum(one.most + one.change for one in self.rings.phases)
 
     def logic(self) -> Nema:
+        """A fresh logic of this light, for one run."""
         return Nema(self.rings)
 
 
 def driven_rings(kept: Mapping[str, Any], mapping: Map) -> DrivenRings:
-    """A light of what a map keeps of its program."""
+    """A NEMA light, from what a map keeps of its program; raises Listed where it cannot be driven as in SUMO."""
     parameters = kept["parameters"]
     refuse_unlike(kept)
     orders = tuple(digits(parameters[f"ring{ring}"]) for ring in (1, 2))
@@ -60,7 +61,7 @@ def driven_rings(kept: Mapping[str, Any], mapping: Map) -> DrivenRings:
 
 
 def refuse_unlike(kept: Mapping[str, Any]) -> None:
-    """Refuses a program of which something is not driven as in SUMO, or that SUMO does not take."""
+    """Raises Listed for a NEMA program of which something is not driven here as in SUMO, or that SUMO does not take."""
     parameters = kept["parameters"]
     if "timing" not in kept:
         raise Listed("as their map was written by an older streetsim-import")
@@ -76,15 +77,17 @@ def refuse_unlike(kept: Mapping[str, Any]) -> None:
 
 
 def digits(text: str) -> tuple[int, ...]:
-    """The numbers of phases in a text, of one digit each, as SUMO reads them."""
+    """The numbers of phases in a text, of one digit each, as SUMO reads them; all other characters are passed over."""
     return tuple(int(one) for one in text if one in "0123456789")
 
 
 def second_barrier(parameters: Mapping[str, str]) -> tuple[int, ...]:
+    """The phases at the second barrier, of one name of the parameter or the other; empty where it has neither."""
     return digits(parameters.get("coordinatePhases", parameters.get("barrier2Phases", "")))
 
 
 def check_orders(orders: Iterable[tuple[int, ...]], phases: Iterable[RingPhase]) -> None:
+    """Raises Listed where a ring has no phases or more than four, or names one that the program does not have."""
     names = {one.name for one in phases}
     for order in orders:
         if len(order) > 4 or not any(order):
@@ -94,7 +97,8 @@ def check_orders(orders: Iterable[tuple[int, ...]], phases: Iterable[RingPhase])
 
 
 def barriers_of(parameters: Mapping[str, str], orders: tuple[tuple[int, ...], ...]) -> tuple[tuple[int, ...], ...]:
-    """By side of the barrier the phase of each ring in which it waits for the other one."""
+    """By side of the barrier (0 before, 1 behind) the phase of each ring in which it waits for the other one; raises
+    Listed where parameters do not name them so."""
     found: list[dict[int, int]] = [{}, {}]
     for pair in (digits(parameters["barrierPhases"]), second_barrier(parameters)):
         if len(pair) != 2 or any(name not in order for name, order in zip(pair, orders, strict=True)):
@@ -107,7 +111,7 @@ def barriers_of(parameters: Mapping[str, str], orders: tuple[tuple[int, ...], ..
 
 
 def phases_of(kept: Mapping[str, Any], number: Mapping[str, int]) -> list[RingPhase]:
-    """The phases, with the areas of the lanes that each has green first; number: of the area of a lane."""
+    """The phases, each with the areas of the lanes that it has green first (G); number: the place of a lane's area."""
     parameters, found = kept["parameters"], []
     recalls = {name: digits(parameters.get(name, usual)) for name, usual in (("minRecall", ALL), ("maxRecall", ""))}
     latching = digits(parameters.get("latchingDetectors", ""))
@@ -123,8 +127,9 @@ def phases_of(kept: Mapping[str, Any], number: Mapping[str, int]) -> list[RingPh
 
 
 def areas_of(kept: Mapping[str, Any], mapping: Map) -> dict[str, Area]:
-    """The area of each lane: so many metres before its stop line, or a laneAreaDetector of the user's own by a
-    parameter of its name. Lanes that the map does not have have none."""
+    """By lane the area on which vehicles are looked for: so many metres before its stop line, or the laneAreaDetector
+    that a parameter of the lane's name names. Lanes that the map does not have are left out; raises Listed where the
+    map does not have the detector."""
     parameters, own = kept["parameters"], {one.name: one for one in mapping.detectors if one.kind == E2}
     ways: dict[str, list[str]] = {}
     for _, lane, _, _, direction in kept["ways"]:

@@ -19,11 +19,11 @@ from streetsim.sumo.signals import Green, LitNode, green_seconds, joined
 from streetsim.sumo.yielding import Movement, movements_of, settle
 
 WEIGHT = 0.2  # of the newest length in a phase's mean, chosen at eight rows of four networks
-Lengths = tuple[int, ...]
+Lengths = tuple[int, ...]  # seconds of each phase of a cycle
 
 
 class Shown:
-    """What the nodes of one light show."""
+    """What the nodes of one actuated light show in one run."""
 
     def __init__(self, light: Driven, mapping: Map) -> None:
         self.light, self.limits = light, {link.edge: link.limit for link in mapping.links}
@@ -31,10 +31,11 @@ class Shown:
         self.nodes = [(one, lit_node(light.name, one, mapping, light.offset, cycle)) for one in light.nodes]
         self.means = [float(phase.usual) for phase in light.phases]
         self.known = 0  # ended phases that are in the means
-        self.rows: dict[tuple[int, Lengths], list[Green]] = {}
+        self.rows: dict[tuple[int, Lengths], list[Green]] = {}  # by place of a node: green turns second by second
 
     def learn(self, logic: Actuated) -> Lengths:
-        """Takes what ended since into the means; the first phase may have begun before the run."""
+        """Takes the phases that ended since into the means, and gives these in whole seconds, 1 to 600. The first phase
+        is left out, as it may have begun before the run."""
         for place in range(max(1, self.known), len(logic.ended)):
             at, _, seconds, _ = logic.ended[place]
             self.means[at] += WEIGHT * (seconds - self.means[at])
@@ -42,7 +43,7 @@ class Shown:
         return tuple(max(1, round(min(mean, limits.PHASE_STEPS))) for mean in self.means)
 
     def plans(self, logic: Actuated, now: int) -> Iterator[Command]:
-        """The signal commands of the phase that is shown from now on."""
+        """The signal commands, one for each node, that show from the clock `now` on the phase that the logic is in."""
         lengths = self.learn(logic)
         end = sum(lengths[: logic.at + 1])
         # At the begin of a run the end of a phase may be all that is left of it.
@@ -53,7 +54,7 @@ class Shown:
             yield plan_of(node.node, self.rows[at, lengths][end - left : end], now)
 
     def seconds(self, kept: NodeOf, node: LitNode, lengths: Lengths) -> list[Green]:
-        """The green turns of each second of a plan with phases of some lengths."""
+        """The green turns in each second of a cycle whose phases have some lengths."""
         pairs = zip(self.light.phases, lengths, strict=True)
         states = [phase.state for phase, length in pairs for _ in range(length)]
         own = settled(node, kept, states, self.limits)
@@ -61,7 +62,8 @@ class Shown:
 
 
 def settled(node: LitNode, kept: NodeOf, states: Sequence[str], limits_of: Mapping[str, int]) -> LitNode:
-    """A node with what is found of who gives way there in a cycle with such states."""
+    """A node with what the import's rules find of who gives way there in a cycle of these states, one for each second;
+    limits_of: of edges, cells a step."""
     found: dict[int, Movement] = {}
     if node.permissive is None and kept.flows and kept.yields:
         found = movements_of(kept.connections, states, kept.yields, kept.flows, limits_of)
@@ -70,7 +72,7 @@ def settled(node: LitNode, kept: NodeOf, states: Sequence[str], limits_of: Mappi
 
 
 def lit_node(light: str, kept: NodeOf, mapping: Map, offset: int, cycle: list[tuple[float, str]]) -> LitNode:
-    """A node as the import had it; cycle: seconds and states of the light's phases."""
+    """A node with a light as the import had it; offset: seconds; cycle: seconds and states of the light's phases."""
     turns = [
         (turn.link, turn.lane, turn.next, turn) for turn in mapping.turns if mapping.links[turn.link].end == kept.node
     ]
@@ -80,7 +82,8 @@ def lit_node(light: str, kept: NodeOf, mapping: Map, offset: int, cycle: list[tu
 
 
 def plan_of(node: int, rows: Sequence[Green], now: int) -> Command:
-    """The plan of some seconds from now on, the last of which goes on for as long as a part of a plan may last."""
+    """The signal command that shows some seconds (green turns of each) from the clock `now` on, the last of which goes
+    on for 600 s, as long as a phase of a plan may last."""
     runs = [(len(list(run)), green) for green, run in groupby(rows)]
     phases = joined(runs)
     phases[-1] = (limits.PHASE_STEPS, phases[-1][1])
@@ -90,5 +93,5 @@ def plan_of(node: int, rows: Sequence[Green], now: int) -> Command:
 
 
 def lasting(command: Command) -> Command:
-    """The plan that goes on showing what a plan of such a command shows at its end."""
+    """The signal command that goes on showing what a given one shows at its end, for 600 s at a time."""
     return {**command, "offset": 0, "phases": [[limits.PHASE_STEPS, command["phases"][-1][1]]]}

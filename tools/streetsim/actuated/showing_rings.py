@@ -20,7 +20,7 @@ Times = list[tuple[RingPhase, int]]  # by second: a phase, and what it shows
 
 
 class ShownRings:
-    """What the nodes of one light show."""
+    """What the nodes of one NEMA light show in one run."""
 
     def __init__(self, light: DrivenRings, mapping: Map) -> None:
         self.light, self.limits = light, {link.edge: link.limit for link in mapping.links}
@@ -34,14 +34,15 @@ class ShownRings:
         self.letters: list[tuple[str, int]] = []  # of each signal what it shows, and since when
 
     def learn(self, logic: Nema) -> Lengths:
-        """Takes what ended since into the means."""
+        """Takes the greens that ended since into the means, and gives these in whole seconds, 1 to 600, in the order of
+        the phases."""
         for row in logic.ended[self.known :]:
             self.means[row.phase] += WEIGHT * (row.seconds - self.means[row.phase])
         self.known = len(logic.ended)
         return tuple(max(1, round(min(mean, limits.PHASE_STEPS))) for mean in self.means.values())
 
     def plans(self, logic: Nema, now: int) -> Iterator[Command]:
-        """The signal commands of what is shown from now on."""
+        """The signal commands, one for each node, that show from the clock `now` on what the logic shows."""
         lengths, state = self.learn(logic), logic.state()
         before = self.letters or [("", now)] * len(state)
         pairs = zip(state, before, strict=True)
@@ -56,7 +57,8 @@ class ShownRings:
             yield plan_of(node.node, self.rows(node, self.cycles[lengths], self.greens[at, lengths], now), now)
 
     def rows(self, node: LitNode, cycle: Sequence[str], greens: Sequence[Green], now: int) -> list[Green]:
-        """The green turns of each second from now on, the last of which goes on."""
+        """The green turns of a node in each second from the clock `now` on, the last of which goes on. cycle: the
+        letters in each second of a cycle; greens: the green turns in each."""
         shown = {}
         for link, lane, following, turn in node.turns:
             letter, since = self.letters[turn.index] if turn.light == node.light else ("", now)
@@ -73,8 +75,8 @@ class ShownRings:
 
 
 def of_green(letters: str, shown: Sequence[bool], letter: str, gone: int) -> list[bool]:
-    """Whether a signal is shown in each second of its longest green of a letter, of which some are gone; letters,
-    shown: of each second of a cycle."""
+    """Whether a signal is shown green in each second that remains of its longest run of a letter, of which `gone`
+    seconds are over; one at least. letters, shown: of each second of a cycle."""
     runs = runs_of(letters, letter)
     if not runs:
         return [True]
@@ -84,8 +86,8 @@ def of_green(letters: str, shown: Sequence[bool], letter: str, gone: int) -> lis
 
 
 def cycle_of(rings: Rings, seconds: dict[int, int]) -> list[str]:
-    """The signals of each second of a cycle in which each phase is green for so many seconds, or for longer where it
-    waits at a barrier for the other ring."""
+    """The letters of the signals in each second of a cycle in which each phase is green for its seconds (by number), or
+    for longer where it waits at a barrier for the other ring."""
     states = []
     for side in (0, 1):
         both = []
@@ -102,5 +104,6 @@ def cycle_of(rings: Rings, seconds: dict[int, int]) -> list[str]:
 
 
 def times_of(phase: RingPhase, green: int) -> Times:
+    """A phase second by second, green for so many, then yellow and red: itself, and its stage."""
     stages = [(GREEN, green), (YELLOW, round(phase.yellow)), (RED, round(phase.red))]
     return [(phase, stage) for stage, seconds in stages for _ in range(seconds)]
