@@ -17,14 +17,14 @@ class Detector:
     link: int
     lane: int
     first: int  # cell
-    last: int  # the same as first for an e1
+    last: int  # cell, included; the same as first for an e1
     period: int  # seconds of a row
     cell_metres: float = limits.CELL_METRES
 
 
 @dataclass(slots=True)
 class Area:
-    """What samples saw in the cells of an e2 in one of its periods."""
+    """What samples of a lane saw in the cells of an e2 in one of its periods."""
 
     samples: int = 0
     vehicles: int = 0  # sum over samples
@@ -37,14 +37,15 @@ class Area:
 
 @dataclass(slots=True)
 class Areas:
-    """The areas of a run; each sample of a lane is one of its areas."""
+    """What samples of the lanes saw in each e2 of a run, by its periods."""
 
     detectors: list[Detector]
     start: int
     seen: dict[tuple[str, int], Area] = field(default_factory=dict)  # by name and begin
 
     def sample(self, clock: int, cells_of: Callable[[tuple[int, int]], Cells]) -> None:
-        """Notes a sample; cells_of gives the cells of the reply of a (link, lane)."""
+        """Notes the e2 at a poll of the lanes at a clock; cells_of gives the cells of the lane's reply of a (link,
+        lane)."""
         for one in self.detectors:
             begin = self.start + (clock - 1 - self.start) // one.period * one.period
             area = self.seen.setdefault((one.name, begin), Area())
@@ -57,19 +58,20 @@ class Areas:
 
 
 def size_of(entry: Sequence[int]) -> int:
-    """The cells that a vehicle takes, of its entry in a lane's reply: [car, cell, speed], with the size where above
-    1."""
+    """The cells that a vehicle takes, by its entry in a lane's reply: [car, cell, speed], with the size where it is
+    above 1."""
     return entry[3] if len(entry) > 3 else 1
 
 
 def metres_in(entry: Sequence[int], first: int, cell_metres: float = limits.CELL_METRES) -> float:
-    """The metres of a vehicle, without its gap, that lie in the cells from `first` on; of its entry in a lane's
-    reply."""
+    """The metres of a vehicle, without its gap, that lie in the cells from `first` on; entry: [car, cell, speed], with
+    the size where it is above 1."""
     return min(size_of(entry) * limits.CELL_METRES - limits.GAP_METRES, (entry[1] - first + 1) * cell_metres)
 
 
 def longest_jam(cells: Cells) -> int:
-    """The most vehicles that stand one behind the other without a gap; cells of a lane's reply, from the greatest."""
+    """How many vehicles, at most, stand one behind the other without a gap; cells: of a lane's reply, the greatest
+    first."""
     longest = here = 0
     rear = None
     for entry in cells:

@@ -1,4 +1,4 @@
-"""A folder that streetsim-run wrote, read back."""
+"""A folder that streetsim-run wrote for one run, read back."""
 import json
 import os
 import re
@@ -18,7 +18,8 @@ Frame = Json  # what stood on lanes at a clock: {"clock", "lanes"}, as `polls` s
 
 @dataclass(slots=True)
 class Folder:
-    """What a run left in its folder; tables are read anew each time, as texts by column."""
+    """What a run left in its folder. Its tables are read anew at each call, a row as the texts by column; Fault where
+    one is missing or has other columns."""
 
     path: str
     mapping: Map
@@ -31,15 +32,19 @@ class Folder:
     doubts: list[str] = field(default_factory=list)  # why the run is not to be trusted
 
     def trips(self) -> list[dict[str, str]]:
+        """The rows of trips.csv, in the order of the vehicles' numbers."""
         return tables.read_table(f"{self.path}/trips.csv", tables.TRIPS)
 
     def counts(self) -> list[dict[str, str]]:
+        """The rows of counts.csv."""
         return tables.read_table(f"{self.path}/counts.csv", tables.COUNTS)
 
     def edges(self) -> list[dict[str, str]]:
+        """The rows of edges.csv."""
         return tables.read_table(f"{self.path}/edges.csv", tables.EDGES)
 
     def queues(self) -> list[dict[str, str]]:
+        """The rows of queues.csv."""
         return tables.read_table(f"{self.path}/queues.csv", tables.QUEUES)
 
     def works(self) -> list[dict[str, str]]:
@@ -55,19 +60,21 @@ class Folder:
         return tables.read_table(f"{self.path}/{tables.STOPS_FILE}", tables.STOPS)
 
     def phases(self) -> list[dict[str, str]]:
+        """The rows of phases.csv; Fault where detectors drove no light."""
         if not os.path.exists(f"{self.path}/{tables.PHASES_FILE}"):
             raise Fault(f"{self.path}: detectors drive no light in this run")
         return tables.read_table(f"{self.path}/{tables.PHASES_FILE}", tables.PHASES)
 
     def polls(self) -> Iterator[Frame]:
-        """What stood on the lanes at each poll: {"clock", "lanes": [link, lane, [[car, cell, speed], ..], [cars in the
-        buffer], closed stretches]}; the size of a car stands after its speed where it is above 1."""
+        """What stood on the lanes at each poll, rising: {"clock", "lanes": [link, lane, [[car, cell, speed], ..], [cars
+        in the buffer], closed stretches]}; the size of a car stands after its speed where it is above 1. Lanes with
+        nothing on them are left out."""
         path = f"{self.path}/lanes.jsonl.gz"
         with reading(path), open_text(path) as file:
             yield from map(json.loads, file)
 
     def links_along(self, edges: Iterable[str]) -> list[list[int]]:
-        """The links of each edge of a path; Fault where the map has no such edge."""
+        """The links of each edge of a path, in its order; Fault where the map has no such edge."""
         for edge in edges:
             if edge not in self.mapping.links_of:
                 raise Fault(f"{self.path}: the map has no edge {edge!r}")

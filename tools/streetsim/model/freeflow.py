@@ -20,7 +20,7 @@ class FreeFlow:
         self.crossing = [mapping.nodes[link.end][3] for link in mapping.links]
 
     def __call__(self, plan: Sequence[int]) -> float:
-        """Seconds of a plan from the begin of its first link to the end of its last."""
+        """Seconds of a plan, one link at least, from the begin of its first link to the end of its last."""
         driving, crossing = self.driving, self.crossing
         return sum(driving[link] for link in plan) + sum(crossing[link] for link in plan[:-1])
 
@@ -33,17 +33,18 @@ class Alone:
         self.mapping, self.slower = mapping, min(dawdle, 0.999)
 
     def on_link(self, link: int, before: int | None) -> float:
-        """Seconds in the cells of a link, of one that comes from the link before at its limit, or departs there."""
+        """Mean seconds in the cells of a link, of a vehicle that comes from the link `before` at that one's limit, or
+        departs here (none)."""
         links = self.mapping.links
         speed = 0 if before is None else links[before].limit
         return seconds_alone(links[link].cells, links[link].limit, self.slower, speed)
 
     def across(self, link: int) -> float:
-        """Seconds in the junction behind a link."""
+        """Seconds in the junction at the end of a link: the least that a vehicle stays in it."""
         return self.mapping.nodes[self.mapping.links[link].end][3]
 
     def approach(self, plan: Sequence[int], at: int) -> float:
-        """Seconds on a link of a plan and in the junction behind it."""
+        """Mean seconds on the link at a place of a plan, from 0, and in the junction behind it."""
         return self.on_link(plan[at], plan[at - 1] if at else None) + self.across(plan[at])
 
     def trip(self, plan: Sequence[int]) -> float:

@@ -19,8 +19,8 @@ class MapLink:
 
     edge: str
     lanes: Sequence[int]  # SUMO's lane indexes
-    begin: int  # nodes
-    end: int
+    begin: int  # node that it comes from
+    end: int  # node that it leads to
     cells: int
     limit: int  # cells a step
     metres: float
@@ -28,35 +28,38 @@ class MapLink:
 
     @property
     def cell_metres(self) -> float:
-        """Metres of a cell: as many as a vehicle takes, but where an edge has other cells for its speed."""
+        """Metres of a cell by which densities and speeds are told: 7.5, but where an edge has other cells for its
+        speed."""
         usual = limits.cells_of(self.metres)
         return limits.CELL_METRES if self.cells == usual else self.metres / self.cells
 
     def cells_between(self, begin: float, end: float) -> tuple[int, int]:
-        """The first and the last cell from one place of the lane to another, in metres from its begin."""
+        """The first and the last cell, both included, from one place of the lane to another, in metres from its
+        begin."""
         size = self.metres / self.cells
         first = min(self.cells - 1, max(0, int(begin / size)))
         return first, min(self.cells - 1, max(first, round(end / size) - 1))
 
     def closed_between(self, begin: float, end: float) -> tuple[int, int]:
-        """The cells that works close from one place to another, in metres. Where there is a lane beside, the first
-        cells stay open as far as the works allow: turns lead to this lane, and who comes by one leaves it there."""
+        """The first and the last cell that works close from one place to another, in metres from the lane's begin.
+        Where there is a lane beside, the first cells stay open as far as the works allow: turns lead to this lane, and
+        who comes by one leaves it there."""
         first, last = self.cells_between(begin, end)
         return (max(first, min(limits.SIZE, last)), last) if len(self.lanes) > 1 else (first, last)
 
 
 @dataclass(slots=True, frozen=True)
 class MapTurn:
-    """From a lane of a link to a lane of the next, by numbers of the run; light: SUMO's name, none where there is
-    none."""
+    """From a lane of a link to a lane of the next, by numbers of the run; light: SUMO's id of the light that shows its
+    signal, none where it has no light."""
 
     link: int
     lane: int
     next: int
     next_lane: int
     light: str | None
-    index: int  # in the light's state
-    added: bool  # not SUMO's
+    index: int  # its place in the light's state
+    added: bool  # it is none of SUMO's connections, but the import's
     speed: float = 13.9  # metres a second, inside the junction if that is known
     limit: int = 2  # of its link, cells a step
 
@@ -92,15 +95,15 @@ class Map:
             self.links_of.setdefault(link.edge, []).append(number)
 
     def lane_name(self, link: int, lane: int) -> str:
-        """SUMO's name of a lane: edge_index."""
+        """SUMO's id of a lane, EDGE_INDEX, by the numbers of the run."""
         return f"{self.links[link].edge}_{self.links[link].lanes[lane]}"
 
     def place_of(self, name: str) -> Place | None:
-        """The (link, lane) of a lane that goes by SUMO's name, edge_index; none where there is none."""
+        """The (link, lane) of SUMO's id of a lane, EDGE_INDEX; none where the map does not have it."""
         return next((place for place in self.lanes() if self.lane_name(*place) == name), None)
 
     def lanes(self) -> list[Place]:
-        """All (link, lane)."""
+        """All (link, lane) of the run, rising."""
         return [(number, lane) for number, link in enumerate(self.links) for lane in range(len(link.lanes))]
 
     def written(self) -> Json:

@@ -12,7 +12,7 @@ WINDS = ("east", "north-east", "north", "north-west", "west", "south-west", "sou
 MOST_STREETS = 3  # in a junction's name
 COLUMNS = ("id", "name")  # of a file of one's own names
 EDGES, JUNCTIONS = "edges", "junctions"  # the kinds of names that a map keeps
-SUFFIX = "_name"  # of the column beside an id
+SUFFIX = "_name"  # how the column of names beside one of ids is called
 
 
 class Names:
@@ -25,11 +25,12 @@ class Names:
         self.made = self.of_streets() if self.edges else {}
 
     def __bool__(self) -> bool:
-        """Whether there is any."""
+        """Whether the map has any name."""
         return bool(self.edges or self.junctions)
 
     def of_streets(self) -> dict[str, str]:
-        """The junctions that go by the streets that meet there: 'Hill Street / Market Street'."""
+        """By junction the names of up to three streets that meet there, those of most links first: 'Hill Street /
+        Market Street'. Junctions without a named street are left out."""
         found: dict[str, Counter[str]] = {}
         for link in self.mapping.links:
             if name := self.edges.get(link.edge):
@@ -43,20 +44,22 @@ class Names:
         return self.edges.get(edge, "")
 
     def junction(self, name: str) -> str:
-        """What a junction is called; empty where nothing has a name."""
+        """The name of a junction, else those of its streets; empty where it has neither."""
         return self.junctions.get(name, "") or self.made.get(name, "")
 
     def junction_told(self, name: str) -> str:
-        """What a junction is called, else its id."""
+        """What a junction is called, else 'Junction' and its id."""
         return self.junction(name) or f"Junction {name}"
 
     def approach(self, edge: str) -> str:
-        """'Hill Street, from the north'; without a name 'from the north'."""
+        """What the approach to a junction along an edge is called: 'Hill Street, from the north'; without a name 'from
+        the north'."""
         street = self.street(edge)
         return f"{street}, {self.came(edge)}" if street else self.came(edge)
 
     def movement(self, edge: str, to: str) -> str:
-        """'Hill Street into Market Street, from the north'; by direction where there is no name."""
+        """What the movement from an edge to the next is called: 'Hill Street into Market Street, from the north'; by
+        directions where a street has no name."""
         street, following = self.street(edge), self.street(to)
         if street and street == following:
             return f"along {street}, {self.came(edge)} {self.goes(to)}"
@@ -65,36 +68,39 @@ class Names:
         return f"{self.came(edge)} {f'into {following}' if following else self.goes(to)}"
 
     def came(self, edge: str) -> str:
-        """Where one comes from who drives along an edge's end."""
+        """Where one comes from who drives along the last piece of an edge: 'from the north'; empty for an unknown
+        edge."""
         if edge not in self.mapping.links_of:
             return ""
         *_, before, end = self.shape(edge)
         return f"from the {wind(end, before)}"
 
     def goes(self, edge: str) -> str:
-        """Where one goes to who drives along an edge's begin."""
+        """Where one goes to who drives along the first piece of an edge: 'to the north'; empty for an unknown edge."""
         if edge not in self.mapping.links_of:
             return ""
         begin, after, *_ = self.shape(edge)
         return f"to the {wind(begin, after)}"
 
     def shape(self, edge: str) -> Sequence[Sequence[float]]:
+        """The points (x, y), in metres, of the middle one of an edge's links."""
         links = self.mapping.links_of[edge]
         return self.mapping.links[links[len(links) // 2]].shape
 
     def columns(self) -> dict[str, Callable[[str], str]]:
-        """For each column of ids what its column of names has."""
+        """For each column of ids in the tables, the function that gives the name of an id (empty where it has none)."""
         return {"edge": self.street, "approach": self.street, "to": self.street, "junction": self.junction}
 
 
 def wind(begin: Sequence[float], end: Sequence[float]) -> str:
-    """The direction from one point to another, y to the north."""
+    """The direction from one point (x, y) to another as one of eight words; y points to the north."""
     turn = atan2(end[1] - begin[1], end[0] - begin[0]) / (2 * pi)
     return WINDS[round(turn * len(WINDS)) % len(WINDS)]
 
 
 def write_named(path: FilePath, header: Sequence[str], rows: Iterable[Entry], names: Names) -> None:
-    """Writes a table as CSV; where the map has names, a column of names stands beside each one of ids."""
+    """Writes a table as CSV; where the map has names, beside each column of ids stands one of names, with _name at its
+    end."""
     columns = {header.index(name): called for name, called in names.columns().items() if name in header and names}
     head = [text for at, name in enumerate(header) for text in ([name, name + SUFFIX] if at in columns else [name])]
     named = ([one for at, own in enumerate(row) for one in beside(columns.get(at), own)] for row in rows)
@@ -102,13 +108,13 @@ def write_named(path: FilePath, header: Sequence[str], rows: Iterable[Entry], na
 
 
 def beside(called: Callable[[str], str] | None, cell: object) -> list[object]:
-    """A cell, and the name that it goes by where its column is one of ids."""
+    """What is written for a cell: itself, and its name where its column is one of ids (else `called` is none)."""
     return [cell] if called is None else [cell, called(str(cell))]
 
 
 def read_own(path: FilePath, mapping: Map) -> None:
-    """Gives a map names of one's own, of a CSV with the columns id (of an edge or a junction) and name; Fault where an
-    id is unknown."""
+    """Adds names of one's own to a map, in place of those that it has; an empty name takes one away. The file is a CSV
+    with the columns id (of an edge, junction or light) and name; Fault where an id is unknown."""
     edges, junctions = dict(mapping.names.get(EDGES, {})), dict(mapping.names.get(JUNCTIONS, {}))
     nodes = {name for name, *_ in mapping.nodes} | {light for light, _ in mapping.signals}
     lights = {light: mapping.nodes[node][0] for light, node in mapping.signals}

@@ -26,31 +26,35 @@ class Line:
 
 @dataclass(slots=True)
 class Run:
+    """A run as it is sent, by when each line goes."""
+
     path: FilePath
     load: Line
     first: list[Line] = field(default_factory=list)  # sent after the load, before the first step
     timed: list[tuple[int, Line]] = field(default_factory=list)  # by clock
     enters: list[Line] = field(default_factory=list)  # vehicles, by the order of lines
-    needed: list[int] = field(default_factory=list)  # for each enter, the least depart of it and those after it
+    needed: list[int] = field(default_factory=list)  # by enter: least depart of it and those after it in the file
 
     def start(self) -> int:
-        """The clock of its load."""
+        """The clock at its begin, which its load gives."""
         return self.load.command.get("start", 0)
 
     def signals(self) -> list[Sent]:
-        """The clock of each signal line, and its command."""
+        """The signal plans of the run, (clock at which it is sent, command), in the order of sending."""
         lines = [*((self.start(), line) for line in self.first), *self.timed]
         return [(clock, line.command) for clock, line in lines if line.command["cmd"] == "signal"]
 
 
 def read_run(path: FilePath) -> Run:
-    """The run of a file; Fault where its first line is no load, or any is no command of a run."""
+    """The run of a file; Fault where its first line is no load, or any is no command of a run; blank lines are left
+    out."""
     with reading(path), open_text(path) as file:
         return run_of_texts(path, file)
 
 
 def read_with_map(run_path: FilePath, map_path: FilePath) -> tuple[Run, Map]:
-    """A run and the map of its names; the map of another one is refused."""
+    """A run and the map of its names; Fault where the map belongs to another run, by the links, how many vehicles there
+    are, and where these begin and end."""
     run, mapping = read_run(run_path), read_map(map_path)
     links = [
         [at, link.begin, link.end, len(link.lanes), link.cells, link.limit] for at, link in enumerate(mapping.links)
@@ -69,7 +73,8 @@ def read_with_map(run_path: FilePath, map_path: FilePath) -> tuple[Run, Map]:
 
 
 def ends_of(run: Run, mapping: Map) -> Iterator[str]:
-    """The edges on which those begin and end whom the map names; lanes, ways and departures may be changed by hand."""
+    """For each vehicle that the map names, the edges on which it begins and ends, with a blank between; lanes, ways and
+    departures may be changed by hand."""
     edges = {number: link.edge for number, link in enumerate(mapping.links)}
     for line in run.enters[: len(mapping.cars)]:
         plan = line.command["plan"]
@@ -77,7 +82,8 @@ def ends_of(run: Run, mapping: Map) -> Iterator[str]:
 
 
 def run_of_texts(path: FilePath, texts: Iterable[str]) -> Run:
-    """The run of lines as texts, blank ones left out; Fault where the first is no load, or one is no command."""
+    """The run of lines as texts, blank ones left out; path: of the file, for faults. Fault where the first is no load,
+    or one is no command of a run."""
     lines = [line_of(path, number, text) for number, text in enumerate(texts, 1) if text.strip()]
     if not lines or lines[0].command["cmd"] != "load":
         raise Fault(f"{path}: the first line must be a load")
@@ -102,7 +108,7 @@ def run_of(path: FilePath, lines: Sequence[Line]) -> Run:
 
 
 def with_load(run: Run, **values: Any) -> Run:
-    """The run with other values of its load."""
+    """The run with other values of its load (seed=7, dawdle=..); the given one stays as it is."""
     command = {**run.load.command, **values}
     return replace(run, load=replace(run.load, command=command, text=json.dumps(command, separators=(",", ":"))))
 
@@ -116,20 +122,21 @@ def texts_of(run: Run) -> Iterator[str]:
 
 
 def without_mark(line: Line) -> Line:
-    """A kept line of works as the tool had made it."""
+    """A kept line of works as the tool had made it, without its clock and mark."""
     command = {name: value for name, value in line.command.items() if name not in ("at", MARK)}
     return Line(line.number, json.dumps(command), command)
 
 
 def timed_text(clock: int, line: Line) -> str:
-    """The text of a line that is sent at a clock; of works' line, which is of no file, with a mark."""
+    """The text of a line that is sent at a clock; one of works, which is of no file, with that clock and a mark."""
     if line.number > 0:
         return line.text
     return json.dumps({**line.command, "at": clock, MARK: True}, separators=(",", ":"))
 
 
 def line_of(path: FilePath, number: int, text: str) -> Line:
-    """The line of a text; Fault where it is no command, or one that streetsim-run sends itself."""
+    """The line of a text; number: in the file, from 1. Fault where it is no command, or one that streetsim-run sends
+    itself."""
     try:
         command = json.loads(text)
         if (
@@ -146,5 +153,5 @@ def line_of(path: FilePath, number: int, text: str) -> Line:
 
 
 def seeded(run: Run, seed: int) -> Run:
-    """The run with another seed."""
+    """The run with another seed in its load; the given one stays as it is."""
     return with_load(run, seed=seed)

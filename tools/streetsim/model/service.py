@@ -19,8 +19,9 @@ STOP_LOSS = 2.5, 1.5
 
 
 def level(delay: float, control: str, ratio: float | None = None) -> str:
-    """The letter of a control delay in seconds; control: SIGNALS, or another way, which all count as PRIORITY. F also
-    where more want to go than can (ratio: v/c, of movements alone)."""
+    """The letter of a mean control delay in seconds. control: SIGNALS, or another way, which all count as PRIORITY;
+    ratio: v/c of a movement, above 1 of which it is F whatever the delay; none where it is not known, or does not
+    count."""
     if ratio is not None and ratio > 1:
         return "F"
     return LETTERS[bisect_left(AT_SIGNALS if control == SIGNALS else AT_PRIORITY, delay)]
@@ -38,5 +39,6 @@ def percentile(values: Iterable[float], share: float) -> float:
 
 
 def fills(queue: float, metres: float) -> bool:
-    """Whether a queue, in metres, leaves no room on an edge of so many metres but the gap behind its last vehicle."""
+    """Whether a queue, in metres, fills an edge of so many metres: it leaves no room but the gap behind its last
+    vehicle."""
     return queue >= metres - GAP_METRES - ROUNDED

@@ -19,11 +19,12 @@ class Sources:
     trips: list = field(default_factory=list)
 
     def paths(self) -> list[str]:
-        """All of them, in the order of their sums."""
+        """All paths, in the order in which a map keeps their sums."""
         return [self.net, *self.additional, *self.routes, *self.trips]
 
     def written(self, map_path: str, lines: Iterable[str]) -> dict:
-        """What a map keeps of them: paths beside the map, sums of their bytes, and the sum of the run's lines."""
+        """What a map keeps of them: paths as seen from the map's folder, SHA-256 of each file's bytes, and that of the
+        run's lines."""
         beside = partial(os.path.relpath, start=os.path.dirname(os.path.realpath(map_path)))
         return {
             "net": beside(self.net),
@@ -36,7 +37,8 @@ class Sources:
 
 
 def sources_of(kept: dict, map_path: FilePath, run_path: FilePath) -> Sources:
-    """The sources that a map names. Fault where they, or the run, are not what was imported."""
+    """The sources that a map keeps (`kept`, of `Sources.written`). Fault where it keeps none, or one of the files, or
+    the run, has changed since the import."""
     if not kept:
         raise Fault(f"{map_path}: does not name the files that it was imported from")
     beside = partial(os.path.join, os.path.dirname(os.path.realpath(map_path)))
@@ -58,7 +60,7 @@ def sum_of(path: str) -> str:
 
 
 def sum_of_lines(lines: Iterable[str]) -> str:
-    """The SHA-256 of lines, each with its end."""
+    """The SHA-256 of lines, to each of which its line end is added."""
     found = hashlib.sha256()
     for line in lines:
         found.update(line.encode() + b"\n")
@@ -67,7 +69,7 @@ def sum_of_lines(lines: Iterable[str]) -> str:
 
 @functools.cache
 def digest_of(path: str) -> str | None:
-    """The SHA-256 of a file's bytes, asked for once in a process; none where it cannot be read."""
+    """The SHA-256 of a file's bytes, reckoned once in a process; none where it cannot be read."""
     try:
         with open(path, "rb") as file:
             return hashlib.file_digest(file, "sha256").hexdigest()

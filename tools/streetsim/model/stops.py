@@ -6,7 +6,7 @@ from dataclasses import dataclass
 
 from streetsim.base.files import Json
 
-MADE, OTHER_LANE = "made", "other lane"  # on its lane, or on the one beside
+MADE, OTHER_LANE = "made", "other lane"  # how a stop ended: made on its lane, or on the lane beside
 STANDING, MISSED, AHEAD = "standing", "missed", "not reached"  # at the end of the run; passed; still to come
 
 
@@ -15,7 +15,7 @@ class Visit:
     """A stop that a vehicle is to make, on the cells of a run."""
 
     vehicle: int  # its number in the map
-    at: int  # the place of its link in the vehicle's plan
+    at: int  # the place, from 0, of its link in the vehicle's plan
     stop: str  # SUMO's name of the bus stop, or the lane and the metres
     link: int
     lane: int
@@ -28,20 +28,22 @@ class Visit:
 
 
 def why_unmade(visits: int) -> str:
-    """What a tool says that makes no stops; nothing where there are none."""
+    """What a tool that makes no stops says of so many of them; empty where there are none."""
     if not visits:
         return ""
     return f"{visits:,} stops of vehicles are not made: streetsim-run and streetsim-study make them"
 
 
 def lines_of(kinds: Json, count: int) -> Sequence[str]:
-    """The line of each vehicle of a map, by its number; an empty text where it has none."""
+    """The bus line of each vehicle of a map, by its number; empty where it has none. kinds: of the map; count: how many
+    vehicles."""
     found: Sequence[str] = kinds.get("line") or ()
     return [*found, *([""] * (count - len(found)))]
 
 
 def classes_of(kinds: Json, count: int) -> Sequence[str]:
-    """The class of each vehicle of a map, by its number: SUMO's name."""
+    """SUMO's vehicle class of each vehicle of a map, by its number; passenger where it is not kept. kinds: of the map;
+    count: how many vehicles."""
     types: Sequence[Sequence[str]] = kinds.get("types") or ()
     found = [types[at][1] for at in kinds.get("type") or ()]
     return [*found, *(["passenger"] * (count - len(found)))]

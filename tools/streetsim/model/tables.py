@@ -45,7 +45,7 @@ JUNCTIONS = ("begin", "end", "junction", "control", *LOST, "queue_max_m", "v_c",
 
 
 def write_table(path: FilePath, header: Sequence[str], rows: Iterable[Iterable[object]]) -> None:
-    """Writes a table as CSV, whole or not at all."""
+    """Writes a table as CSV, whole or not at all; empty cells stand for what is not known."""
     with whole_file(path) as file:
         writer = csv.writer(file, lineterminator="\n")
         writer.writerow(header)
@@ -53,8 +53,8 @@ def write_table(path: FilePath, header: Sequence[str], rows: Iterable[Iterable[o
 
 
 def read_table(path: FilePath, header: Sequence[str]) -> list[dict[str, str]]:
-    """The rows of a table, as texts by column; Fault where it has other columns, but for names beside ids, or a text
-    where a number belongs."""
+    """The rows of a CSV table, as texts by column; Fault where it has other columns than `header` (columns of names,
+    which end in _name, may stand among them), or a text where a number belongs."""
     with reading(path), open_text(path) as file:
         rows = csv.DictReader(file)
         if tuple(name for name in rows.fieldnames or () if name in header or not name.endswith("_name")) != header:
@@ -68,8 +68,8 @@ def read_table(path: FilePath, header: Sequence[str]) -> list[dict[str, str]]:
 
 
 def is_cell(name: str, text: str | None) -> bool:
-    """Whether a column may have a text: names anything, numbers a finite one or nothing; none (the row is too short)
-    nowhere."""
+    """Whether a column may hold a text: columns of names anything, all others a finite number or nothing. A row that is
+    too short (none) may not be."""
     if text is None or name in TEXTS:
         return text is not None
     try:

@@ -6,13 +6,13 @@ from itertools import combinations
 from streetsim.base.files import Json
 
 MAIN, PERMISSIVE, YELLOW = "G", "g", "yY"
-OPEN = MAIN + PERMISSIVE
+OPEN = MAIN + PERMISSIVE  # signs of green
 RANK = "rsoOuyYgG"  # signs, those that let most go last
 
 
 @dataclass(slots=True, frozen=True)
 class Movement:
-    """From an edge to the next one at a light, by the places of its lanes in the states."""
+    """From an edge to the next one at a light; places: in the light's states, of its lanes."""
 
     edge: str
     to: str
@@ -41,11 +41,12 @@ class Timing:
         return found
 
     def signs(self, movement: Movement) -> str:
-        """What a movement is shown, a letter a second: of several lanes the one that lets most go."""
+        """What a movement is shown, a letter for each second of the cycle; of several lanes the letter that lets most
+        go."""
         return "".join(max((state[place] for place in movement.places), key=RANK.find) for state in self.states())
 
     def pairs(self) -> Iterator[tuple[Movement, Movement]]:
-        """The movements of different edges that conflict."""
+        """The pairs of movements that come from different edges and whose ways cross or join."""
         for one, other in combinations(self.movements, 2):
             if one.edge != other.edge and any(
                 frozenset((place, against)) in self.conflicts for place in one.places for against in other.places
@@ -53,7 +54,8 @@ class Timing:
                 yield one, other
 
     def clashes(self) -> Iterator[tuple[Movement, Movement, int]]:
-        """Conflicting movements that both have main greens together, and for how many seconds of the cycle."""
+        """The pairs of `pairs` that have main greens (G) on conflicting places together, and for how many seconds of
+        the cycle."""
         states = self.states()
         for one, other in self.pairs():
             both = [
@@ -77,7 +79,7 @@ class Timing:
 
 
 def timing_of(value: Json) -> Timing:
-    """The program of its JSON."""
+    """The program of the JSON that `Timing.written` gave."""
     return Timing(
         value["light"], value["junction"], value["offset"], [(seconds, state) for seconds, state in value["phases"]],
         value["kind"], [Movement(edge, to, tuple(places)) for edge, to, places in value["movements"]],
@@ -86,7 +88,8 @@ def timing_of(value: Json) -> Timing:
 
 
 def runs_of(signs: str, those: str) -> list[tuple[int, int]]:
-    """The (begin, seconds) of each run of some letters over a cycle, which may go on over its end."""
+    """The (begin, seconds) of each run of letters that are in `those`; signs: a letter for each second of a cycle. A
+    run may go on over the cycle's end."""
     count = len(signs)
     if all(sign in those for sign in signs):
         return [(0, count)] if count else []
@@ -97,8 +100,8 @@ def runs_of(signs: str, those: str) -> list[tuple[int, int]]:
 
 
 def intergreen(first: str, second: str) -> int | None:
-    """The least seconds from the end of a green of one movement to the next begin of another's; none where both have
-    green together, or one has none."""
+    """The least seconds from the end of any green of one movement to the next begin of the other's; first, second: a
+    letter for each second of the cycle. None where both have green together, or one has none."""
     count = len(first)
     if any(one in OPEN and other in OPEN for one, other in zip(first, second, strict=True)):
         return None
@@ -109,7 +112,7 @@ def intergreen(first: str, second: str) -> int | None:
 
 
 def together(movements: Iterable[tuple[str, str, int]]) -> list[Movement]:
-    """Movements of (edge, next edge, place in the state), each once."""
+    """The movements of (edge, next edge, place in the state): one for each pair of edges, with all its places."""
     found: dict[tuple[str, str], list[int]] = {}
     for edge, to, place in movements:
         found.setdefault((edge, to), []).append(place)

@@ -28,7 +28,7 @@ NAMED = 3  # edges, or lights
 
 @dataclass(slots=True)
 class Trips:
-    """A run's trips at its last clock. Seconds are from the wished departure."""
+    """The trips of a run at its last clock; seconds of each are from the departure that was wished for."""
 
     clock: int
     vehicles: int  # in the run file
@@ -37,14 +37,14 @@ class Trips:
     due: int  # those that would have arrived, were nobody in their way
     late: int  # those of them that have not
     long_due: int  # those that would have arrived for STILL seconds and have not
-    last: int  # arrival, or the start
+    last: int  # clock of the last arrival, or of the start where nobody arrived
 
     def gone(self) -> int | None:
-        """When all who wished to depart had arrived; none where some have not."""
+        """The clock at which all who wished to depart had arrived; none where some have not."""
         return None if self.to_date else self.last
 
     def told(self) -> str:
-        """Their means, and over whom."""
+        """How many vehicles there are and have arrived, and the mean trip, as the last line of a run says it."""
         if not self.durations:
             mean = "no trip"
         elif self.to_date:
@@ -56,8 +56,8 @@ class Trips:
 
 
 def trips_at(clock: int, start: int, rows: Sequence[tuple]) -> Trips:
-    """The trips at a clock, of rows of trips.csv: (id, depart, arrival or "", duration, free flow, ..); start: of the
-    run."""
+    """The trips of a run at a clock, from rows of trips.csv: (id, depart, arrival or "", duration, free flow, ..).
+    start: the clock at the run's begin."""
     arrived = [row[2] != "" for row in rows]
     open_ = [row for row, there in zip(rows, arrived, strict=True) if not there and row[1] < clock]
     ends = [row[1] + float(row[4]) for row in open_]
@@ -81,13 +81,13 @@ def free_arrivals(run: Run, mapping: Map) -> list[float]:
 
 
 def due_at(clock: int, run: Run, mapping: Map) -> int:
-    """How many vehicles of a run would have arrived at a clock, were nobody in their way."""
+    """How many vehicles of a run would have arrived by a clock, were nobody in their way."""
     return bisect_right(free_arrivals(run, mapping), clock)
 
 
 def of_missing(arrived: Mapping[str, float], due: float) -> list[str]:
-    """What speaks against means of several runs, by how many arrived: {what was run: vehicles}, of `due` that had the
-    time to. Who has not arrived counts until the end in such means."""
+    """What speaks against the means of several runs, because many vehicles that had the time to arrive have not, and
+    count until the end in such means. arrived: {name of the runs: vehicles}; due: how many had the time to arrive."""
     late = {name: due - count for name, count in arrived.items() if due - count > MOST_LATE * due}
     told = "vehicles that had the time to arrive have not"
     return [f"{name} {missing:,.0f} of {due:,.0f} {told}".strip() for name, missing in late.items()]
@@ -96,21 +96,23 @@ def of_missing(arrived: Mapping[str, float], due: float) -> list[str]:
 def doubts(
     trips: Trips, rescues: int, censuses: Sequence, run: Run, mapping: Map, listed: Sequence[str]
 ) -> list[str]:
-    """What speaks against a run, each in some words; nothing where it is to be trusted. rescues: of all vehicles;
-    censuses: of each minute; listed: lights that SUMO times by detectors and that go by their list."""
+    """What speaks against a run, each in some words; empty where it is to be trusted. rescues: of all vehicles
+    together; censuses: of each minute; listed: lights that SUMO times by detectors and that show their listed
+    seconds."""
     found = [*of_rescues(trips, rescues), *of_arrivals(trips), *of_entries(trips, censuses)]
     found += of_works(works_in(run, mapping), [(trips.clock, trips.gone())])
     return [*found, *of_lengths(trips.clock, run, mapping), *of_actuated(trips.clock, run, mapping, listed)]
 
 
 def of_rescues(trips: Trips, rescues: int) -> Iterator[str]:
-    """Where more than a hundredth of the vehicles was rescued."""
+    """A doubt where more than a hundredth of the vehicles, and more than one, was rescued; rescues: how many."""
     if rescues > max(1, MOST_RESCUES * trips.vehicles):
         yield f"{rescues:,} rescues of {trips.vehicles:,} vehicles"
 
 
 def of_arrivals(trips: Trips) -> Iterator[str]:
-    """Where the network is locked, or many that had the time to arrive have not."""
+    """A doubt where the network is locked (nobody has arrived for 600 s who should have), or more than a tenth of those
+    that had the time to arrive has not."""
     if trips.long_due and trips.clock - trips.last >= STILL:
         yield (
             f"the network is locked: nobody has arrived for {trips.clock - trips.last:,} s, "
@@ -121,15 +123,15 @@ def of_arrivals(trips: Trips) -> Iterator[str]:
 
 
 def of_entries(trips: Trips, censuses: Sequence) -> Iterator[str]:
-    """Where many vehicles wait to enter at the worst census."""
+    """A doubt where more than a twentieth of the vehicles waits to enter at the worst census."""
     worst = max(censuses, key=lambda census: census.waiting, default=None)
     if worst is not None and worst.waiting > MOST_WAITING * trips.vehicles:
         yield f"{worst.waiting:,} vehicles waited to enter at {worst.clock:,} s, and are in no queue or count"
 
 
 def of_waiting(waiting: Mapping[str, Sequence[tuple[int, int]]], vehicles: int) -> Iterator[str]:
-    """What speaks against means of several runs, by how many waited to enter at the worst minute of each: {what was
-    run: (vehicles, clock) of each}."""
+    """What speaks against the means of several runs, because at their worst minute more than a twentieth of the
+    vehicles waited to enter. waiting: {name of the runs: (vehicles that waited, clock) of each}."""
     for name, runs in waiting.items():
         count, clock = (fmean(column) for column in zip(*runs, strict=True))
         if count > MOST_WAITING * vehicles:
@@ -138,15 +140,15 @@ def of_waiting(waiting: Mapping[str, Sequence[tuple[int, int]]], vehicles: int) 
 
 
 def works_in(run: Run, mapping: Map) -> Iterator[tuple[str, int]]:
-    """The lanes of the works that a run was asked for, by SUMO's names, and the clock at which each begins."""
+    """For each line of a run that closes lanes for works: SUMO's id of the lane, and the clock at which it begins."""
     for clock, line in run.timed:
         if line.number == 0 and line.command["cmd"] == "close":
             yield mapping.lane_name(line.command["link"], line.command["lane"]), clock
 
 
 def of_works(works: Iterable[tuple[str, int]], runs: Sequence[tuple[int, int | None]]) -> Iterator[str]:
-    """Where works, each a lane and its first second, met nobody: they had not begun when runs without a last second
-    ended, or all had arrived. runs: of each the last clock, and when all had arrived, or none."""
+    """A doubt for works, (lane, first second), that met nobody: some runs had ended, or all their vehicles had arrived,
+    before. runs: of each the last clock, and the clock when all had arrived, or none."""
     for lane, first in works:
         begin = f"works on {lane} begin at {first:,} s, and"
         if early := sum(end <= first for end, _ in runs):
@@ -163,8 +165,8 @@ def plans_before(clock: int, run: Run) -> list[list[int]]:
 
 
 def of_actuated(clock: int, run: Run, mapping: Map, lights: Sequence[str]) -> Iterator[str]:
-    """Where many vehicles pass some lights, which SUMO times by detectors: here they show the seconds that their
-    program lists."""
+    """A doubt where more than a tenth of the vehicles pass `lights`, which SUMO times by detectors and which show their
+    listed seconds here."""
     ways = {(turn.link, turn.next): turn.light for turn in mapping.turns if turn.light and turn.light in lights}
     plans = plans_before(clock, run) if ways else []
     passed = [{ways[pair] for pair in pairwise(plan) if pair in ways} for plan in plans]
@@ -177,7 +179,8 @@ def of_actuated(clock: int, run: Run, mapping: Map, lights: Sequence[str]) -> It
 
 
 def of_lengths(clock: int, run: Run, mapping: Map) -> Iterator[str]:
-    """Where the routes are of another length than in SUMO, as edges are whole cells."""
+    """A doubt where the routes of those that departed are by more than a tenth longer or shorter than in SUMO, as edges
+    are whole cells."""
     here = [link.cells * link.cell_metres for link in mapping.links]
     there = [link.metres for link in mapping.links]
     plans = plans_before(clock, run)
@@ -192,12 +195,11 @@ def of_lengths(clock: int, run: Run, mapping: Map) -> Iterator[str]:
 
 
 def write_doubts(folder: str, found: Sequence[str]) -> None:
-    """Writes to a folder why a study or a search is not to be trusted, under the name that the setting of a run has for
-    it."""
+    """Writes to a folder why a study or a search is not to be trusted, in a setting.json as that of a run."""
     with whole_file(f"{folder}/{NAME}") as file:
         json.dump({"not_trusted": list(found)}, file, separators=(",", ":"))
 
 
 def verdict(found: Sequence[str]) -> str:
-    """The line that says that a run is not to be trusted."""
+    """The line that says that a run is not to be trusted, and why."""
     return f"not to be trusted: {'; '.join(found)}"

@@ -1,4 +1,5 @@
-"""Who gives way to whom where there is no light, as the map has it."""
+"""Who gives way to whom where there is no light, as the map has it: the turns, those that go first there, and the gaps
+that the others need."""
 from collections.abc import Iterable
 from dataclasses import astuple, dataclass, replace
 from typing import Any, Self
@@ -10,25 +11,26 @@ WIDER = 0.3  # seconds more for each further lane of a street that is crossed
 
 @dataclass(slots=True, frozen=True)
 class Gap:
-    """The seconds that have to be free before one who goes first."""
+    """The seconds that have to be free before one who goes first, by how many go first."""
 
-    seconds: float  # with few of these
-    less: float  # for each 1,000 of these an hour, of whom others count in part:
-    least: float
-    beside: float = 1.0  # those of further lanes of their street
-    others: float = 1.0  # those of other streets
+    seconds: float  # where few go first
+    less: float  # seconds less for each 1,000 vehicles an hour that go first, counted as below
+    least: float  # seconds at any flow
+    beside: float = 1.0  # weight, 0 to 1, of those on further lanes of the foe's street
+    others: float = 1.0  # weight, 0 to 1, of those on other streets
 
     def before(self, lane: float, street: float, every: float) -> float:
-        """The seconds, by the vehicles an hour of the foe's lane, of its whole street, and of all that go first."""
+        """The seconds that have to be free, by the vehicles an hour of the foe's lane, of all lanes of its street, and
+        of all that go first."""
         hourly = lane + self.beside * (street - lane) + self.others * (every - street)
         return max(self.least, self.seconds - self.less * hourly / 1000)
 
     def across(self, lanes: int) -> Self:
-        """The gap in a street of so many lanes."""
+        """The gap for one who crosses a street of so many lanes, one at least."""
         return self.longer(WIDER * (lanes - 1))
 
     def longer(self, more: float) -> Self:
-        """The gap with so many seconds more, at any flow."""
+        """The gap with so many seconds more, whatever the flow."""
         return replace(self, seconds=self.seconds + more, least=self.least + more)
 
 
@@ -47,22 +49,23 @@ class Pace:
 
 @dataclass(slots=True, frozen=True)
 class Foe:
-    """A way that goes first: vehicles from a lane to a link."""
+    """A way that goes first, from a lane to a link by numbers of the run, and the gap that is needed before it."""
 
     link: int
     lane: int
     next: int
     gap: Gap
     slow: bool  # whether those that use one gap follow each other more slowly than from a queue
-    street: int = 0  # of all links of one edge
+    street: int = 0  # a number that all links of one edge have in common
 
     def written(self) -> Written:
+        """As it stands in the map."""
         return [self.link, self.lane, self.next, list(astuple(self.gap)), self.slow, self.street]
 
 
 @dataclass(slots=True, frozen=True)
 class Waiting:
-    """Turns that show green when nobody comes who goes first."""
+    """Turns of a node that have to give way, and the ways that go first there."""
 
     node: int
     turns: tuple[TurnKey, ...]
@@ -76,12 +79,12 @@ class Waiting:
 
     @property
     def is_slow(self) -> bool:
-        """Whether it counts when they pass themselves, as they follow each other slowly."""
+        """Whether it counts that those who give way follow each other more slowly than from a queue."""
         return self.pace is not None or any(foe.slow for foe in self.foes)
 
 
 def waiting_of(value: Iterable[Written]) -> list[Waiting]:
-    """Those who give way, of what `Waiting.written` gave for each."""
+    """Those who give way, from what `Waiting.written` gave for each."""
     return [
         Waiting(
             node,

@@ -40,7 +40,8 @@ from streetsim.works.watched import doubts_of
 
 
 def first_poll(every: int | None, start: int) -> int:
-    """The clock at which lanes are first polled that are polled each so many seconds; the start where none are."""
+    """The clock at which lanes are polled first: the first multiple of `every` seconds after the start; the start where
+    they are not polled (0 or none)."""
     return (start // every + 1) * every if every else start
 
 
@@ -58,7 +59,7 @@ class Making:
     again: Json = field(default_factory=dict)  # by what it is made again, as kept.by_which has it
 
     def serving(self, run: Run) -> AbstractContextManager[Client]:
-        """The program, started for a run; what it refuses is a Fault."""
+        """The program, started for a run and ended with the block; what it refuses is a Fault."""
         return serving(self.program, run.path, self.workers)
 
 
@@ -68,17 +69,18 @@ class Figures:
 
     vehicles: int
     arrived: int
-    mean_trip_s: float | None
+    mean_trip_s: float | None  # none where nobody arrived
     rescues: int
     yielding: Yielding
     notes: list[str]  # what the tables do not have
-    told: str  # in the line of its end
+    told: str  # what its last line says
     doubts: list[str]  # why it is not to be trusted
     apart: str = ""  # of a run with stops or priority, the trips of each class of vehicles
 
 
 def one_run(making: Making, run: Run, mapping: Map, settings: Settings, folder: str, tell: Tell) -> Figures:
-    """One run into a folder that is there; gives its figures. `tell` gets the clock and the last census."""
+    """Makes one run, writes all that was asked for into a folder that is there, and gives its figures. tell: gets the
+    clock and the last census while it goes."""
     given, start = run, partial(making.serving, run)
     run, yielding = giving_way(run, mapping, settings, making.rounds, start, tell)
     with whole_file(f"{folder}/lanes.jsonl.gz") as lanes_file, start() as sim:
@@ -118,7 +120,8 @@ def one_run(making: Making, run: Run, mapping: Map, settings: Settings, folder: 
 
 
 def by_class(trips: Sequence[Entry], mapping: Map) -> str:
-    """The mean trips of each class of vehicles, of rows of trips.csv, where there are several."""
+    """The mean trip of each vehicle class, as one line; empty where all vehicles are of one. trips: rows of trips.csv,
+    in the order of the vehicles' numbers."""
     found: defaultdict[str, list[int | None]] = defaultdict(list)
     for vclass, (_, _, arrival, duration, *_) in zip(classes_of(mapping.kinds, len(trips)), trips, strict=True):
         found[vclass].append(duration if arrival != "" else None)
@@ -131,14 +134,15 @@ def by_class(trips: Sequence[Entry], mapping: Map) -> str:
 
 
 def lit_lines(sent: Iterable[tuple[int, Line]], mapping: Map) -> Iterator[tuple[int, Line]]:
-    """Of the lines that a run sent of its own those of its lights, (clock, line)."""
+    """Of the lines that a run sent, (clock, line), the signal plans that the tools made for nodes with a light."""
     lit = {node for _, node in mapping.signals}
     own = ((clock, line) for clock, line in sent if line.number < 0 and line.command["cmd"] == "signal")
     return ((clock, line) for clock, line in own if line.command["node"] in lit)
 
 
 def write_tables(made: Recorded, trips: Sequence[Entry]) -> None:
-    """The tables that each run has."""
+    """Writes the tables of a run to its folder; those of phases, stops and works where there were any. trips: rows of
+    trips.csv."""
     folder, records, mapping = made.folder, made.records, made.mapping
     names = Names(mapping)
     write_named(f"{folder}/counts.csv", tables.COUNTS, rows.counts(records, mapping), names)
@@ -161,7 +165,8 @@ def write_tables(made: Recorded, trips: Sequence[Entry]) -> None:
 
 
 def write_sumo_outputs(made: Recorded, kinds: Iterable[str], trips: Iterable[Entry]) -> None:
-    """Writes SUMO's output files of some kinds, of looks at all lanes in every second; trips: rows of trips.csv."""
+    """Writes SUMO's output files of some kinds to a new folder sumo, by a second run that looks at all lanes in every
+    second; trips: rows of trips.csv."""
     os.mkdir(f"{made.folder}/sumo")
     paths = {kind: f"{made.folder}/sumo/{kind}.xml" for kind in kinds}
     start, dawdle = made.run.start(), made.run.load.command["dawdle"] / 1000
@@ -172,7 +177,8 @@ def write_sumo_outputs(made: Recorded, kinds: Iterable[str], trips: Iterable[Ent
 
 
 def count_further(made: Recorded) -> None:
-    """Counts the lanes that the run has no detectors for, by runs that repeat it; adds to its records."""
+    """Counts the lanes that were left over, as a run has too few detectors for all, by further runs of the same
+    commands and seed; adds to the records."""
     first, settings = made.records, made.settings
 
     def repeat(lanes: Sequence[Place], _tell: object) -> Records:
@@ -187,7 +193,7 @@ def count_further(made: Recorded) -> None:
 
 
 def notes(made: Recorded) -> Iterator[str]:
-    """What the tables do not have, a text each."""
+    """What the tables do not have, a sentence each, for the terminal."""
     records, every = made.records, made.records.asking.every
     if records.uncounted:
         yield (
@@ -201,7 +207,7 @@ def notes(made: Recorded) -> Iterator[str]:
 
 
 def stop_notes(stops: Sequence[Done], mapping: Map) -> Iterator[str]:
-    """Which stops were made on the lane beside, or not at all."""
+    """How many stops were made on the lane beside, or passed without one, and which; nothing where none were."""
     for state, told in ((OTHER_LANE, "were made on the lane beside"), (MISSED, "were passed: no lane had room")):
         names = [f"{mapping.cars[one.visit.vehicle]} at {one.visit.stop}" for one in stops if one.state == state]
         if names:
@@ -211,9 +217,9 @@ def stop_notes(stops: Sequence[Done], mapping: Map) -> Iterator[str]:
 def write_setting(
     made: Recorded, given: Run, yielding: Yielding, doubts: Sequence[str], more: Json
 ) -> None:
-    """Writes what a run was made of. given: the run without the signals by which its vehicles give way; doubts: why it
-    is not to be trusted, none where there is no reason; more: the SHA-256 of the program, and by what it is made
-    again."""
+    """Writes setting.json: what a run was made of. given: the run without the signals by which its vehicles give way;
+    doubts: why it is not to be trusted, empty where it is; more: further entries of how it is made again, as the
+    SHA-256 of the program."""
     command, settings = given.load.command, made.settings
     of = {"run": os.path.basename(given.path), "seed": command.get("seed", 0), "start": given.start()}
     of.update(until=settings.until, rescue=settings.rescue, vehicles=len(given.enters), **more)

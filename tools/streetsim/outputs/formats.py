@@ -19,6 +19,7 @@ class XmlFile:
     root, schema = "", ""
 
     def __init__(self, file: TextFile, places: Places) -> None:
+        """Writes the begin of the root element; places: where cells lie in metres."""
         self.file, self.places = file, places
         self.file.write(
             '<?xml version="1.0" encoding="UTF-8"?>\n\n'
@@ -27,7 +28,7 @@ class XmlFile:
         )
 
     def step(self, second: Second) -> None:
-        """Takes a second; all seconds of a run are given one after another."""
+        """Takes the next second of a run; all are given, rising, without one left out."""
 
     def end(self) -> None:
         """Writes the end of the root; the file is closed by who opened it."""
@@ -35,14 +36,15 @@ class XmlFile:
 
 
 def attributes(**values: object) -> str:
-    """Attributes of an element: numbers of seconds, metres and so on with two places, counts as they are."""
+    """The attributes of an element as text, by name: float numbers (seconds, metres) with two decimals, others as they
+    are."""
     texts = (f"{value:.2f}" if isinstance(value, float) else str(value) for value in values.values())
     return " ".join(f"{name}={quoteattr(text)}" for name, text in zip(values, texts, strict=True))
 
 
 class Tripinfo(XmlFile):
-    """A row for each vehicle that arrived. It departs in the second in which it is first seen;
-    `departDelay` is since the wished departure, so that both together are the duration of trips.csv."""
+    """tripinfo: a row for each vehicle that arrived. It departs in the second in which it is first seen; `departDelay`
+    is since the wished departure, so that both together are the duration of trips.csv."""
 
     root, schema = "tripinfos", "tripinfo_file"
 
@@ -51,7 +53,7 @@ class Tripinfo(XmlFile):
             self.file.write(f"    <tripinfo {self.row(trip, second.clock)}/>\n")
 
     def row(self, trip: Trip, arrival: int) -> str:
-        """The attributes of a trip that arrived at a clock."""
+        """The attributes of a trip that arrived at a clock, in SUMO's order."""
         names, duration = self.places.names, arrival - trip.depart
         return attributes(
             id=trip.name,
@@ -79,11 +81,13 @@ class Tripinfo(XmlFile):
 
 
 class Summary(XmlFile):
-    """A row for each second."""
+    """summary: a row for each second, with how many vehicles are where."""
 
     root, schema = "summary", "summary_file"
 
     def __init__(self, file: TextFile, places: Places, wished: Sequence[int], rescued: Sequence[int] = ()) -> None:
+        """wished: the seconds, sorted, at which vehicles would depart, as far as they are known; rescued: the clocks,
+        rising, of rescues, as looks at the lanes do not show those out of a junction."""
         super().__init__(file, places)
         self.wished = wished  # sorted seconds at which vehicles would depart, as far as they are known
         self.rescued = rescued  # the same of rescues: looks do not show those out of a junction
@@ -114,7 +118,7 @@ class Summary(XmlFile):
         self.file.write(f"    <step {row}/>\n")
 
     def count(self, second: Second) -> None:
-        """Takes who departed, arrived and was taken out."""
+        """Adds those who departed, arrived and were taken out in a second."""
         self.inserted += len(second.departed)
         self.delays += sum(second.trips[car].depart - second.trips[car].wished for car in second.departed)
         self.arrived += len(second.arrived)
@@ -123,7 +127,8 @@ class Summary(XmlFile):
 
 
 class Fcd(XmlFile):
-    """The place and the speed of each vehicle in each second. Who is in a junction stands at the end of its lane."""
+    """fcd: the place and the speed of each vehicle in each second. Who is in a junction stands at the end of its
+    lane."""
 
     root, schema = "fcd-export", "fcd_file"
 
@@ -142,11 +147,11 @@ class Fcd(XmlFile):
         self.file.write("".join([*rows, "    </timestep>\n"]))
 
     def named(self, trip: Trip) -> tuple[str, str]:
-        """A trip's name and type, as attributes have them."""
+        """A trip's name and vehicle type, quoted as attributes have them."""
         return quoteattr(trip.name), quoteattr(trip.kind)
 
     def text(self, at: At) -> tuple[str, str]:
-        """The attributes of a place before the vehicle's type and after it."""
+        """The attributes of a place, those that stand before the vehicle's type and those after it."""
         x, y, angle = self.places.point(at)
         lane = self.places.names[at.link, at.lane]
         after = attributes(speed=self.places.speed(at), pos=self.places.metres(at), lane=lane, slope=0.0)
@@ -155,8 +160,8 @@ class Fcd(XmlFile):
 
 
 class Queue(XmlFile):
-    """For each second and lane on which vehicles stand: the longest time of standing, and metres from the stop line to
-    the rear of the last of them."""
+    """queue: for each second and lane on which vehicles stand, the longest time of standing, and metres from the stop
+    line to the rear of the last of them."""
 
     root, schema = "queue-export", "queue_file"
 
@@ -190,5 +195,5 @@ class Queue(XmlFile):
 
 
 def vehicle_metres(at: At) -> float:
-    """Metres of a vehicle without its gap."""
+    """Metres of a vehicle without the gap ahead of it."""
     return at.size * limits.CELL_METRES - limits.GAP_METRES

@@ -29,18 +29,19 @@ class EdgeSums:
 
 
 class Edgedata(XmlFile):
-    """A row for each interval and edge. Who is in a junction is on no edge, as in SUMO."""
+    """edgedata: a row for each interval and edge. Who is in a junction is on no edge, as in SUMO."""
 
     root, schema = "meandata", "meandata_file"
 
     def __init__(self, file: TextFile, places: Places, period: int, start: int = 0) -> None:
+        """period: seconds of an interval; start: the clock at which the first one begins."""
         super().__init__(file, places)
         self.period, self.begin, self.clock = period, start, start
         self.links = places.mapping.links
         self.sums: dict[str, EdgeSums] = {}  # by edge
 
     def of(self, link: int) -> EdgeSums:
-        """The sums of a link's edge in this interval."""
+        """The sums of a link's edge in the interval under way."""
         return self.sums.setdefault(self.links[link].edge, EdgeSums())
 
     def step(self, second: Second) -> None:
@@ -62,7 +63,7 @@ class Edgedata(XmlFile):
             self.of(trip.last.link).arrived += 1
 
     def drive(self, at: At) -> None:
-        """Adds a vehicle on an edge for a second."""
+        """Adds one vehicle in the cells of an edge for one second."""
         sums, link = self.of(at.link), self.links[at.link]
         sums.seconds += 1
         sums.metres += self.places.speed(at)
@@ -71,7 +72,7 @@ class Edgedata(XmlFile):
         sums.covered += vehicle_metres(at)
 
     def write(self) -> None:
-        """Writes the interval that has ended."""
+        """Writes the interval that has ended, all edges of the map, and begins the next."""
         end = min(self.clock, self.begin + self.period)
         edges, seconds = self.places.mapping.links_of, end - self.begin
         rows = [self.row(edge, self.sums.get(edge, EdgeSums()), seconds) for edge in edges]
@@ -81,7 +82,8 @@ class Edgedata(XmlFile):
         self.begin, self.sums = end, {}
 
     def row(self, edge: str, sums: EdgeSums, seconds: int) -> str:
-        """The attributes of an edge over an interval of so many seconds."""
+        """The attributes of an edge over an interval of so many seconds; speeds and densities are left out where nobody
+        was on it."""
         links = [self.links[link] for link in self.places.mapping.links_of[edge]]
         lanes, metres = sum(len(link.lanes) for link in links), links[0].metres
         seen = {}
@@ -108,26 +110,28 @@ class Edgedata(XmlFile):
 
 
 class Detectors(XmlFile):
-    """A row for each interval of each detector of a kind."""
+    """A row for each interval of each detector of one kind; the kinds below say what is summed."""
 
     root, kind = "detector", ""
 
     def __init__(self, file: TextFile, places: Places, start: int = 0) -> None:
+        """start: the clock at which the first interval of each detector begins."""
         super().__init__(file, places)
         self.detectors = [one for one in places.mapping.detectors if one.kind == self.kind]
         self.begins, self.clock = {one.name: start for one in self.detectors}, start
         self.sums: dict[str, Sums] = {one.name: self.empty(one, None) for one in self.detectors}
 
     def empty(self, one: Detector, before: Sums) -> Sums:
-        """The sums with which an interval begins; before: those of the one before it, none where it is the first."""
+        """The sums with which an interval begins; before: those of the interval that has ended, none where this is the
+        first."""
         raise NotImplementedError
 
     def note(self, one: Detector, sums: Sums, second: Second, here: Sequence[tuple[int, At]]) -> None:
-        """Adds a second, in which these vehicles are on the detector's lane."""
+        """Adds a second; here: (car, place) of the vehicles on the detector's lane in it."""
         raise NotImplementedError
 
     def row(self, one: Detector, sums: Sums, seconds: int) -> str:
-        """The attributes of an interval that lasted so long."""
+        """The attributes of an interval of so many seconds."""
         raise NotImplementedError
 
     def step(self, second: Second) -> None:
@@ -165,8 +169,8 @@ class LoopSums:
 
 
 class Loops(Detectors):
-    """Induction loops (e1): who drove over a cell in a second, as detectors.csv counts them.
-    Who leaves the edge in that second has the speed of the second before."""
+    """e1, induction loops: who drove over a cell in a second, as detectors.csv counts them. Who leaves the edge in that
+    second has the speed of the second before."""
 
     schema, kind = "det_e1_file", E1
 
@@ -180,7 +184,8 @@ class Loops(Detectors):
                 self.note_pass(one, sums, last, second.here.get(car))
 
     def note_pass(self, one: Detector, sums: LoopSums, last: At, now: At | None) -> None:
-        """Notes a vehicle that stood on the loop or before it if it is behind it; who left the edge keeps its lane."""
+        """Notes a vehicle that was on the loop or before it in the second before (last), if it is behind it now; now:
+        none where it is gone. Who left the edge is taken to have kept its lane."""
         gone = now is None or now.link != one.link or now.cell is None
         lane = now.lane if now is not None and now.link == one.link else last.lane
         if lane == one.lane and (gone or (now is not None and now.front > one.first)):
@@ -223,7 +228,7 @@ class AreaSums:
 
 
 class Areas(Detectors):
-    """Lane areas (e2), of vehicles whose front is in them. A jam is of vehicles that stand without a gap."""
+    """e2, lane areas: the vehicles whose front is in them. A jam is of vehicles that stand without a gap."""
 
     schema, kind = "det_e2_file", E2
 
@@ -249,7 +254,7 @@ class Areas(Detectors):
         self.note_halts(sums, {car for car, at in inside.items() if not at.speed})
 
     def note_halts(self, sums: AreaSums, standing: set[int]) -> None:
-        """Notes which cars stand in an area in a second."""
+        """Notes the halts of an area in a second; standing: the cars that stand in it."""
         for car in sums.halts.keys() - standing:
             sums.ended.append((sums.halts.pop(car), sums.interval_halts.pop(car)))
         sums.started += len(standing - sums.halts.keys())

@@ -8,12 +8,12 @@ from streetsim.model.sources import sum_of_lines
 
 
 def write_kept(folder: str, run: Run) -> None:
-    """Writes the lines of a run, as works have changed them."""
+    """Writes the lines of a run, with those of its works, to its folder."""
     with whole_file(f"{folder}/{KEPT}") as file:
         file.writelines(line + "\n" for line in texts_of(run))
 
 
 def by_which(run: Run, words: Sequence[str], again: Sequence[str]) -> Json:
-    """What a run's setting says of how it is made again: the words that were given, those of them that the kept lines
-    need still, and the sum of these lines."""
+    """What a run's setting says of how it is made again: `words`, the command line that was given; `again`, those of
+    its words that are needed beside the kept lines; and the SHA-256 of these lines."""
     return {"words": list(words), "again": list(again), "lines": sum_of_lines(texts_of(run))}

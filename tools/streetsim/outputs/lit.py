@@ -10,8 +10,8 @@ from streetsim.sumo.timings import timings_of_files
 
 
 def write_lights(folder: str, mapping: Map, map_path: FilePath) -> None:
-    """Writes the programs of the lights, of the network and the additional files that were imported; nothing where
-    these are gone or changed, or there is no light."""
+    """Writes lights.json, the programs of the lights by the files that were imported. Writes nothing, and says nothing,
+    where these are gone, changed or cannot be read, or there is no light."""
     if not mapping.sources or not mapping.signals:
         return
     beside = os.path.dirname(os.path.realpath(map_path))

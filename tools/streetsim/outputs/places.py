@@ -10,7 +10,7 @@ LANE_WIDTH = 3.2  # metres, SUMO's default
 
 
 class Places:
-    """The lanes of a map in metres."""
+    """The lanes of a map in metres: where vehicles are and how fast."""
 
     def __init__(self, mapping: Map) -> None:
         self.mapping = mapping
@@ -19,12 +19,13 @@ class Places:
         self.lines = [Line(link.shape) for link in mapping.links]
 
     def metres(self, at: At) -> float:
-        """Metres from the lane's begin to the front of a vehicle; in the junction the lane's length."""
+        """Metres from the lane's begin to the front of a vehicle; of one in the junction behind it, the lane's
+        length."""
         link = self.mapping.links[at.link]
         return link.metres if at.cell is None else (at.cell + 1) * self.cell_metres[at.link]
 
     def speed(self, at: At) -> float:
-        """Metres a second, of a vehicle's cells a second."""
+        """Metres a second of a vehicle, by the length of its link's cells."""
         return at.speed * self.cell_metres[at.link]
 
     def point(self, at: At) -> tuple[float, float, float]:
@@ -35,7 +36,7 @@ class Places:
 
 
 class Line:
-    """A line through points."""
+    """A line through two or more points (x, y), in metres."""
 
     def __init__(self, points: Shape) -> None:
         self.points = points

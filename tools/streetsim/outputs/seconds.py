@@ -20,7 +20,7 @@ class At:
 
     @property
     def front(self) -> int:
-        """The cell of its front, of one that is in a cell."""
+        """The cell of its front; only of one that is in a cell (AssertionError in a junction)."""
         assert self.cell is not None
         return self.cell
 
@@ -31,14 +31,14 @@ class Trip:
 
     name: str
     wished: int  # second at which it would depart
-    depart: int  # the step in which it departed
+    depart: int  # the second in which it departed
     first: At
     last: At
     metres: float = 0.0  # of the links that it has been on
     free: float = 0.0  # seconds of these where nobody is in the way, without the last junction
     waiting: int = 0  # seconds of standing
     stops: int = 0
-    standing: int = 0  # seconds since when it stands
+    standing: int = 0  # seconds for which it has stood by now
     crossing: float = 0.0  # seconds of the junction behind its link
     kind: str = "DEFAULT_VEHTYPE"
 
@@ -64,7 +64,7 @@ class Second:
 
 
 class Follower:
-    """Follows the vehicles of a run from second to second."""
+    """Follows the vehicles of a run from second to second, and says what changed in each."""
 
     def __init__(self, mapping: Map, dawdle: float) -> None:
         """dawdle: the chance to go on by a cell less, 0 to 1."""
@@ -75,12 +75,13 @@ class Follower:
         self.entered_at: dict[int, int] = {}  # car: the clock since which it is in a junction
 
     def expect(self, car: int, name: str, wished: int, kind: str = "DEFAULT_VEHTYPE") -> None:
-        """Tells of a vehicle that would depart at a second, with its name and type; before it is seen."""
+        """Tells of a vehicle before it is seen: the second at which it would depart, its name and its type. One that
+        was not told of is called # and its number."""
         self.expected[car] = name, wished, kind
 
     def see(self, clock: int, lanes: Iterable[Sequence[Any]], arrived: Iterable[int]) -> Second:
-        """The second that ends at a clock. lanes: [link, lane, cells, cars in the buffer, ..] as a folder's polls have
-        them; arrived: the cars that arrived in it."""
+        """The second that ends at a clock; called for every second, rising. lanes: [link, lane, cells, cars in the
+        buffer, ..] as a folder's polls have them, empty lanes left out; arrived: the cars that arrived in it."""
         second = Second(clock, self.trips, before=self.before)
         for link, lane, cells, buffer, *_ in lanes:
             for entry in cells:
@@ -108,7 +109,7 @@ class Follower:
         return At(link, lane, None, 1.0 if driving else 0.0, last.size if last else 1)
 
     def follow(self, second: Second, car: int, at: At) -> None:
-        """Notes what a vehicle did since the second before."""
+        """Notes in `second` what a vehicle did since the second before; at: where it is now."""
         last, trip = self.before.get(car), self.trips.get(car)
         if trip is None:
             name, wished, kind = self.expected.get(car, (f"#{car}", second.clock - 1, "DEFAULT_VEHTYPE"))
@@ -126,15 +127,15 @@ class Follower:
         trip.last = at
 
     def add_link(self, trip: Trip, link: int) -> None:
-        """Adds a link that a vehicle comes to. SUMO counts as lost what a vehicle loses by gaining speed, so it comes
-        at the link's own."""
+        """Adds to a trip the metres and free seconds of a link that it comes to. SUMO counts as lost what a vehicle
+        loses by gaining speed, so it comes at the link's own limit."""
         trip.free += trip.crossing + self.alone.on_link(link, link)
         trip.crossing = self.alone.across(link)
         trip.metres += self.mapping.links[link].metres
 
 
 def note_standing(trip: Trip, at: At) -> None:
-    """Counts a trip's seconds of standing and stops, by where it is in this second."""
+    """Counts a trip's seconds of standing and its halts, by where it is in this second."""
     if at.speed:
         trip.standing = 0
         return

@@ -16,11 +16,12 @@ from streetsim.outputs.seconds import Follower
 
 
 class Outputs(contextlib.ExitStack):
-    """Open output files, {kind: path}, which take their names when the block ends without a fault.
+    """Open output files, {kind: path}, which take their names when the block ends without an exception.
 
     Tell vehicles by `expect`, then each second of the run by `step`. Edges are summed over `period` seconds, detectors
     over their own; `dawdle` is the run's chance of slowing down (0 to 1), by which the free driving time is reckoned;
-    `rescued` are the clocks at which vehicles were rescued, rising, as far as they are known.
+    `start` is the clock at the run's begin; `rescued` are the clocks at which vehicles were rescued, rising, as far as
+    they are known.
     """
 
     def __init__(
@@ -65,7 +66,8 @@ class Outputs(contextlib.ExitStack):
             writer.step(second)
 
     def write(self, trips: Sequence[Mapping[str, str | int]], frames: Iterable[Frame]) -> None:
-        """Writes a whole run, of the rows of trips.csv and the frames of every second; Fault where one lacks."""
+        """Writes a whole run, of the rows of trips.csv in the order of the vehicles' numbers, and what stood on the
+        lanes in every second; Fault where a second is missing."""
         arrivals = defaultdict(list)
         for car, trip in enumerate(trips):
             self.expect(car, str(trip["id"]), int(trip["depart"]))
@@ -80,8 +82,8 @@ class Outputs(contextlib.ExitStack):
 
 
 def write_from_folder(folder: Folder, kinds: Iterable[str], out: str) -> None:
-    """Writes outputs of a folder that streetsim-run wrote with --every 1 and all edges, into another folder; Fault
-    where the folder has no polls of every second."""
+    """Writes output files of some kinds, KIND.xml, to the folder `out`, of a folder that streetsim-run wrote with
+    --every 1 and all edges; Fault where that has no polls of every second."""
     paths = {kind: f"{out}/{kind}.xml" for kind in kinds}
     polls = folder.polls()
     first = next(polls, None)

@@ -12,7 +12,7 @@ EdgeKey = tuple[float, float, str]  # begin and end of a period, and an edge
 
 
 def read_tripinfo(path: str) -> dict[str, Trip]:
-    """SUMO's trips by vehicle, as (wished departure, arrival); those that arrived."""
+    """SUMO's trips by vehicle, as (wished departure, arrival) in seconds; those that did not arrive are left out."""
     trips = {}
     for element in elements(path, ["tripinfos"]):
         if element.tag == "tripinfo" and (arrival := attribute(path, element, "arrival", seconds)) >= 0:
@@ -22,8 +22,8 @@ def read_tripinfo(path: str) -> dict[str, Trip]:
 
 
 def read_edges(path: str) -> dict[EdgeKey, tuple[int, float]]:
-    """SUMO's edges, {(begin, end, edge): (vehicles, seconds)}: those that left the edge or arrived on it,
-    and the seconds that all vehicles were on it."""
+    """SUMO's edgeData, {(begin, end, edge): (vehicles, seconds)}: the vehicles that left the edge or arrived on it, and
+    the seconds that all vehicles together were on it."""
     edges = {}
     for interval in elements(path, ["meandata"]):
         period = attribute(path, interval, "begin", seconds), attribute(path, interval, "end", seconds)
@@ -34,18 +34,18 @@ def read_edges(path: str) -> dict[EdgeKey, tuple[int, float]]:
 
 
 def read_edgedata(path: str) -> dict[EdgeKey, int]:
-    """SUMO's edges, {(begin, end, edge): vehicles}: those that left the edge or arrived on it."""
+    """SUMO's edgeData, {(begin, end, edge): vehicles that left the edge or arrived on it}."""
     return {key: vehicles for key, (vehicles, _) in read_edges(path).items()}
 
 
 def trips_of(folder: Folder) -> dict[str, Trip]:
-    """The run's trips by vehicle, as SUMO's: (wished departure, arrival), of those that arrived."""
+    """A run's trips by vehicle in the form of `read_tripinfo`; those that did not arrive are left out."""
     return {row["id"]: (float(row["depart"]), float(row["arrival"])) for row in folder.trips() if row["arrival"]}
 
 
 def edges_of(folder: Folder) -> dict[EdgeKey, tuple[int, float | None]]:
-    """The run's edges, as SUMO's: those of which all lanes have counts, in whole periods;
-    no seconds where there are none."""
+    """A run's edges in the form of `read_edges`: those of which all lanes have counts, in whole periods. The seconds
+    are none where there were no polls."""
     edges = {}
     for row in folder.edges():
         if int(row["end"]) - int(row["begin"]) == folder.period:
@@ -56,17 +56,17 @@ def edges_of(folder: Folder) -> dict[EdgeKey, tuple[int, float | None]]:
 
 
 def counts_of(folder: Folder) -> dict[EdgeKey, int]:
-    """The run's edges, {(begin, end, edge): vehicles that left}, as SUMO's."""
+    """A run's edges in the form of `read_edgedata`: {(begin, end, edge): vehicles that left the edge}."""
     return {key: vehicles for key, (vehicles, _) in edges_of(folder).items()}
 
 
 def geh(here: float, there: float) -> float:
-    """The GEH of two hourly volumes: below 5 is the usual mark of a good fit."""
+    """The GEH of two volumes, vehicles an hour: below 5 is the usual mark of a good fit. 0 where both are 0."""
     return (2 * (here - there) ** 2 / (here + there)) ** 0.5 if here + there else 0.0
 
 
 def correlation(first: Sequence[float], second: Sequence[float]) -> float | None:
-    """Pearson's r of two rows of equal length; none where one of them does not vary."""
+    """Pearson's r of two lists of equal length, one value at least; none where one of them does not vary."""
     means = fmean(first), fmean(second)
     spread = [sum((value - mean) ** 2 for value in values) for values, mean in zip((first, second), means, strict=True)]
     if not all(spread):
@@ -78,7 +78,8 @@ def correlation(first: Sequence[float], second: Sequence[float]) -> float | None
 
 
 def greatest_gap(here: Iterable[float], there: Iterable[float], vehicles: int) -> float:
-    """The greatest gap of two arrival curves, given as arrival times, as a share of so many vehicles."""
+    """The greatest distance between two curves of arrivals, given as clocks in any order, as a share (0 to 1) of so
+    many vehicles."""
     here, there = sorted(here), sorted(there)
     return max(
         (abs(bisect_right(here, time) - bisect_right(there, time)) for time in {*here, *there}), default=0
@@ -86,7 +87,8 @@ def greatest_gap(here: Iterable[float], there: Iterable[float], vehicles: int) -
 
 
 def compare_trips(here: Mapping[str, Trip], there: Mapping[str, Trip], names: Sequence[str]) -> Iterator[str]:
-    """Lines on the trips of both; names: the vehicles of the run. Others, which the import skipped, are left out."""
+    """Lines on how close trips are; here: of the run, there: of SUMO, names: all vehicles of the run. SUMO's vehicles
+    that are not among these are counted in a line and left out of the others."""
     known, vehicles = set(names), len(names)
     skipped = [name for name in there if name not in known]
     there = {name: trip for name, trip in there.items() if name in known}
@@ -113,8 +115,9 @@ def compare_edges(
     period: int,
     network: int,
 ) -> Iterator[str]:
-    """Lines on the edges and periods that both have; an edge that SUMO does not list in a period had nobody.
-    network: how many edges the run's network has."""
+    """Lines on how close counts and times on edges are, for the edges and periods that both have; here: of the run,
+    there: of SUMO, whose edgeData leaves out an edge with nobody on it. period: seconds; network: how many edges the
+    run's network has."""
     periods = {key[:2] for key in here} & {key[:2] for key in there}
     edges = {key[2] for key in there} & {key[2] for key in here}
     if not periods or not edges:

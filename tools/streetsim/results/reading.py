@@ -23,11 +23,12 @@ MEASURES = (
 
 @dataclass(slots=True)
 class Row:
-    """A movement, approach or junction in an interval: means over seeds, and each seed's values."""
+    """A movement, approach or junction in an interval of the junction tables: means over seeds, and each seed's
+    values."""
 
     key: tuple[str, ...]
     control: str
-    movement: str  # L, T, R, U of a movement
+    movement: str  # L, T, R or U; empty of an approach or a junction
     values: dict[str, float]  # measure: mean over the seeds that have it
     by_seed: dict[int, dict[str, float]]  # seed: {measure: value}
 
@@ -63,7 +64,7 @@ class Runs:
         return Names(self.first.mapping)
 
     def mean_trips(self) -> dict[int, float]:
-        """By seed the mean trip of those who arrived, seconds; without seeds in which nobody did."""
+        """By seed the mean trip in seconds of those who arrived; seeds in which nobody did are left out."""
         found = {}
         for seed, folder in self.folders.items():
             durations = [float(row["duration"]) for row in folder.trips() if row["duration"]]
@@ -72,12 +73,12 @@ class Runs:
         return found
 
     def intervals(self) -> list[tuple[int, int]]:
-        """The (begin, end) of the junction tables, in seconds, rising; none where they were not read."""
+        """The (begin, end) of the junction tables, in seconds, rising; empty where they were not read."""
         return sorted({(begin, end) for _, begin, end in self.rows})
 
     def busiest(self) -> tuple[int, int]:
-        """The interval in which most vehicles an hour crossed junctions, the first of equal ones; junction tables are
-        needed."""
+        """The interval in which most vehicles an hour crossed junctions, the first of equal ones; ValueError where no
+        junction tables were read."""
         volumes: dict[tuple[int, int], float] = {}
         for (table, begin, end), rows in self.rows.items():
             if table == "junctions":
@@ -86,8 +87,8 @@ class Runs:
 
 
 def read_folders(path: str) -> Runs:
-    """The runs of a folder that streetsim-run wrote, or of its seeds, without their junction tables; Fault where the
-    folder mixes two runs."""
+    """The runs of a folder that streetsim-run wrote, one or one for each seed, without their junction tables; Fault
+    where it is none, or has what another run left there."""
     if not os.path.isdir(path):
         raise Fault(f"{path}: no folder that streetsim-run wrote")
     seeds = seeds_in(path)
@@ -101,7 +102,8 @@ def read_folders(path: str) -> Runs:
 
 
 def refuse_old(path: str, seeds: Collection[int]) -> None:
-    """Refuses a folder with what another run left there: it would be in the means."""
+    """Fault where a folder of several seeds also has what another run left there, which would be in the means; seeds:
+    those that have folders."""
     advice = "remove what is old, or give each run a folder of its own"
     if os.path.exists(f"{path}/{NAME}"):
         raise Fault(f"{path}: a run without --seeds is there beside seeds of another one: {advice}")
@@ -122,13 +124,15 @@ def read_runs(path: str) -> Runs:
 
 
 def read_any(path: str) -> Runs:
-    """The runs of a folder that streetsim-run wrote, or of its seeds; with rows where the first has junction tables."""
+    """The runs of a folder that streetsim-run wrote, one or one for each seed; with their junction tables where the
+    first of them has these."""
     runs = read_folders(path)
     return read_runs(path) if os.path.exists(f"{runs.first.path}/junctions.csv") else runs
 
 
 def read_rows(runs: Runs, table: str) -> None:
-    """Adds the rows of a table, by its key in TABLES, of all seeds; Fault where a folder lacks it."""
+    """Adds the rows of a junction table, by its key in TABLES, of all seeds to `runs`; Fault where a folder lacks it.
+    Measures that are empty in the table are left out."""
     # By (begin, end): {(key, control, movement): {seed: measures}}.
     found: defaultdict[tuple[int, int], dict[Any, Any]] = defaultdict(dict)
     for seed, folder in runs.folders.items():
@@ -147,7 +151,7 @@ def read_rows(runs: Runs, table: str) -> None:
 
 
 def means(seeds: Mapping[int, Mapping[str, float]]) -> dict[str, float]:
-    """Of each measure over the seeds that have it; of the greatest queue the greatest."""
+    """The mean of each measure over the seeds that have it; of the greatest queue the greatest."""
     names = {name for values in seeds.values() for name in values}
     found = {name: fmean(values[name] for values in seeds.values() if name in values) for name in names}
     if "queue_max_m" in found:

@@ -16,7 +16,8 @@ Piece = tuple[Spot, Spot, int, float]  # begin and end, speed in cells a step, m
 
 
 def stretches(folder: Folder, edges: Iterable[str]) -> tuple[dict[int, tuple[float, float, int]], float]:
-    """Where the links of a path lie, as {link: (metres from the path's begin, metres, cells)}, and its length."""
+    """Where the links of a path of edges lie, as {link: (metres from the path's begin, metres, cells)}, and the path's
+    length in metres. Fault where the map has no such edge."""
     placed: dict[int, tuple[float, float, int]] = {}
     begin = 0.0
     for links in folder.links_along(edges):
@@ -28,7 +29,8 @@ def stretches(folder: Folder, edges: Iterable[str]) -> tuple[dict[int, tuple[flo
 
 
 def trajectories(folder: Folder, edges: Iterable[str], first: int, last: int) -> list[Piece]:
-    """Pieces of the vehicles' ways along a path between polls from a first to a last second."""
+    """Pieces of the vehicles' ways along a path of edges, each from one poll to the next, from a first to a last
+    second; a vehicle that went back is left out for that piece."""
     placed, _ = stretches(folder, edges)
     pieces: list[Piece] = []
     before: dict[int, tuple[int, float, int, float]] = {}
@@ -50,15 +52,16 @@ def trajectories(folder: Folder, edges: Iterable[str], first: int, last: int) ->
 
 
 def bands(pieces: Iterable[Piece]) -> Iterator[tuple[Spot, Spot, Spot, Spot]]:
-    """The areas that vehicles longer than a cell cover over time, from their fronts to their rears, as corners."""
+    """The areas that vehicles longer than a cell cover over time, from their fronts to their rears, as four corners
+    each; shorter ones are left out."""
     for (second, place), (later, other), _, long in pieces:
         if long > 1.5 * limits.CELL_METRES:
             yield (second, place), (later, other), (later, other - long), (second, place - long)
 
 
 def reds(folder: Folder, edges: Iterable[str], first: int, last: int) -> list[tuple[float, int, int]]:
-    """When the signals along a path are red for going on along it, from a first to a last second: (metres from the
-    path's begin, begin, end)."""
+    """When the signals along a path of edges are red for going on along it, from a first to a last second: (metres from
+    the path's begin, begin, end) of each red."""
     placed, _ = stretches(folder, edges)
     links = folder.links_along(edges)
     found = []
@@ -82,7 +85,8 @@ def reds(folder: Folder, edges: Iterable[str], first: int, last: int) -> list[tu
 
 
 def shows_green(command: Command, second: int, links: Sequence[int], following: Sequence[int]) -> bool:
-    """Whether a signal command shows green in a second from any of some links to any of others."""
+    """Whether a signal command shows green in a second (the clock at its begin) from any of some links to any of
+    others."""
     place = (second + command["offset"]) % sum(duration for duration, _ in command["phases"])
     for duration, greens in command["phases"]:
         if place < duration:
@@ -92,7 +96,8 @@ def shows_green(command: Command, second: int, links: Sequence[int], following: 
 
 
 def way_back(folder: Folder, edges: Sequence[str]) -> list[str]:
-    """The edges of a path's other direction: between the same junctions; Fault where there is none."""
+    """The edges of a path's other direction, from its end to its begin, between the same junctions; Fault where there
+    is no edge back."""
     mapping = folder.mapping
     found: dict[tuple[int, int], str] = {}
     for edge, links in mapping.links_of.items():
@@ -107,7 +112,8 @@ def way_back(folder: Folder, edges: Sequence[str]) -> list[str]:
 
 
 def junctions_along(folder: Folder, edges: Sequence[str]) -> list[tuple[float, str]]:
-    """(metres from the path's begin, name) of the junctions within a path."""
+    """(metres from the path's begin, name) of each junction within a path of edges; of a path of one edge the junction
+    at its end."""
     placed, _ = stretches(folder, edges)
     firsts = [links[0] for links in folder.links_along(edges)]
     names = Names(folder.mapping)
@@ -117,7 +123,8 @@ def junctions_along(folder: Folder, edges: Sequence[str]) -> list[tuple[float, s
 
 
 def crossed(names: Names, junction: str, edges: Iterable[str]) -> str:
-    """A junction on a path: its own name, else the streets that it has beside the path's, else its id."""
+    """What a junction on a path is called: its own name, else the streets that it has beside the path's, else its
+    id."""
     if junction in names.junctions:
         return names.junctions[junction]
     own = {names.street(edge) for edge in edges}
@@ -125,8 +132,9 @@ def crossed(names: Names, junction: str, edges: Iterable[str]) -> str:
 
 
 def green_band(folder: Folder, edges: Sequence[str], first: int) -> tuple[int, int] | None:
-    """How many seconds of a cycle one after the other let a vehicle that starts at the first signal pass all others too
-    at its free speed, and the cycle; none where there is no signal or no common cycle."""
+    """The width of the green band: how many seconds of a cycle in a row let a vehicle that passes the first signal pass
+    all others too at its free speed; and the cycle. Plans are those at the clock `first`; none where there is no signal
+    or no common cycle."""
     lines = stop_lines(folder, edges)
     plans = {node: command for clock, command in folder.signals if clock <= first for node in [command["node"]]}
     stops = [(after, plans[node], here, following) for after, node, here, following in lines if node in plans]
@@ -160,7 +168,7 @@ def stop_lines(folder: Folder, edges: Sequence[str]) -> list[tuple[float, int, l
 
 
 def densities(folder: Folder) -> list[float]:
-    """Vehicles a kilometre and lane of each link, by its number, the mean over all polls; Fault without polls."""
+    """Mean vehicles a kilometre and lane of each link over all polls, by its number; Fault where nothing was polled."""
     standing: Counter[int] = Counter()
     polls = 0
     for poll in folder.polls():
@@ -176,8 +184,8 @@ def densities(folder: Folder) -> list[float]:
 
 
 def longest_queues(folder: Folder, most: int) -> tuple[list[tuple[str, dict[int, float]]], int]:
-    """The lanes with the longest queues at stop lines, the longest first: (edge_lane after its street's name,
-    {time: metres}), so many at most; and how many lanes with queues there are."""
+    """The lanes with the longest queues at stop lines, the longest first and `most` of them at most: (lane's id after
+    its street's name, {clock: metres}); and how many lanes have queues at all."""
     by_lane: defaultdict[str, dict[int, float]] = defaultdict(dict)
     names = Names(folder.mapping)
     for row in (row for row in folder.queues() if row["before"] == tables.STOP_LINE):
@@ -188,8 +196,8 @@ def longest_queues(folder: Folder, most: int) -> tuple[list[tuple[str, dict[int,
 
 
 def flows(folder: Folder, edges: Sequence[str]) -> list[tuple[float, float]]:
-    """(vehicles a kilometre, vehicles an hour) of each count of a whole period with traffic; edges: all where it is
-    empty."""
+    """(vehicles a kilometre, vehicles an hour) of each row of counts.csv over a whole period with traffic; edges: those
+    wanted, all where it is empty."""
     return [
         (float(row["occupancy_percent"]) / 100 / limits.CELL_METRES * 1000, float(row["vehicles_per_hour"]))
         for row in folder.counts()
@@ -200,9 +208,9 @@ def flows(folder: Folder, edges: Sequence[str]) -> list[tuple[float, float]]:
 
 
 def middle_flows(folder: Folder, edges: Sequence[str]) -> list[tuple[float, float]]:
-    """(vehicles a kilometre, vehicles an hour) of the middle third of each lane with traffic there, of each
-    whole period: means over its polls of the vehicles there and of their speeds, added up, over its length
-    (Edie's definitions)."""
+    """(vehicles a kilometre, vehicles an hour) of the middle third of each lane, of each whole period with traffic
+    there: means over its polls of the vehicles there and of their speeds, added up, over its length (Edie's
+    definitions). edges: those wanted, all where it is empty; Fault where nothing was polled."""
     links = folder.mapping.links
     polls: Counter[int] = Counter()
     seen: defaultdict[tuple[int, int, int], list[int]] = defaultdict(lambda: [0, 0])
@@ -230,25 +238,27 @@ def middle_flows(folder: Folder, edges: Sequence[str]) -> list[tuple[float, floa
 
 
 def middle(cells: int) -> tuple[int, int]:
-    """The first cell of a link's middle third, and the one behind its last."""
+    """The first cell of a link's middle third, and the cell behind its last; cells: of the link."""
     first = cells // 3
     return first, max(first + 1, cells - first)
 
 
 def arrival_curves(folder: Folder) -> tuple[list[int], list[int]]:
-    """Sorted times of wished departures up to the run's end, and of arrivals."""
+    """The clocks, sorted, of wished departures up to the run's end, and of arrivals."""
     trips, end = folder.trips(), folder.made.get("until", inf)
     departs = sorted(depart for row in trips if (depart := int(row["depart"])) <= end)
     return departs, sorted(int(row["arrival"]) for row in trips if row["arrival"])
 
 
 def difference(first: Sequence[float], second: Sequence[float]) -> tuple[list[float], list[int]]:
-    """The times at which one of two curves of sorted times rises, and how far the first is then above the second."""
+    """The clocks at which one of two curves rises, and by how many vehicles the first is then above the second; first,
+    second: sorted clocks, one for each vehicle."""
     times = sorted({*first, *second})
     return times, [bisect_right(first, time) - bisect_right(second, time) for time in times]
 
 
 def round_length(metres: float) -> float:
-    """The greatest 1, 2 or 5 times a power of ten that is at most so long, for a scale; metres: above 0."""
+    """The greatest of 1, 2 or 5 times a power of ten that is at most so many metres, for a map's scale; metres: above
+    0."""
     power = 10 ** floor(log10(metres))
     return next(times * power for times in (5, 2, 1) if times * power <= metres)

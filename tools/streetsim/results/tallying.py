@@ -19,7 +19,7 @@ UNTOLD = ("program", "words")
 
 @dataclass(slots=True)
 class Compared:
-    """What was compared, and what differs: (place, said, found)."""
+    """How many numbers and files were compared so far."""
 
     numbers: int = 0
     files: int = 0
@@ -33,8 +33,8 @@ def files_in(folder: str) -> list[str]:
 
 
 def compared(said: str, found: str, counts: Compared) -> Iterator[tuple[str, str, str]]:
-    """Where the files of a folder differ from those that were found anew, (place, said, found); what it has besides is
-    not looked at. Counts what was compared."""
+    """Where the files of the folder `said` differ from those of `found`, made anew: (file and place in it, said,
+    found). Files that only `said` has are passed over. Adds to `counts`."""
     for name in (one for one in files_in(found) if one not in PATHS):
         counts.files += 1
         if not os.path.exists(f"{said}/{name}"):
@@ -49,7 +49,7 @@ def compared(said: str, found: str, counts: Compared) -> Iterator[tuple[str, str
 
 
 def settings(path: str) -> Any:
-    """A run's setting without what may be told otherwise; Fault where it is no JSON."""
+    """A run's setting without what may differ between two makings of it; Fault where it is none."""
     try:
         value = json.loads(Path(path).read_text(encoding="utf-8"))
         for name in UNTOLD:
@@ -60,7 +60,7 @@ def settings(path: str) -> Any:
 
 
 def lines_of(path: str) -> list[bytes]:
-    """The lines of a file, unpacked where its name says that it is packed; Fault where it cannot be."""
+    """The lines of a file, as bytes, unpacked where its name ends in .gz; Fault where that fails."""
     content = Path(path).read_bytes()
     try:
         return (gzip.decompress(content) if path.endswith(".gz") else content).split(b"\n")
@@ -69,7 +69,7 @@ def lines_of(path: str) -> list[bytes]:
 
 
 def of_lines(name: str, first: list[bytes], second: list[bytes], counts: Compared) -> Iterator[tuple[str, str, str]]:
-    """The lines that differ."""
+    """The lines of two files that differ, as `compared` gives them; name: the file; first: said, second: found."""
     for number in range(max(len(first), len(second))):
         said, found = (side[number].decode(errors="replace") if number < len(side) else "" for side in (first, second))
         counts.numbers += sum(part.isdecimal() for part in found.replace("]", ",").replace("[", ",").split(","))
@@ -78,7 +78,8 @@ def of_lines(name: str, first: list[bytes], second: list[bytes], counts: Compare
 
 
 def of_tables(name: str, first: str, second: str, counts: Compared) -> Iterator[tuple[str, str, str]]:
-    """The cells of two tables that differ."""
+    """The cells of two CSV files that differ, as `compared` gives them; name: the file; first: path of the one that was
+    said, second: of the one found."""
     with open(first, encoding="utf-8", newline="") as one, open(second, encoding="utf-8", newline="") as other:
         rows = [list(csv.reader(file)) for file in (one, other)]
     head = rows[1][0] if rows[1] else []
@@ -95,7 +96,7 @@ def of_tables(name: str, first: str, second: str, counts: Compared) -> Iterator[
 
 
 def of_values(name: str, said: Any, found: Any, counts: Compared) -> Iterator[tuple[str, str, str]]:
-    """The values of two settings that differ."""
+    """The values of two settings that differ, as `compared` gives them; name: the file and the keys so far."""
     if isinstance(said, dict) and isinstance(found, dict):
         for key in {**said, **found}:
             yield from of_values(f"{name}, {key}", said.get(key), found.get(key), counts)

@@ -12,14 +12,16 @@ MAY_GO = OPEN + "sOo"  # signs under which somebody may go, after a stop or by a
 
 
 def path_of(runs: Runs) -> str | None:
-    """The file that keeps them, in the folder or beside those of its seeds; none where there is none."""
+    """The path of the kept programs, lights.json, in the folder of a run or above those of its seeds; none where there
+    is none."""
     folder = os.path.normpath(runs.first.path)
     places = (f"{folder}/{LIGHTS}", f"{os.path.dirname(folder)}/{LIGHTS}")
     return next((path for path in places if os.path.exists(path)), None)
 
 
 def timings_of(runs: Runs) -> dict[str, Timing]:
-    """By light the program that the run had; without those whose kept program does not fit to what the run showed."""
+    """By light the program that it had in the runs; lights whose kept program does not fit what the run showed are left
+    out, and all where nothing is kept."""
     path = path_of(runs)
     if path is None:
         return {}
@@ -29,7 +31,8 @@ def timings_of(runs: Runs) -> dict[str, Timing]:
 
 
 def fits(timing: Timing, folder: Folder) -> bool:
-    """Whether a program is that of a run: its cycle and offset are, and nobody was shown green whom it shows red."""
+    """Whether a kept program is the one of a run: it had a plan at the begin, and each has the program's cycle and
+    offset and shows nobody green whom the program shows red."""
     nodes = [node for light, node in folder.mapping.signals if light == timing.light]
     start = folder.made.get("start", 0)
     plans = [command for clock, command in folder.signals if command["node"] in nodes and clock == start]
@@ -37,7 +40,8 @@ def fits(timing: Timing, folder: Folder) -> bool:
 
 
 def plan_fits(timing: Timing, folder: Folder, plan: Command) -> bool:
-    """Whether a plan of a run shows nothing that a program does not."""
+    """Whether a plan of a run (signal command) has a program's cycle and offset, and shows nobody green whom that shows
+    red."""
     states = timing.states()
     cycle = len(states)
     if sum(seconds for seconds, _ in plan["phases"]) != cycle or plan["offset"] != round(-timing.offset) % cycle:
@@ -49,7 +53,8 @@ def plan_fits(timing: Timing, folder: Folder, plan: Command) -> bool:
 
 
 def shown(plan: Command, places: dict[tuple[int, int, int], int]) -> Iterator[tuple[int, int]]:
-    """Each second of a plan's cycle with each place of the light's state that is green then."""
+    """(second of the cycle, place in the light's state) of all that a plan shows green; places: of the turns (link,
+    lane, next link) of the light, others are left out."""
     second = 0
     for seconds, greens in plan["phases"]:
         own = [places[link, lane, following] for link, lane, following in greens if (link, lane, following) in places]

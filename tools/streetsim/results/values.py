@@ -8,16 +8,17 @@ from streetsim.results.reading import Row, Runs
 
 @dataclass(slots=True)
 class Traffic:
-    """What passed an edge in an interval."""
+    """What was seen of an edge in an interval."""
 
-    flow: float  # vehicles an hour that left it
-    density: float | None  # vehicles a kilometre, over all lanes
-    speed: float | None  # km/h
+    flow: float  # vehicles an hour that left the edge
+    density: float | None  # vehicles a kilometre, all lanes together; none where nothing was polled
+    speed: float | None  # km/h; none where nobody moved or nothing was polled
 
 
 @dataclass(slots=True)
 class Values:
-    """Of an edge; row is none where it is no approach, or the run had no --junctions."""
+    """What is known of an edge in an interval; traffic is none where its lanes were not counted, row where it is no
+    approach, or the run had no --junctions."""
 
     traffic: Traffic | None
     row: Row | None
@@ -29,8 +30,8 @@ def intervals_of(runs: Runs) -> list[tuple[int, int]]:
 
 
 def traffic_of(rows: Iterable[dict], begin: int, end: int) -> dict[str, Traffic]:
-    """The traffic of each edge in an interval, of rows of edges.csv; a period counts with its seconds in the
-    interval."""
+    """The traffic of each edge from `begin` to `end`, in seconds, of rows of edges.csv; a row whose period lies in part
+    there counts with that part. Edges without a row are left out."""
     found = defaultdict(list)
     for row in rows:
         first, last = int(row["begin"]), int(row["end"])
@@ -56,7 +57,7 @@ def traffic(parts: Sequence[tuple[dict, float, float]]) -> Traffic:
 
 
 def mean_of(several: list[Traffic]) -> Traffic:
-    """The mean traffic of an edge over seeds; speeds by the vehicles that were seen."""
+    """The mean traffic of an edge over seeds, one at least; speeds are weighted by how many vehicles were seen."""
     dense = [one.density for one in several if one.density is not None]
     moved = [(one.density, one.speed) for one in several if one.density and one.speed is not None]
     weight = sum(density for density, _ in moved)
@@ -68,7 +69,7 @@ def mean_of(several: list[Traffic]) -> Traffic:
 
 
 def values_of(runs: Runs, begin: int, end: int) -> dict[str, Values]:
-    """What is known of each edge of the map in an interval, as means over the seeds."""
+    """What is known of each edge of the map from `begin` to `end`, in seconds, as means over the seeds."""
     seen = defaultdict(list)
     for folder in runs.folders.values():
         for edge, one in traffic_of(folder.edges(), begin, end).items():

@@ -8,7 +8,7 @@ from streetsim.model import tables
 from streetsim.model.folder import Folder
 
 ROOM = 60.0  # metres shown beyond the longest queue
-LEAST = 150.0
+LEAST = 150.0  # metres shown at least
 
 
 @dataclass(slots=True, frozen=True)
@@ -22,15 +22,16 @@ class Stretch:
 
 @dataclass(slots=True)
 class Place:
-    """Works at one place. lengths: of the queue, by clock; standing: (clock, metres before the works) of who stands."""
+    """Works at one place. lengths: metres of the queue before them, by clock; standing: (clock, metres before the
+    works) of each vehicle that stands at a poll."""
 
     edge: str
     lane: str
     metres: tuple[float, float]  # from where to where it is closed
-    begin: int
-    end: int
+    begin: int  # clock
+    end: int  # clock
     vehicles: int  # that passed
-    capacity: str  # an hour of the worst quarter; empty where there is none
+    capacity: str  # vehicles an hour, the least of the table's rows; empty where there is none
     way: list[Stretch]
     lengths: dict[int, float]
     standing: list[tuple[int, float]]
@@ -42,7 +43,7 @@ class Place:
 
 
 def places_of(folder: Folder) -> list[Place]:
-    """The works of a run, in the order of its table; Fault where it had none, or ended before them."""
+    """The works of a run, in the order of its table works.csv; Fault where it had none, or ended before them."""
     seen = Counter(link for poll in folder.polls() for link, _, cells, *_ in poll["lanes"] for _ in cells)
     grouped: dict[tuple[str, ...], list[dict[str, str]]] = {}
     for row in folder.works():
@@ -55,7 +56,7 @@ def places_of(folder: Folder) -> list[Place]:
 
 
 def place_of(folder: Folder, rows: Sequence[dict[str, str]], seen: Counter[int]) -> Place:
-    """The works of one place, of its rows of works.csv; who stands there is noted later. seen: vehicles in polls, by
+    """The works of one place, of its rows of works.csv, without who stands there. seen: how many vehicles polls saw, by
     link."""
     edge, lane = rows[0]["edge"], rows[0]["lane"]
     begin, end = float(rows[0]["from_m"]), float(rows[0]["to_m"])
@@ -78,8 +79,8 @@ def link_of(folder: Folder, edge: str, lane: int) -> int:
 
 
 def way_to(folder: Folder, link: int, begin: float, seen: Counter[int]) -> list[Stretch]:
-    """The way to works that begin so many metres from a link's begin, from them on upstream: each link and of those
-    before it the one on which most were seen."""
+    """The way to works that begin so many metres from a link's begin, from them on against the traffic: of the links
+    before each the one on which most vehicles were seen, until none leads there."""
     links, way = folder.mapping.links, [Stretch(link, begin - folder.mapping.links[link].metres, begin)]
     known = {link}
     while True:
@@ -92,7 +93,7 @@ def way_to(folder: Folder, link: int, begin: float, seen: Counter[int]) -> list[
 
 
 def note_polls(folder: Folder, places: Sequence[Place]) -> None:
-    """Notes who stands before each place, on all lanes of the way to it."""
+    """Adds to each place who stands before its works while they last, at each poll, on all lanes of the way to it."""
     links = folder.mapping.links
     for poll in folder.polls():
         clock = poll["clock"]
