@@ -97,8 +97,8 @@ class Minor(Rounds):
         self.assertEqual(self.setting("nobody")["yielding"]["lines"], 0)
 
     def test_rounds_and_lights_that_detectors_drive(self):
-        # Behind the junction a light, whose green those hold who come while it is red. Who waits to join waits as without
-        # it, and runs that repeat the one that counts send the same lines.
+        # Behind the junction a light, whose green those hold who come while it is red. Who waits to join waits as
+        # without it, and runs that repeat the one that counts send the same lines.
         phases = '<phase duration="20" state="G" minDur="5" maxDur="40"/><phase duration="3" state="y"/>'
         phases += '<phase duration="9" state="r"/>'
         light = f'<tlLogic id="L" type="actuated" programID="0" offset="0">{phases}</tlLogic>'
