@@ -5,8 +5,12 @@ import unittest
 
 from support import DATA, PROGRAM, Case, needs_simulator
 from streetsim.live.facts import streets_and_areas
+from streetsim.model.folder import read_folder
 from streetsim.model.mapping import read_map
 from streetsim.model.names import Names, wind
+from streetsim.model.tables import QUEUES, write_table
+from streetsim.pictures.playing import data_of
+from streetsim.results.series import crossed, longest_queues
 
 # A cross, y to the north: Hill Street from the north to the south, Market Street to the east, no name to the west.
 EDGES = (
@@ -111,6 +115,18 @@ class Written(Crossing):
         self.assertEqual(told, ["Hill Street / Market Street", "Hill Street", "Market Street", "n"])
         self.assertEqual({row["edge_name"] for row in self.rows("edges.csv") if row["edge"] == "w"}, {""})
         self.assertEqual(list(self.rows("counts.csv")[0])[:4], ["begin", "end", "edge", "edge_name"])
+
+    def test_pictures(self):
+        """A path along Hill Street crosses Market Street; queues and the player's streets go by their names."""
+        folder = read_folder(str(self.out))
+        names = Names(folder.mapping)
+        self.assertEqual(crossed(names, "M", ["n", "s"]), "Market Street")
+        self.assertEqual(crossed(names, "W", ["n", "s"]), "W")
+        rows = [(10, "n", 0, 2, 15.0, "stop line"), (10, "w", 0, 2, 9.0, "stop line")]
+        write_table(f"{self.out}/queues.csv", QUEUES, rows)
+        self.assertEqual([lane for lane, _ in longest_queues(folder, 9)[0]], ["Hill Street n_0", "w_0"])
+        shown = [link["name"] for link in data_of(folder, 0, 100)["links"]]
+        self.assertEqual(sorted(shown), ["Hill Street", "Hill Street", "Market Street", "i", "w"])
 
     def test_the_page(self):
         self.tool("report", self.out, "-o", self.folder / "page.html")
