@@ -7,20 +7,26 @@ import signal
 import time
 import unittest
 from contextlib import contextmanager
+from functools import partial
 from pathlib import Path
 from xml.etree import ElementTree
 
 from pages import DRIVER, PageCase, crossing_files, needs_driver, needs_selenium
 from support import PAGE_MODULE, PAGE_PROGRAM, PROGRAM, Case, needs_page_module, needs_page_program, needs_simulator
 from test_compared import lost_and_ended
+from test_rounds import junction, routes
+from test_works import fan, flows
+from streetsim.base import limits
 from streetsim.base.files import Fault
+from streetsim.base.serving import serving
 from streetsim.live.bridge import Bridge
 from streetsim.live.engine import Engine
 from streetsim.live.joining import Joining
-from streetsim.live.page import page_of
+from streetsim.live.page import data_of, page_of
 from streetsim.model.mapping import read_map
 from streetsim.model.runs import read_run, read_with_map
-from test_works import fan, flows
+from streetsim.run.rounds import giving_way
+from streetsim.run.settings import Settings
 
 # The place on the screen of a second of a row of the plan, or of its ruler (row -2) or phases (row -1).
 OF_PLAN = """
@@ -186,6 +192,43 @@ class HandCase(PageCase):
         self.pull(browser, [x, y], [x + 6 * each, y])
         self.assertEqual(self.plan(browser)["offset"], (offset - 6) % 50)
 
+    def without_light(self):
+        """The run and map of the same crossing without its light."""
+        lines, mapping = crossing_files()
+        turns = [[*turn[:4], None, turn[5], False] for turn in mapping["turns"]]
+        run = self.write("unlit.jsonl", "".join(json.dumps(lines[at]) + "\n" for at in range(len(lines)) if at != 1))
+        return read_run(run), read_map(self.write("unlit.json", json.dumps({**mapping, "signals": [], "turns": turns})))
+
+    def check_junction(self, browser, address):
+        """A junction without a light is chosen: who stands before it is told by street, and drawn in the chart."""
+        self.open(browser, address)
+        close = [{"cmd": "close", "link": 5, "lane": lane, "first": 0, "last": 11} for lane in (0, 1)]
+        browser.execute_script(
+            "guarded(async () => { for (const command of arguments[0]) await session.tell(command); })", close
+        )
+        self.idle(browser)
+        place = browser.execute_script(
+            "const { x, y } = junctions.get(0), box = at('map').getBoundingClientRect(), [left, top] = "
+            "scene.screen(x, y); return [left + box.left, top + box.top]"
+        )
+        self.pull(browser, place, place)
+        self.assertEqual(self.text(browser, "title"), "Junction X")
+        browser.execute_script("guarded(async () => { await advance(1); await advance(59); draw(1); showTables(); })")
+        self.idle(browser)
+        states = browser.execute_async_script(
+            "const done = arguments[0], asked = [0, 1, 2, 3].flatMap(link => [0, 1].map(lane => "
+            "({ cmd: 'lane', link, lane }))); session.askAll(asked).then(done)"
+        )
+        still = [len([car for car in state["cells"] if car[2] == 0]) + len(state["buffer"]) for state in states]
+        by_street = [still[at] + still[at + 1] for at in range(0, 8, 2)]
+        self.assertGreater(by_street[0], 3)
+        rows = browser.execute_script(
+            "return [...at('before').rows].slice(1).map(row => [...row.cells].map(cell => cell.textContent))"
+        )
+        streets = ["W, from the west", "E, from the east", "S, from the south", "N, from the north"]
+        self.assertEqual(rows, [[street, str(count)] for street, count in zip(streets, by_street, strict=True)])
+        self.assertEqual(browser.execute_script("return worlds.now.series.at(-1).queue"), sum(by_street))
+
     def check_all(self, browser, address):
         self.open_light(browser, address)
         self.check_plan(browser)
@@ -202,6 +245,9 @@ class ByBridge(HandCase):
         with self.bridge() as bridge, self.browser() as browser:
             self.check_all(browser, bridge.address)
             self.check_wave(browser)
+            self.run_file, self.mapping = self.without_light()
+            with self.bridge() as unlit:
+                self.check_junction(browser, unlit.address)
 
     def test_a_plan_for_sumo_on_an_upright_tablet(self):
         """The plan is whole in the page, without a bar of scrolling in it, and is saved."""
@@ -282,6 +328,31 @@ class Joined(ImportCase):
 
 
 @needs_simulator
+@needs_page_program
+class GivingWay(ImportCase):
+    def test_as_in_the_run(self):
+        """A minor street gives way on the page by the lines that streetsim-run sends, at the same clocks."""
+        demand = routes([*((at, "w") for at in range(0, 300, 4)), *((at, "s") for at in range(2, 300, 9))])
+        self.write("x.net.xml", junction())
+        self.write("x.rou.xml", demand)
+        run, mapped = self.folder / "run.jsonl", self.folder / "map.json"
+        words = [self.folder / "x.net.xml", "--routes", self.folder / "x.rou.xml"]
+        self.tool("import", *words, "-o", run, "--map", mapped)
+        read = read_with_map(run, mapped)
+        settings = Settings(limits.CLOCK, rescue=0)
+        wanted, _ = giving_way(*read, settings, 2, partial(serving, PAGE_PROGRAM, run), lambda *_: None)
+        self.assertGreater(len(wanted.timed), 1)
+        joining = Joining(*read, mapped, rounds=2, program=PAGE_PROGRAM)
+        made, mapping, told = joining.giving_way(*joining.made())
+        sent = [[(at, line.command) for at, line in one.timed] for one in (made, wanted)]
+        self.assertEqual(*sent)
+        self.assertIn("1 junctions without a light give way", told[0])
+        [node] = {one.node for one in mapping.yields}
+        self.assertEqual(data_of(made, mapping)["giving"], [node])
+        self.assertEqual(data_of(*joining.made()[:2])["giving"], [])
+
+
+@needs_simulator
 @needs_page_module
 @needs_driver
 @needs_selenium
@@ -292,6 +363,8 @@ class OneFile(HandCase):
         with self.browser() as browser:
             self.check_all(browser, page.as_uri())
             self.check_wave(browser)
+            page.write_bytes(page_of(*self.without_light(), PAGE_MODULE.read_bytes()))
+            self.check_junction(browser, page.as_uri())
 
 
 if __name__ == "__main__":

@@ -9,7 +9,7 @@ from streetsim.actuated.lights import driven_lights
 from streetsim.base.files import Fault, whole_file
 from streetsim.base.program import find_program
 from streetsim.base.report import some
-from streetsim.base.words import Parser, listed, within
+from streetsim.base.words import Parser, add_rounds, listed, within
 from streetsim.live.bridge import HOST, Bridge
 from streetsim.live.driven import DrivenEngine
 from streetsim.live.engine import Engine
@@ -53,6 +53,7 @@ def parser() -> Parser:
         help="keep the session in FILE and FILE.page, and go on where it was left, whatever ended; the program is then "
         "streetsim itself (--program, else $STREETSIM_PROGRAM)",
     )
+    add_rounds(made)
     made.add_argument("-o", "--output", help="write one file (.html) with the engine inside, for Chromium and its kin")
     return made
 
@@ -66,6 +67,17 @@ def engines_of(words: argparse.Namespace, lines: list[bytes], joining: Joining) 
         return [Engine(program, lines), Engine(program, lines)]
     program = find_program(words.program)
     return [KeptEngine(program, lines, Path(words.keep), joining.run.start()), Engine(program, lines)]
+
+
+def program_for_rounds(words: argparse.Namespace) -> str:
+    """A program of this machine; Fault where there is none, as where only the module of a page is there."""
+    if words.keep or not words.output:
+        return find_program(words.program) if words.keep else program_of(words.program)
+    with contextlib.suppress(Fault):
+        return program_of(None)
+    with contextlib.suppress(Fault):
+        return find_program(None)
+    raise Fault("no program finds how vehicles give way without a light: set STREETSIM_PROGRAM, or give --rounds 0")
 
 
 def lights_told(run: Run, mapping: Map, driven: bool) -> list[str]:
@@ -93,7 +105,10 @@ def main(arguments: list[str]) -> int:
     proved = is_whole_built(kept) if kept else is_built(words.program, bool(words.output))
     run, mapping = read_with_map(words.run, words.map)
     driven = bool(mapping.programs) and not words.keep and not words.output
-    joining = Joining(run, mapping, words.map, proved, bool(kept), driven, tuple(listed(words.joint)))
+    rounds = words.rounds if mapping.yields else 0
+    joining = Joining(run, mapping, words.map, proved, bool(kept), driven, tuple(listed(words.joint)), rounds)
+    if rounds:
+        joining.program = program_for_rounds(words)
     page, lines, told = joining.page(module_of(words.program) if words.output else None)
     told += lights_told(*joining.made()[:2], driven)
     told = [*told, *filter(None, [why_unmade(len(mapping.visits))])]

@@ -1,11 +1,12 @@
 // What is chosen on the map, and its panel: a light's plan, a vehicle, or a stretch of lanes.
 
-const STOP_LINE = 12, CAR = 6, LANE = 14; // pixels within which each is found
+const STOP_LINE = 12, CAR = 6, LANE = 14, JUNCTION = 8; // pixels within which each is found
+const JUNCTION_METRES = 5;
 const CHOSEN_METRES = 18; // to both sides of the place that was clicked
 
 let chosen = null, followed = null, editor = null;
 
-// What is at a place: a stop line with a light, a vehicle, or a stretch of a lane.
+// What is at a place: a stop line with a light, a vehicle, a junction, or a stretch of a lane.
 function nearest([x, y], view) {
   const { scene, world } = view, inView = scene.links.filter(link => scene.isInView(link));
   const lights = inView.filter(link => session.plans.has(link.end)).map(link => [link, ...scene.place(link, (link.lanes - 1) / 2, 1)]);
@@ -13,7 +14,20 @@ function nearest([x, y], view) {
   if (light && light[0] < STOP_LINE / scene.scale) return { node: light[1].end };
   let best = CAR / scene.scale + 1, found = null;
   for (const [car, [link, lane, rear, front]] of world.cars) { const [px, py] = scene.place(link, lane, (rear + front + 1) / 2 / link.cells), away = Math.hypot(px - x, py - y); if (away < best) [best, found] = [away, { car }]; }
-  return found ?? stretchAt([x, y], scene);
+  return found ?? junctionAt([x, y], scene) ?? stretchAt([x, y], scene);
+}
+
+// The junction at a place into which more than one street leads.
+function junctionAt([x, y], { scale }) {
+  const near = session.data.nodes.map(node => [Math.hypot(node.x - x, node.y - y), node]).filter(([away]) => away < Math.max(JUNCTION_METRES, JUNCTION / scale)).sort((a, b) => a[0] - b[0]);
+  return near.length && approaches(near[0][1].number).length > 1 ? { node: near[0][1].number } : null;
+}
+
+// The streets that lead to a junction, each with its links.
+function approaches(node) {
+  const found = new Map();
+  for (const link of links.values()) if (link.end === node) found.set(link.name, [...found.get(link.name) ?? [], link]);
+  return [...found.values()];
 }
 
 // The lane that is nearest to a place, and how far along: {link, lane, metres}.
@@ -34,7 +48,7 @@ function stretchAt(point, scene) {
 function choose(what) {
   chosen = what; followed = null; editor = null;
   if (!what) { at("title").textContent = "Choose a stop line, a street or a vehicle"; at("chosen").replaceChildren(); draw(1); return; }
-  if (what.node !== undefined) chooseLight(what.node); else if (what.car !== undefined) guarded(() => chooseCar(what.car)); else chooseStretch(what);
+  if (what.node !== undefined) (session.plans.has(what.node) ? chooseLight : chooseJunction)(what.node); else if (what.car !== undefined) guarded(() => chooseCar(what.car)); else chooseStretch(what);
   draw(1);
 }
 
@@ -52,7 +66,7 @@ async function change(text, commands, told) {
 function chooseLight(node) {
   const own = session.data, { light, name } = junctions.get(node), movements = movementsAt(node, own.turns, links, light?.name);
   const known = [...own.signals, ...own.timed.map(([, line]) => JSON.parse(line))].filter(command => command.cmd === "signal" && command.node === node);
-  worlds.watched = node;
+  worlds.watch(node);
   at("title").textContent = `Light at ${name}`;
   editor = new PlanEditor({
     made: () => new Bars(session.plans.get(node), movements, known), light, clock: () => session.clock, wide: at("chosen").clientWidth || 300,
@@ -61,6 +75,22 @@ function chooseLight(node) {
   const isDriven = own.driven.includes(light?.name) && !session.changes.some(one => one.commands.some(({ command }) => command.cmd === "signal" && command.node === node));
   const told = isDriven ? "Detectors drive this light: its bars have the listed seconds. A plan that is set takes their place." : "";
   at("chosen").replaceChildren(editor.element, element("div", { id: "planTold", role: "status" }, told));
+}
+
+// A junction without a light: the chart has its queue, and how vehicles give way there is told.
+function chooseJunction(node) {
+  worlds.watch(node);
+  at("title").textContent = `Junction ${junctions.get(node).name}`;
+  const gives = session.givers.has(node) ? "Vehicles give way here as in the run, by the gaps that were found before it." : session.data.yields ? "Nobody gives way here on this page." : "";
+  at("chosen").replaceChildren(element("div", { className: "said" }, `There is no light here. ${gives} The chart shows who stands before it.`), element("table", { id: "before" }));
+  showBefore();
+}
+
+// Who stands before the junction that is chosen, by street.
+function showBefore() {
+  if (chosen?.node === undefined || !document.getElementById("before")) return;
+  const rows = approaches(chosen.node).map(own => rowOf([`${streetName(own[0])}, from ${FROM[windOf(own[0])]}`, String(own.reduce((sum, link) => sum + worlds.now.lanesOf(link).reduce((still, lane) => still + lane.still, 0), 0))]));
+  at("before").replaceChildren(rowOf(["street", "standing"], "th"), ...rows);
 }
 
 // A plan that is set again in the same second takes the place of the one before: dragging makes one change.

@@ -16,8 +16,16 @@ const rowOf = (cells, tag = "td") => element("tr", {}, ...cells.map(cell => elem
 const streetName = link => link.street || link.name;
 // A lane as a person says it: SUMO's lane 0 is the right one.
 function laneText(link, lane) {
-  const place = link.lanes === 1 ? "" : lane === 0 ? ", right lane" : lane === link.lanes - 1 ? ", left lane" : `, lane ${lane + 1} from the right`;
-  return `${streetName(link)}${place}`;
+  const word = laneWord(link, lane);
+  return `${streetName(link)}${word && ", "}${word}`;
+}
+
+// Which lane of its street one is, beside those of parallel links; nothing where there is one.
+function laneWord(link, lane) {
+  const all = [...links.values()].filter(other => other.name === link.name).flatMap(other => other.names), own = link.names[lane], most = Math.max(...all, own);
+  if (!most) return "";
+  if (own === 0 || own === most) return own ? "left lane" : "right lane";
+  return most === 2 ? "middle lane" : `${["", "second", "third", "fourth", "fifth"][own] ?? "inner"} lane from the right`;
 }
 const metresAt = (link, cell) => Math.round(cell * link.metres / link.cells);
 

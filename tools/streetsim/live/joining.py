@@ -2,10 +2,12 @@
 from collections.abc import Iterable
 from dataclasses import dataclass, replace
 
+from streetsim.actuated.lights import LISTED, driven_lights
 from streetsim.base.files import FilePath
 from streetsim.live.page import own_lines, page_of
 from streetsim.model.mapping import Map
 from streetsim.model.runs import Run
+from streetsim.run.rounds import giving_way_to_scripts
 from streetsim.works.sites import Asking, with_works
 
 
@@ -18,15 +20,28 @@ class Joining:
     kept: bool = False  # whether its session is kept in a file
     driven: bool = False  # whether the bridge drives lights by detectors
     names: tuple[str, ...] = ()  # of the lanes and edges that are joint beside those of the import
+    rounds: int = 0  # by which vehicles give way without a light
+    program: str | None = None  # which makes the rounds
 
     def made(self) -> tuple[Run, Map, list[str]]:
         """The run and its map with these lanes joint, and what there is to say."""
         run, mapping, told = with_works(self.run, self.mapping, self.map_path, [], Asking(self.names))
         return run, replace(mapping, sources=self.mapping.sources), told
 
+    def giving_way(self, run: Run, mapping: Map, told: list[str]) -> tuple[Run, Map, list[str]]:
+        """The run with signals by which its vehicles give way, as those of a script; where nobody has to, the map
+        knows of nobody who would."""
+        if not self.rounds or not mapping.yields:
+            return run, mapping, told
+        lights = driven_lights(run, mapping) if self.driven else LISTED
+        run, yielding = giving_way_to_scripts(run, mapping, self.rounds, self.program, lights=lights)
+        if not yielding.lines:
+            return run, replace(mapping, yields=[]), told
+        return run, mapping, [*told, yielding.told()]
+
     def page(self, engine: bytes | None = None) -> tuple[bytes, list[bytes], list[str]]:
         """The page, the run's own lines, and what there is to say."""
-        run, mapping, told = self.made()
+        run, mapping, told = self.giving_way(*self.made())
         page = page_of(run, mapping, engine, self.map_path, self.proved, self.kept, self.driven)
         return page, own_lines(run), told
 

@@ -56,7 +56,7 @@ function showTold(far) {
 
 function showTables() {
   showQueues(worlds.now, lane => { showPlace(lane.link); choose(stretchOf({ link: lane.link, lane: lane.lane }, 0, lane.link.metres)); });
-  showChanges(session, undo); showComparison(); showWave();
+  showChanges(session, undo); showComparison(); showWave(); showBefore();
   if (playing) showLog(session);
   showDetectors(session).catch(() => {});
 }
@@ -99,7 +99,7 @@ function frame(time) {
 
 function claim(data) {
   const program = data.proved ? "The proved program" : "A program of which this page does not know whether it is proved";
-  const yields = data.yields ? " Without a light nobody gives way on this page: streetsim-run finds the gaps between those who go first, and says what that costs." : "";
+  const yields = data.giving.length ? " Without a light vehicles give way as in the run, in the gaps between those who go first; these were found without the changes that are made here." : data.yields ? " Without a light nobody gives way on this page: begin it with --rounds 2, and vehicles do as in the run." : "";
   const driven = data.driven.length ? ` Detectors drive ${data.driven.length === 1 ? "one light" : `${data.driven.length} lights`}, until a plan is set there.` : "";
   const listed = data.listed.length ? ` ${data.listed.length === 1 ? "One light shows" : `${data.listed.length} lights show`} listed seconds on this page, where SUMO's detectors would time ${data.listed.length === 1 ? "it" : "them"}: ${data.listed.slice(0, 5).join(", ")}${data.listed.length > 5 ? ", .." : ""}.` : "";
   return `${program} ${data.single ? CLAIMS.module : CLAIMS.bridge}${yields}${driven}${listed}`;

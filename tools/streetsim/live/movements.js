@@ -7,6 +7,7 @@ const PATH_POINTS = 12;
 const direction = ([ax, ay], [bx, by]) => Math.atan2(by - ay, bx - ax);
 
 const WINDS = ["W", "SW", "S", "SE", "E", "NE", "N", "NW"];
+const FROM = { W: "the west", SW: "the south-west", S: "the south", SE: "the south-east", E: "the east", NE: "the north-east", N: "the north", NW: "the north-west" };
 // Where one comes from who drives along a link's end.
 const windOf = link => WINDS[round(Math.round(direction(...link.points.slice(-2)) / (Math.PI / 4)), WINDS.length)];
 

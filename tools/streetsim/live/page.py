@@ -9,6 +9,7 @@ from streetsim.actuated.lights import LISTED, driven_lights
 from streetsim.base.files import Fault, FilePath
 from streetsim.live.facts import departures_and_ends, streets_and_areas
 from streetsim.model.mapping import Map
+from streetsim.model.names import Names
 from streetsim.model.runs import Run
 
 PLACE = Path(__file__).parent
@@ -46,15 +47,25 @@ def links_of(run: Run, mapping: Map, streets: dict[str, str]) -> list[dict[str, 
 
 
 def nodes_of(run: Run, mapping: Map, areas: dict[str, list]) -> list[dict[str, Any]]:
+    names = Names(mapping)
     lights: dict[int, dict[str, Any]] = {node: {"name": name, "size": 0} for name, node in mapping.signals}
     for turn in mapping.turns:
         node = mapping.links[turn.link].end
         if node in lights and turn.light == lights[node]["name"]:
             lights[node]["size"] = max(lights[node]["size"], turn.index + 1)
     return [
-        {"number": number, "name": name, "x": x, "y": y, "area": areas.get(name, []), "light": lights.get(number)}
+        {
+            "number": number, "name": names.junction(name) or name, "x": x, "y": y, "area": areas.get(name, []),
+            "light": lights.get(number),
+        }
         for (number, *_), (name, x, y, *_) in zip(run.load.command["nodes"], mapping.nodes, strict=True)
     ]
+
+
+def giving_of(run: Run, mapping: Map) -> list[int]:
+    """The nodes without a light where the run has signals by which vehicles give way."""
+    lit, known = {node for _, node in mapping.signals}, {one.node for one in mapping.yields}
+    return sorted({command["node"] for _, command in run.signals()} & known - lit)
 
 
 def data_of(
@@ -80,6 +91,7 @@ def data_of(
         "timed": [[clock, line.text] for clock, line in run.timed],
         "works": [line.command for line in run.first if line.command["cmd"] in ("close", "reopen")],
         "yields": len(mapping.yields),
+        "giving": giving_of(run, mapping),
         "single": single,
         "proved": proved,
         "kept": kept,

@@ -30,6 +30,7 @@ function standing({ cells, buffer }) {
 class Session {
   constructor(engine, data, own) {
     this.engine = engine; this.data = data; this.own = own;
+    this.givers = new Set(data.giving); // junctions without a light, where vehicles give way by signals that nobody sees
     this.isKept = Boolean(data.kept) && engine.which === 0; this.isAgain = false; // doing what was done before
     this.joint = new Map(data.links.filter(link => link.lanes === 2).map(link => [link.number, link.cells]));
     this.lanes = data.links.flatMap(link => Array.from({ length: link.lanes }, (_, lane) => ({ link, lane, ask: JSON.stringify({ cmd: "lane", link: link.number, lane }), state: null, seen: -1, still: 0 })));
@@ -48,14 +49,17 @@ class Session {
     this.sent = []; this.changes = []; this.detectors = []; this.count = null;
     this.pending = []; // commands of changes whose second is still to come, {clock, command}
     this.ledger = new Ledger(this.data);
-    this.plans = new Map();
+    this.plans = new Map(); // of lights
     this.shown = new Map(); // what detectors have lights show now, by node
     for (const command of this.data.signals) this.takePlan(command);
     const at = replies.findIndex(reply => refusalOf(reply));
     return at < 0 ? "" : `line ${at + 1} of the run: ${refusalOf(replies[at])}`;
   }
 
-  takePlan({ node, offset, phases }) { this.plans.set(node, { node, offset, phases }); this.shown.delete(node); }
+  takePlan({ node, offset, phases }) {
+    if (this.givers.has(node)) return;
+    this.plans.set(node, { node, offset, phases }); this.shown.delete(node);
+  }
 
   // The lines of so many steps, or of those until lanes with works are to be looked at: timed lines of the run are sent as their second comes.
   linesOf(steps) {

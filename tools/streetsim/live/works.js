@@ -47,7 +47,7 @@ function stretchPanel(what, { session, tell, redraw, put }) {
 function laneBox(what, lane, redraw) {
   const box = element("input", { type: "checkbox", id: `lane${lane}`, checked: what.lanes.includes(lane) });
   box.oninput = () => { what.lanes = box.checked ? [...what.lanes, lane].sort() : what.lanes.filter(other => other !== lane); redraw(); };
-  return element("label", {}, box, ` ${what.link.lanes === 1 ? "its lane" : lane === 0 ? "right lane" : lane === what.link.lanes - 1 ? "left lane" : `lane ${lane + 1}`} `);
+  return element("label", {}, box, ` ${laneWord(what.link, lane) || "its lane"} `);
 }
 
 async function closeOrOpen(cmd, what, { session, tell, from, until }) {

@@ -88,6 +88,12 @@ class Worlds {
 
   isTooSlow() { return this.pace > SLOW; }
 
+  // Has the chart show the queue before a junction, from now on.
+  watch(node) {
+    if (node !== this.watched) for (const { series } of this.both) for (const point of series) point.queue = null;
+    this.watched = node;
+  }
+
   // Begins the traffic as it was, or ends it, as there are changes and as somebody wants it.
   async follow() {
     const wants = this.now.session.isChanged() && (this.wanted ?? !this.isTooSlow());
