@@ -8,6 +8,7 @@ from pages import LiveCase, PageCase, needs_driver, needs_selenium
 from support import BUILT_PAGE, MAP, PAGE_MODULE, PROGRAM, needs_page_module, needs_page_program, needs_simulator
 from streetsim.live.bridge import MOST_LINE
 from streetsim.live.page import data_of, page_of
+from streetsim.model.mapping import read_map
 
 # Changes of a page by its buttons: each that was not refused counts.
 CHANGES = """
@@ -39,6 +40,16 @@ class Data(LiveCase):
         )
         self.assertEqual([clock for clock, _ in data["timed"]], [20])
         self.assertEqual([plan["node"] for plan in data["signals"]], [1])
+
+    def test_names_of_streets_and_junctions(self):
+        """Those of the map: a junction goes by its own name, by its streets, or by its id."""
+        names = {"edges": {"a": "Hill Street", "b": "Market Street"}, "junctions": {"A": "Old Gate"}}
+        named = read_map(self.write("named.json", json.dumps({**MAP, "names": names})))
+        data = data_of(self.run_file, named, map_path=self.folder / "named.json")
+        self.assertEqual([link["street"] for link in data["links"]], ["Hill Street", "Market Street"])
+        streets = ["Old Gate", "Hill Street / Market Street", "Market Street"]
+        self.assertEqual([node["name"] for node in data["nodes"]], streets)
+        self.assertEqual([node["name"] for node in data_of(self.run_file, self.mapping)["nodes"]], ["A", "B", "C"])
 
     def test_a_map_of_another_run(self):
         path = self.write("other.json", json.dumps({**MAP, "links": MAP["links"][:1]}))

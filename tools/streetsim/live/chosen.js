@@ -47,7 +47,7 @@ function stretchAt(point, scene) {
 
 function choose(what) {
   chosen = what; followed = null; editor = null;
-  if (!what) { at("title").textContent = "Choose a stop line, a street or a vehicle"; at("chosen").replaceChildren(); draw(1); return; }
+  if (!what) { at("title").textContent = "Choose a stop line, a junction, a street or a vehicle"; at("chosen").replaceChildren(); draw(1); return; }
   if (what.node !== undefined) (session.plans.has(what.node) ? chooseLight : chooseJunction)(what.node); else if (what.car !== undefined) guarded(() => chooseCar(what.car)); else chooseStretch(what);
   draw(1);
 }
@@ -81,7 +81,7 @@ function chooseLight(node) {
 function chooseJunction(node) {
   worlds.watch(node);
   at("title").textContent = `Junction ${junctions.get(node).name}`;
-  const gives = session.givers.has(node) ? "Vehicles give way here as in the run, by the gaps that were found before it." : session.data.yields ? "Nobody gives way here on this page." : "";
+  const gives = session.givers.has(node) ? "Vehicles give way here as in the run, by the gaps that were found before it." : session.givers.size ? "In this run nobody has to give way here." : session.data.yields ? "Nobody gives way here on this page." : "";
   at("chosen").replaceChildren(element("div", { className: "said" }, `There is no light here. ${gives} The chart shows who stands before it.`), element("table", { id: "before" }));
   showBefore();
 }
@@ -114,10 +114,10 @@ async function chooseCar(car) {
 }
 
 function chooseStretch(what) {
-  at("title").textContent = `${streetName(what.link)}, towards ${junctions.get(what.link.end).name}`;
-  const put = (lane, cell, period) => {
+  at("title").textContent = `${streetName(what.link)}, towards ${endText(what.link)}`;
+  const put = async (lane, cell, period) => {
     const command = { cmd: "meter", link: what.link.number, lane, cell, period };
-    return change(`detector: ${laneText(what.link, lane)}, ${metresAt(what.link, cell)} m`, [{ clock: session.clock, command }], "the detector is placed");
+    if (await change(`detector: ${laneText(what.link, lane)}, ${metresAt(what.link, cell)} m`, [{ clock: session.clock, command }], "the detector is placed")) await showDetectors(session);
   };
   at("chosen").replaceChildren(...stretchPanel(what, { session, tell: change, redraw: () => draw(1), put }));
 }

@@ -14,10 +14,16 @@ const numberBox = (id, value, least, most) => element("input", { id, className: 
 const rowOf = (cells, tag = "td") => element("tr", {}, ...cells.map(cell => element(tag, {}, cell)));
 
 const streetName = link => link.street || link.name;
+// Where a link leads: the junction at its end, by its other streets where it goes by all.
+function endText(link, by = link.street) {
+  const { name } = junctions.get(link.end);
+  return name.split(" / ").filter(street => street !== by).join(" / ") || name;
+}
+const wayText = link => link.street ? `${link.street} towards ${endText(link)}` : link.name;
 // A lane as a person says it: SUMO's lane 0 is the right one.
 function laneText(link, lane) {
   const word = laneWord(link, lane);
-  return `${streetName(link)}${word && ", "}${word}`;
+  return `${wayText(link)}${word && ", "}${word}`;
 }
 
 // Which lane of its street one is, beside those of parallel links; nothing where there is one.

@@ -80,10 +80,16 @@ class PlanEditor {
     const isChosen = ({ begin }) => this.chosen?.row === i && this.chosen.green?.begin === begin;
     return [
       drawn("rect", { x: LABEL, y: top, width: this.wide - LABEL, height: this.high - 1, class: "empty" }),
-      drawn("text", { x: 2, y: top + this.high / 2 + 3, class: "name" }, `${ARROWS[row.kind]} ${windOf(row.street)} ${shortened(name, 16)}`, drawn("title", {}, `${row.kind} from ${name} to ${streetName(row.next)}`)),
+      drawn("text", { x: 2, y: top + this.high / 2 + 3, class: "name" }, `${ARROWS[row.kind]} ${windOf(row.street)} ${this.labelOf(row, name)}`, drawn("title", {}, `${row.kind} from ${name} to ${streetName(row.next)}`)),
       ...this.bars.greens(row).flatMap(green => bar(green, isChosen(green) ? `green chosen ${this.chosen.part}` : "green")),
       ...this.bars.lost(row).flatMap(lost => bar(lost, "lost")), ...this.bars.faults(i).flatMap(fault => bar(fault, "crossed")),
     ];
+  }
+
+  // A row's street, and where it leads to if another row goes by the same arrow.
+  labelOf(row, name) {
+    const isAlone = this.bars.rows.every(other => other.next.name === row.next.name || other.street.name !== row.street.name || other.kind !== row.kind);
+    return isAlone ? shortened(name, 16) : `${shortened(name, 8)} → ${shortened(streetName(row.next), 8)}`;
   }
 
   // ---- boxes and buttons below

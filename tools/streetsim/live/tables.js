@@ -25,12 +25,12 @@ function showQueues(world, show) {
   at("queues").replaceChildren(rowOf(["lane", "standing", "to enter", "seen"], "th"), ...body);
 }
 
-let isReading = false;
+let reading = null;
 
-async function showDetectors(session) {
-  if (isReading) return;
-  isReading = true;
-  try { await readDetectors(session); } finally { isReading = false; }
+// Reads all detectors, once at a time; whoever asks meanwhile waits for the same.
+function showDetectors(session) {
+  reading ??= readDetectors(session).finally(() => { reading = null; });
+  return reading;
 }
 
 async function readDetectors(session) {

@@ -1,7 +1,7 @@
 // A map of one traffic: streets, junctions, vehicles, stop lines, what is closed and what is chosen.
 
 const MARKS = 2.2, DIRECTIONS = 1; // pixels a metre from which on lane marks and directions are drawn
-const LEAST_NAME = 60; // pixels of a street that bears its name
+const LEAST_NAME = 60, NAME_AWAY = 9; // pixels of a street that bears its name, and from its edge to the name's middle
 
 class View {
   constructor(canvas, world, of) {
@@ -90,13 +90,13 @@ class View {
 
   // Each name once: on the longest link that bears it.
   drawNames(shown) {
-    const { scene } = this, { pen } = scene, longest = new Map();
+    const { scene } = this, { pen, scale } = scene, longest = new Map();
     for (const link of shown) if (link.street && !(longest.get(link.street)?.total >= link.total)) longest.set(link.street, link);
     pen.font = "12px sans-serif"; pen.textAlign = "center";
     for (const [name, link] of longest) {
       const wide = pen.measureText(name).width;
-      if (link.total * scene.scale < Math.max(LEAST_NAME, wide + 16)) continue;
-      const [x, y, dx, dy] = scene.place(link, -1.6, .5), [left, top] = scene.screen(x, y), turned = Math.atan2(-dy, dx);
+      if (link.total * scale < Math.max(LEAST_NAME, wide + 8)) continue;
+      const [x, y, dx, dy] = scene.place(link, -.5 - NAME_AWAY / scale / LANE_METRES, .5), [left, top] = scene.screen(x, y), turned = Math.atan2(-dy, dx);
       pen.save(); pen.translate(left, top); pen.rotate(Math.abs(turned) > Math.PI / 2 ? turned + Math.PI : turned);
       pen.strokeStyle = colours().ground; pen.lineWidth = 3; pen.fillStyle = colours().name;
       pen.strokeText(name, 0, 4); pen.fillText(name, 0, 4); pen.restore();

@@ -1,7 +1,7 @@
 // A green wave: a path of streets over time, with the greens of its lights, the band in which one comes through, and vehicles as lines.
 
 const PAST = 150, COMING = 90; // seconds that are shown
-const WAVE_LEFT = 64, WAVE_FOOT = 16, WAVE_HIGH = 300, BAR = 7; // pixels
+const WAVE_LEFT = 92, WAVE_FOOT = 16, WAVE_HIGH = 300, BAR = 7; // pixels
 
 // The links of the shortest way from one node to another; nothing where there is none.
 function wayBetween(from, to, all) {
@@ -92,7 +92,7 @@ class Wave {
       const thick = isGreen(from + second) ? BAR - 4 : BAR;
       pen.fillRect(this.x(from + second), this.y(at) - thick / 2, this.each + .5, thick);
     }
-    pen.fillStyle = colours().ink; pen.font = "11px sans-serif"; pen.fillText(shortened(junctionText(node), 9), 2, this.y(at) + 4);
+    pen.fillStyle = colours().ink; pen.font = "11px sans-serif"; pen.fillText(shortened(endText(this.path.find(part => part.to === at).link), 15), 2, this.y(at) + 4);
   }
 
   // Where one who drives freely meets green at all lights.

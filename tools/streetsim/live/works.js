@@ -58,7 +58,7 @@ async function closeOrOpen(cmd, what, { session, tell, from, until }) {
   if (first === null || until.trim() && last === null) throw new Error("a clock is hours:minutes:seconds, as 0:12:30");
   if (last !== null && last <= Math.max(first, session.clock)) throw new Error("works end behind their begin, and after now");
   const commands = worksCommands(what, first, last).map(one => cmd === "close" ? one : { ...one, command: { ...one.command, cmd } });
-  const place = `${streetName(link)}, ${begin} to ${end} m, ${lanes.length === link.lanes ? "all lanes" : lanes.map(lane => laneText(link, lane).split(", ").at(-1)).join(" and ")}`;
+  const place = `${wayText(link)}, ${begin} to ${end} m, ${lanes.length === link.lanes ? "all lanes" : lanes.map(lane => laneWord(link, lane)).join(" and ")}`;
   const turns = cmd === "close" && link.lanes === 2 && lanes.length === 1 ? "; before them the lanes take turns" : "";
   const when = first > session.clock ? ` at ${clockText(first)}` : "", back = last === null ? "" : ` until ${clockText(last)}`;
   await tell(`${cmd === "close" ? "works" : "reopened"}: ${place}${when}${back}`, cmd === "close" ? commands : commands.slice(0, lanes.length), `${cmd === "close" ? "closed" : "open"}${when}${back}${turns}`);
