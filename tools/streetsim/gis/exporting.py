@@ -1,4 +1,4 @@
-"""Edges and junctions with their results as GeoJSON or GeoPackage."""
+"""Edges and junctions with their results by interval, as GeoJSON or GeoPackage."""
 import os
 import shutil
 import subprocess
@@ -19,7 +19,7 @@ FIXED = {"OGR_CURRENT_DATE": "2000-01-01T00:00:00.000Z"}  # so that equal runs g
 
 
 def told(path: str, runs: Runs, found: list) -> str:
-    """What was written to a path, and what is missing in it, in one line."""
+    """What was written to a path, and what is missing or not to be trusted in it, in one line; found: the features."""
     count = len(intervals_of(runs))
     text = f"{path}: {len(found):,} rows of edges and junctions in {count} interval{'s' if count > 1 else ''}"
     doubts = [doubt for folder in runs.folders.values() for doubt in folder.doubts]
@@ -29,7 +29,8 @@ def told(path: str, runs: Runs, found: list) -> str:
 
 
 def features(runs: Runs, places: Places) -> Iterator[dict]:
-    """Each edge and junction in each interval, as GeoJSON's features."""
+    """Each edge and junction in each interval, as GeoJSON's features. Of edges that nobody counted the numbers are
+    none; junctions are there only where the run has junction tables."""
     mapping = runs.first.mapping
     names = Names(mapping)
     lines = {edge: places(mapping.links[links[len(links) // 2]].shape) for edge, links in mapping.links_of.items()}
@@ -48,7 +49,7 @@ def features(runs: Runs, places: Places) -> Iterator[dict]:
 
 
 def feature(kind: str, shape: str, coordinates: list, content: dict) -> dict:
-    """A feature of GeoJSON; kind: EDGE or JUNCTION."""
+    """A feature of GeoJSON; kind: EDGE or JUNCTION; shape: GeoJSON's type; coordinates: of it, longitude first."""
     return {
         "type": "Feature",
         "geometry": {"type": shape, "coordinates": coordinates},
@@ -57,44 +58,45 @@ def feature(kind: str, shape: str, coordinates: list, content: dict) -> dict:
 
 
 def of_edge(mapping: Map, edge: str) -> dict:
-    """What the map says of an edge."""
+    """What the map says of an edge: its id, nodes, lanes and metres."""
     links = [mapping.links[link] for link in mapping.links_of[edge]]
     ends = {"from": mapping.nodes[links[0].begin][0], "to": mapping.nodes[links[0].end][0]}
     return {"name": edge, **ends, "lanes": sum(len(link.lanes) for link in links), "metres": round(links[0].metres, 1)}
 
 
 def named(property_: str, name: str, names: Names) -> dict:
-    """A property with a name, where the map has names at all."""
+    """{property_: name}, none for an empty name; nothing where the map has no names at all."""
     return {property_: name or None} if names else {}
 
 
 def of_values(values: Values) -> dict:
-    """What is known of an edge in an interval; none for what is not."""
+    """The results of an edge in an interval, by the names of properties; none for what is not known."""
     return {**of_traffic(values.traffic), **of_row(values.row)}
 
 
 def of_traffic(seen: Traffic | None) -> dict:
-    """Traffic, rounded; none for what is not known."""
+    """Flow, speed and density with one decimal; all none where nothing was seen."""
     numbers = (None, None, None) if seen is None else (seen.flow, seen.speed, seen.density)
     names = "vehicles_per_hour", "mean_speed_kmh", "density_per_km"
     return {name: None if number is None else round(number, 1) for name, number in zip(names, numbers, strict=True)}
 
 
 def of_row(row: Row | None) -> dict:
-    """The columns of the junction tables and the letter, rounded; none for what is not known."""
+    """The measures of the junction tables with two decimals, and the letter; none for what is not known."""
     numbers = {name: row.values.get(name) if row else None for name in MEASURES}
     rounded = {name: None if number is None else round(number, 2) for name, number in numbers.items()}
     return {**rounded, "los": row.letter() if row else None}
 
 
 def write_text(path: str, text: str) -> None:
+    """Writes a text with a line end behind it, whole or not at all."""
     with whole_file(path) as file:
         file.write(text + "\n")
 
 
 def write_package(path: str, text: str) -> None:
-    """Writes GeoJSON's text as a GeoPackage: a layer for edges, and one for junctions where there are some; Fault where
-    ogr2ogr fails."""
+    """Writes a GeoPackage by ogr2ogr of GeoJSON's text: a layer for edges, and one for junctions where there are some.
+    Fault where ogr2ogr fails."""
     with tempfile.TemporaryDirectory() as folder:
         source, made = f"{folder}/all.geojson", f"{folder}/all.gpkg"
         write_text(source, text)

@@ -8,8 +8,9 @@ Places = Callable[[Iterable], list]
 
 
 def places_of(location: dict, projection: str | None, path: str) -> Places:
-    """A conversion of points in a network's metres to (longitude, latitude); Fault where no projection is known.
-    location: of the map; projection: what the user says, in place of the map's own; path: for faults."""
+    """A function that converts points (x, y) in a network's metres to (longitude, latitude) in degrees; Fault where no
+    projection is known. location: of the map; projection: what the user says, in place of the map's own, or none; path:
+    for faults."""
     try:
         from pyproj import CRS, Transformer
         from pyproj.exceptions import CRSError
@@ -41,7 +42,8 @@ def places_of(location: dict, projection: str | None, path: str) -> Places:
 
 
 def on_earth(place: tuple[float, float], path: str, told: str) -> list[float]:
-    """A (longitude, latitude) in degrees, rounded to some centimetres; Fault where it is nowhere on Earth."""
+    """A (longitude, latitude) in degrees, rounded to 7 decimals, about a centimetre; Fault where it is nowhere on
+    Earth. told: the projection, for the Fault, as path is."""
     if not (abs(place[0]) <= 180 and abs(place[1]) <= 90):
         raise Fault(f"{path}: {told!r} does not fit the network: it lies nowhere on Earth by it")
     return [round(value, 7) for value in place]

@@ -1,4 +1,4 @@
-"""Files of SUMO to a run and its map."""
+"""Makes a run and its map of SUMO's files."""
 import json
 from collections.abc import Sequence
 
@@ -18,8 +18,8 @@ from streetsim.sumo.types import Types
 
 
 def read_and_converted(sources: Sources, options: Options, report: Report, told: dict[str, str]) -> Made:
-    """What `convert` makes of the sources, of which those of a configuration may have trips among their routes. `told`:
-    its options, none where there is none."""
+    """What `convert` makes of the sources. told: the options of SUMO's configuration, empty where none was given. The
+    routes that a configuration names may be trips without ways: then all get ways, and the sources change to say so."""
     tell_options(told, report)
     try:
         return convert(sources.net, sources.additional, sources.routes, options, report, sources.trips)
@@ -39,8 +39,8 @@ def read_and_converted(sources: Sources, options: Options, report: Report, told:
 def write_run(
     output: str, map_output: str, made: Made, report: Report, sources: Sources | None = None, names: str | None = None
 ) -> Map:
-    """Writes what `converted` made: the run and its map, which keeps the sources and has the names of a file. Gives the
-    map."""
+    """Writes the run to `output` and its map to `map_output`, and gives the map. made: of `convert`; sources: files
+    that the map is to name, or none; names: a file of names of one's own, or none."""
     lines, mapping = run_and_map(made, report)
     if names:
         read_own(names, mapping)
@@ -59,7 +59,9 @@ def convert(
     report: Report,
     trips: Sequence[str] = (),
 ) -> Made:
-    """The network, its lights, the commands of the run and the names of its vehicles."""
+    """The network, its lights, the commands of the run and the names of its vehicles, of files of SUMO. trips: files
+    whose vehicles get ways; where there are some, those of `routes` are read with them. What is left out or otherwise
+    than in SUMO is said in the report."""
     net = read_net(net_path, options.classes, report)
     types = Types(options.seed, report)
     demand = None if trips else Demand(net, types, options.seed, report)

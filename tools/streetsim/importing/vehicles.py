@@ -21,8 +21,8 @@ def vehicles_with_ways(
     net: SumoNet, types: Types, paths: Iterable[str], options: Options, report: Report
 ) -> list[Vehicle]:
     """The vehicles of files of trips, flows and routes, by departure. Those without a route have the way that is
-    shortest with free speed, the waits at signals and the delays that the volumes so far would make; who has none
-    is counted in the report.
+    shortest with free speed, the waits at signals and the delays that the volumes so far would make; who has none is
+    left out, and counted in the report.
 
     Lanes that are joint for works change nothing of it, so that a run and one with works differ by the works alone.
     """

@@ -1,4 +1,4 @@
-"""How much of what a lane can pass is used: v/c."""
+"""How much of what a lane can pass is used: v/c, and the saturation flows behind it."""
 from collections.abc import Iterable, Mapping, Sequence
 from dataclasses import dataclass
 from functools import partial
@@ -8,23 +8,24 @@ from streetsim.junctions.layout import Greens
 from streetsim.junctions.passages import Discharge, LaneLog, Passage, discharges
 from streetsim.model.mapping import Place
 
-QUEUES = 5  # of a lane, from which on its own saturation flow is taken
+QUEUES = 5  # discharges of a lane, from which on its own saturation flow is taken
 # Vehicles an hour that leave a queue of a lane at 50 km/h, by the chance of slowing down (of 1,000),
 # and seconds of green lost at its begin: measured in 40 greens each on a lone cross whose western arm is always full.
 BY_DAWDLE = ((0, 2400), (100, 1935), (170, 1760), (300, 1490))
-USUAL_LOST = -1.5
+USUAL_LOST = -1.5  # seconds of each green; won, as some pass in yellow
 
 
 @dataclass(slots=True)
 class Use:
     """What a lane passed in an interval, and how far it was used."""
 
-    passed: int = 0
-    ratio: float = 0.0  # v/c
+    passed: int = 0  # vehicles
+    ratio: float = 0.0  # v/c, from 0; above 1 where more want to pass than can
 
 
 def usual_flow(dawdle: float) -> float:
-    """The saturation flow, vehicles an hour, of a chance of slowing down (of 1,000), where no queue tells it."""
+    """The saturation flow, vehicles an hour of green, by the chance of slowing down (of 1,000), for lanes where no
+    queue tells it."""
     for (low, more), (high, less) in zip(BY_DAWDLE, BY_DAWDLE[1:]):
         if dawdle <= high:
             return more + (less - more) * (dawdle - low) / (high - low)
@@ -39,14 +40,14 @@ class Saturation:
     lost: float  # seconds of each green that are lost at its begin; less than 0: won
 
     def effective(self, open_: Sequence[bool]) -> float:
-        """Seconds of effective green, of whether each second shows it; one at least."""
+        """Seconds of effective green, one at least; open_: whether each second of an interval shows green."""
         greens = sum(here and not before for before, here in zip([False, *open_], open_))
         return max(1.0, sum(open_) - self.lost * greens)
 
 
 class SaturationFlows:
-    """How lanes pass queues: measured on the lane where there were queues enough,
-    else over all lanes of the run, else as usual."""
+    """How lanes pass queues: measured on the lane itself where there were five discharges, else over all lanes of the
+    run where there were as many together, else as usual."""
 
     def __init__(
         self,
@@ -56,7 +57,8 @@ class SaturationFlows:
         start: int,
         dawdle: float,
     ) -> None:
-        """start: the clock before the logs' first; dawdle: of 1,000."""
+        """passed: the passages over each lane's stop line, in order; logs: of the lanes; start: the clock before the
+        logs' first entry; dawdle: of 1,000."""
         found = {
             place: discharges(those, logs[place], start, partial(greens.begin_of, *place))
             for place, those in passed.items()
@@ -66,12 +68,12 @@ class SaturationFlows:
         self.own = {place: saturation(those) for place, those in found.items() if len(those) >= QUEUES}
 
     def of(self, place: Place) -> Saturation:
-        """How a lane passes queues."""
+        """How a lane passes queues: by itself, else as all do."""
         return self.own.get(place, self.usual)
 
 
 def saturation(those: Sequence[Discharge]) -> Saturation:
-    """The mean of some discharges, one at least."""
+    """The mean saturation flow and lost time of some discharges, one at least."""
     return Saturation(3600 / fmean(one.headway for one in those), fmean(one.lost for one in those))
 
 
@@ -82,7 +84,7 @@ def is_alike(shown: Iterable[frozenset[int] | None], taken: set[int]) -> bool:
 
 
 class Capacity:
-    """The use of lanes over intervals, of which every second is known."""
+    """The use of lanes over intervals of a run that was looked at in every second."""
 
     def __init__(
         self,
@@ -92,10 +94,12 @@ class Capacity:
         flows: SaturationFlows,
         start: int,
     ) -> None:
+        """passed: the passages over each lane's stop line, in order; start: the clock before the logs' first entry."""
         self.greens, self.logs, self.passed, self.flows, self.start = greens, logs, passed, flows, start
 
     def use(self, place: Place, begin: int, end: int, taken: set[int]) -> Use:
-        """The use of a lane from one clock to another; taken: the links to which vehicles go from it."""
+        """The use of a lane from one clock to another; taken: the links to which vehicles go from it. The ratio is 0
+        where nobody passed or nothing was green."""
         passages = [one for one in self.passed.get(place, ()) if begin < one.line <= end]
         shown = [self.greens.at(*place, step)[0] for step in range(begin, end)]
         open_ = [green is None or bool(green & taken) for green in shown]
@@ -109,16 +113,17 @@ class Capacity:
         return Use(len(passages), ratio * (1 + self.growth(place, begin, open_) / len(passages)))
 
     def used(self, place: Place, begin: int, passages: Iterable[Passage], open_: Sequence[bool], flow: float) -> float:
-        """The share of green seconds in which a vehicle that has stood is on the lane, and a headway for each other one
-        that passes; open_: what each second from the begin shows; flow: vehicles an hour."""
+        """v/c of a lane whose vehicles do not all have the same green, 0 to 1: the share of its green seconds with a
+        vehicle on it that has stood, and a headway for each other one that passes. passages, open_ (whether each second
+        from the clock `begin` shows green): of the interval; flow: saturation flow, vehicles an hour."""
         stood, offset = self.logs[place].stood, begin - self.start
         waiting = sum(shown and stood[offset + second] > 0 for second, shown in enumerate(open_))
         alone = sum(not one.stood and one.alone for one in passages)
         return min(1.0, (waiting + alone * 3600 / flow) / sum(open_))
 
     def growth(self, place: Place, begin: int, open_: Sequence[bool]) -> int:
-        """How many more vehicles want to pass than do: the queue that the last green leaves, less that which the first
-        one left."""
+        """By how many vehicles the queue grew that a green leaves, from the first to the last end of green in an
+        interval, 0 at least; open_: whether each second from the clock `begin` shows green."""
         stood, offset = self.logs[place].stood, begin - self.start
         ends = [second for second in range(len(open_) - 1) if open_[second] and not open_[second + 1]]
         first, last = (ends[0], ends[-1]) if ends else (0, len(open_) - 1)

@@ -17,11 +17,11 @@ class Approach:
     """The way to a junction: the edge that leads to it, and those before that this edge alone continues."""
 
     edge: str
-    junction: str
+    junction: str  # its name, of a roundabout that of its first node
     control: str  # SIGNALS, PRIORITY or ROUNDABOUT
     links: list[int]  # that the edge became
     metres: float  # of its edge
-    lanes: list[Place] = field(default_factory=list)
+    lanes: list[Place] = field(default_factory=list)  # (link, lane) of its edge
     movements: dict[str, str] = field(default_factory=dict)  # next edge: L, T, R or U
     before: list[list[int]] = field(default_factory=list)  # links of each edge before, the nearest first
     whole: float = 0.0  # metres, with the edges before
@@ -33,14 +33,15 @@ class Approach:
 
 
 def places_of(approaches: Mapping[str, Approach], mapping: Map) -> list[Place]:
-    """All (link, lane) of some approaches."""
+    """All (link, lane) of some approaches, with the edges before them."""
     links = [link for approach in approaches.values() for link in approach.all_links]
     return [(link, lane) for link in links for lane in range(len(mapping.links[link].lanes))]
 
 
 def approaches_of(mapping: Map) -> dict[str, Approach]:
-    """The approaches by edge: of junctions with signals, of others with two edges in, two out and five in all, and of
-    roundabouts, each one junction whose approaches are its entries."""
+    """The approaches by edge: of junctions with signals, of others with at least two edges in, two out and five in all,
+    and of roundabouts, each one junction whose approaches are its entries. Edges from which no turn leads are left
+    out."""
     lit, rings = {node for _, node in mapping.signals}, rings_of(mapping)
     real = real_nodes(mapping)
     found = {}
@@ -62,7 +63,7 @@ def approaches_of(mapping: Map) -> dict[str, Approach]:
 
 
 def real_nodes(mapping: Map) -> set[int]:
-    """The nodes with two edges in, two out and five in all."""
+    """The nodes with at least two edges in, two out and five in all."""
     ends, begins = defaultdict(set), defaultdict(set)
     for link in mapping.links:
         ends[link.end].add(link.edge)
@@ -72,7 +73,7 @@ def real_nodes(mapping: Map) -> set[int]:
 
 
 def rings_of(mapping: Map) -> dict[int, int]:
-    """The nodes of roundabouts, each with the least node of its roundabout."""
+    """The nodes of roundabouts, each with the least number of a node of its roundabout."""
     least: dict[int, int] = {}
     edges = [link for link in mapping.links if link.edge in mapping.rings]
     for link in edges:
@@ -85,8 +86,8 @@ def rings_of(mapping: Map) -> dict[int, int]:
 
 
 def follow_back(mapping: Map, approaches: Mapping[str, Approach], junctions: Collection[int]) -> None:
-    """Finds the edges before each approach that it alone continues, back to the last junction (nodes), and notes them
-    there."""
+    """Notes in each approach the edges before it that lead to it alone, back to the last of some junctions (nodes), and
+    its length with them."""
     before, after = defaultdict(set), defaultdict(set)
     for turn in mapping.turns:
         source, target = mapping.links[turn.link], mapping.links[turn.next]
@@ -106,14 +107,14 @@ def follow_back(mapping: Map, approaches: Mapping[str, Approach], junctions: Col
 
 
 def ways_that_stop(mapping: Map) -> set[tuple[str, str]]:
-    """The ways (edge, next edge) of those who have to stop, at a sign or as all do."""
+    """The ways (edge, next edge) of those who always have to stop, as at a stop sign."""
     paced = (turn for one in mapping.yields if one.pace is not None for turn in one.turns)
     return {(mapping.links[link].edge, mapping.links[following].edge) for link, _, following in paced}
 
 
 def cut_short(mapping: Map, approaches: Mapping[str, Approach]) -> list[str]:
-    """The edges of approaches to which edges lead of which no table has a row: the delay of a queue that goes on there
-    is nowhere."""
+    """The edges of approaches to which further edges lead that no table has: a queue that goes on there has its delay
+    nowhere."""
     before = defaultdict(set)
     for turn in mapping.turns:
         before[mapping.links[turn.next].edge].add(mapping.links[turn.link].edge)
@@ -123,7 +124,8 @@ def cut_short(mapping: Map, approaches: Mapping[str, Approach]) -> list[str]:
 
 
 def turn_name(source: Shape, target: Shape) -> str:
-    """L, T (through), R or U (back), by the directions of the lines before and after the junction."""
+    """L (left), T (through), R (right) or U (back), by the directions of the lines before and after a junction; points
+    (x, y), two at least of each."""
     turned = (heading(*target[:2]) - heading(*source[-2:]) + 180) % 360 - 180
     if abs(turned) < STRAIGHT:
         return "T"
@@ -131,14 +133,16 @@ def turn_name(source: Shape, target: Shape) -> str:
 
 
 def heading(begin: Sequence[float], end: Sequence[float]) -> float:
-    """Degrees clockwise from north."""
+    """The direction from one point (x, y) to another, degrees clockwise from north, -180 to 180."""
     return degrees(atan2(end[0] - begin[0], end[1] - begin[1]))
 
 
 class Greens:
-    """What the signals of a run show to each lane; always green where there are none."""
+    """What the signals of a run show to each lane; steps are clocks at their begin. A node without a light always shows
+    green to all."""
 
     def __init__(self, mapping: Map, signals: Iterable[Sent]) -> None:
+        """signals: (clock at which it is sent, command), in any order."""
         self.mapping = mapping
         # For each node: (clock from which it holds, command).
         self.plans: defaultdict[int, list[Sent]] = defaultdict(list)
@@ -150,12 +154,14 @@ class Greens:
         self.shown: dict[tuple[int, int | None, int, int], list[frozenset[int]]] = {}
 
     def plan_at(self, node: int, step: int) -> tuple[int | None, Command | None]:
-        """The place of the plan that holds in a step at a node, and its command; none for both before the first."""
+        """The place of the plan that holds in a step at a node, among the node's, and its command; none for both before
+        the first."""
         held = [(place, command) for place, (clock, command) in enumerate(self.plans[node]) if clock <= step]
         return held[-1] if held else (None, None)
 
     def at(self, link: int, lane: int, step: int) -> tuple[frozenset[int] | None, Any]:
-        """The links to which a lane has green in a step, none for all; and what names the cycle that the step is in."""
+        """The links to which a lane has green in a step, none for all; and a value that is equal for all steps of one
+        cycle, where there is no signal for those of one minute."""
         node = self.mapping.links[link].end
         place, command = self.plan_at(node, step) if node in self.plans else (None, None)
         if command is None:
@@ -165,8 +171,8 @@ class Greens:
         return seconds[second], (place, cycle)
 
     def begin_of(self, link: int, lane: int, step: int) -> int | None:
-        """The step in which the green of a lane began that it has in a step;
-        none where it has none, or all the time."""
+        """The step in which the green of a lane began that it has in a step; none where it has none then, or has had it
+        for 600 steps or always."""
         for back in range(step, step - CYCLE_MOST, -1):
             shown = self.at(link, lane, back)[0] if back >= 0 else frozenset()
             if shown is None:
@@ -176,7 +182,8 @@ class Greens:
         return None
 
     def seconds(self, node: int, place: int | None, command: Command, link: int, lane: int) -> list[frozenset[int]]:
-        """For each second of a plan's cycle the links to which a lane has green."""
+        """For each second of a plan's cycle the links to which a lane has green; place: of the plan among those of the
+        node."""
         key = node, place, link, lane
         if key not in self.shown:
             self.shown[key] = [

@@ -1,4 +1,4 @@
-"""What vehicles lost on approaches and how far lanes were used, from looks at every second."""
+"""What vehicles lost on approaches and how far lanes were used, of a run that was looked at in every second."""
 from collections import Counter, defaultdict
 from collections.abc import Collection, Iterable, Mapping, Sequence
 from dataclasses import dataclass, field
@@ -19,22 +19,22 @@ Way = tuple[str, str]  # an edge and the next one
 
 @dataclass(slots=True)
 class Crossing:
-    """A passage that goes on to another edge."""
+    """A passage of an approach that goes on to another edge, with what it lost."""
 
     movement: Way
     clock: int  # at which it ended
-    place: Place
-    delay: float  # control delay, seconds; less than 0 where it was lucky
+    place: Place  # lane of the stop line
+    delay: float  # control delay, seconds; less than 0 for one who was quicker than the mean alone
     stops: int
     stood: int  # seconds
-    following: int  # link
+    following: int  # the next link
 
 
 @dataclass(slots=True)
 class Totals:
-    """What vehicles lost, as means a vehicle."""
+    """What some vehicles lost, as means of one vehicle."""
 
-    vehicles: int
+    vehicles: int  # how many
     delay: float  # control delay, seconds
     stood: float  # seconds
     stops: float | None  # none where it is not known
@@ -43,7 +43,7 @@ class Totals:
 
 @dataclass(slots=True)
 class Interval:
-    """What is known of an interval."""
+    """What is known of an interval, by way (edge, next edge) or by lane (link, lane)."""
 
     begin: int
     end: int
@@ -55,7 +55,7 @@ class Interval:
 
 
 def totals(crossings: Collection[Crossing]) -> Totals:
-    """The means of crossings, one at least."""
+    """The means of crossings, one at least; the delay is at least the seconds of standing."""
     return Totals(
         len(crossings),
         max(fmean(one.stood for one in crossings), fmean(one.delay for one in crossings)),
@@ -65,7 +65,7 @@ def totals(crossings: Collection[Crossing]) -> Totals:
 
 
 def together(parts: Iterable[Totals]) -> Totals:
-    """The means of the vehicles of several movements, of which some drive."""
+    """The means over all vehicles of several movements, of which at least one has vehicles."""
     parts = [part for part in parts if part.vehicles]
     count = sum(part.vehicles for part in parts)
 
@@ -79,15 +79,15 @@ def together(parts: Iterable[Totals]) -> Totals:
 
 
 def stop_loss(approach: Approach, target: str) -> float:
-    """Seconds that a vehicle which stops loses beyond what is seen, by the next edge. Of those that turn at a light the
-    import has put it into the green, of which it leaves out seconds."""
+    """Seconds that a vehicle which stops on an approach loses beyond what is seen; target: the next edge. 0 for those
+    that turn at a light: the import has put it into the green, of which it leaves out seconds."""
     if approach.control == SIGNALS and approach.movements[target] != "T":
         return 0.0
     return STOP_LOSS[0] if len(approach.lanes) == 1 else STOP_LOSS[1]
 
 
 class Measures:
-    """The measures of a run that was looked at in every second; plans: links of vehicles, by number."""
+    """The measures of a run that was looked at in every second."""
 
     def __init__(
         self,
@@ -98,7 +98,7 @@ class Measures:
         plans: Sequence[Sequence[int]],
         passages: Passages,
     ) -> None:
-        """dawdle: of 1,000; plans: links of vehicles, by number."""
+        """dawdle: of 1,000; plans: links of vehicles, by number; passages: of the whole run."""
         self.mapping, self.approaches, self.plans, self.passages = mapping, approaches, plans, passages
         self.alone, self.greens = Alone(mapping, dawdle / 1000), Greens(mapping, signals)
         self.stopping = ways_that_stop(mapping)
@@ -127,7 +127,7 @@ class Measures:
         return Crossing(movement, passage.end, place, delay, passage.stops, passage.stood, plan[at + 1])
 
     def interval(self, begin: int, end: int) -> Interval:
-        """What is known from one clock to another."""
+        """What is known from one clock (not included) to another."""
         found = Interval(begin, end)
         crossings = defaultdict(list)
         for one in self.crossings:
@@ -143,7 +143,8 @@ class Measures:
         return found
 
     def queues(self, place: Place, begin: int, end: int) -> list[float]:
-        """The longest queue of a lane in each cycle of its signal from one clock to another, metres."""
+        """The longest queue of a lane, in metres, in each cycle of its signal from one clock to another; without a
+        signal in each minute."""
         longest: defaultdict[Any, float] = defaultdict(float)
         back = self.passages.logs[place].back
         for step in range(begin, end):

@@ -39,7 +39,7 @@ class Passage:
 
 @dataclass(slots=True)
 class LaneLog:
-    """What a lane of an approach showed at each clock."""
+    """What a lane of an approach showed at each clock of a run, from the first after the start."""
 
     back: array[float] = field(default_factory=lambda: array("f"))  # metres from the stop line to the rear of the queue
     stood: array[int] = field(default_factory=lambda: array("H"))  # vehicles on it that have stood there
@@ -49,6 +49,7 @@ class Passages:
     """The passages of a run over some approaches."""
 
     def __init__(self, mapping: Map, approaches: Mapping[str, Approach], start: int) -> None:
+        """start: the clock at the run's begin."""
         self.mapping, self.start = mapping, start
         self.lanes = [place for approach in approaches.values() for place in approach.lanes]
         self.edges = {link: edge for edge, approach in approaches.items() for link in approach.all_links}
@@ -58,7 +59,7 @@ class Passages:
         self.logs = {place: LaneLog() for place in self.lanes}
 
     def see(self, frame: Frame) -> None:
-        """Takes the look at a clock; the clocks of a run are given one after another."""
+        """Takes the look at a clock (`Frame`); all clocks of a run are given, rising, without one left out."""
         clock, seen, shown = frame["clock"], set(), {}
         for link, lane, cells, buffer, *_ in frame["lanes"]:
             if link not in self.edges:
@@ -75,7 +76,7 @@ class Passages:
         self.note_lanes(shown)
 
     def note(self, clock: int, car: int, link: int, lane: int, standing: bool) -> None:
-        """Notes a vehicle on the cells of an approach."""
+        """Notes a vehicle on the cells of an approach at a clock; standing: as `who_stand` has it."""
         passage = self.passage(clock, car, link)
         passage.link, passage.lane = link, lane
         if clock == passage.begin:  # who departs stands then, which is no stop
@@ -85,7 +86,8 @@ class Passages:
         passage.stood += passage.still >= STILL if self.mapping.links[link].limit == 1 else standing
 
     def passage(self, clock: int, car: int, link: int) -> Passage:
-        """The passage of a vehicle on a link's edge; a new one where it comes from another."""
+        """The passage of a vehicle on the approach of a link; a new one where it was on none, or comes from another,
+        whose passage ends."""
         passage, edge = self.here.get(car), self.edges[link]
         if passage is not None and passage.edge == edge:
             return passage
@@ -95,7 +97,7 @@ class Passages:
         return made
 
     def note_crossing(self, clock: int, car: int, link: int, lane: int) -> None:
-        """Notes a vehicle in the junction behind a lane."""
+        """Notes a vehicle in the junction behind a lane at a clock; not in one between two edges of an approach."""
         passage = self.passage(clock, car, link)
         if link not in self.before:  # between two edges of the approach
             return
@@ -115,13 +117,14 @@ class Passages:
         self.done.append(passage)
 
     def note_lanes(self, shown: Mapping[Place, Cells]) -> None:
-        """Notes the queue of each lane; shown: the cells of those on which anything is."""
+        """Adds to the log of each lane; shown: the cells of the replies of lanes with anything on them."""
         for place, log in self.logs.items():
             log.back.append(self.queue_at(place, shown))
             log.stood.append(sum(self.here[entry[0]].stood > 0 for entry in shown.get(place, ())))
 
     def queue_at(self, place: Place, shown: Mapping[Place, Cells]) -> float:
-        """Metres of the queue of a lane; where it fills the lane, with those on the edges before."""
+        """Metres of the queue of a lane, from its stop line; where it fills the lane, with the longest one on the edges
+        before. shown: the cells by lane."""
         metres = self.queue_on(place, shown)
         full = self.mapping.links[place[0]].metres
         for links in self.before[place[0]]:
@@ -133,14 +136,15 @@ class Passages:
         return metres
 
     def queue_on(self, place: Place, shown: Mapping[Place, Cells]) -> float:
-        """Metres of the queue from a lane's end, on this lane alone."""
+        """Metres of the queue from a lane's end on this lane alone, of those who have stood for two seconds."""
         still = [entry for entry in shown.get(place, ()) if self.here[entry[0]].still >= STILL]
         return queue_metres(still, self.mapping.links[place[0]])
 
 
 def who_stand(cells: Cells, link: MapLink) -> list[bool]:
-    """Of the vehicles of a lane, from the greatest cell, whether each stands. Where they move by one cell a step who
-    dawdles has no speed either: there only those stand who have another, or the lane's end, right before them."""
+    """Whether each vehicle of a lane stands, in the order of its cells (the greatest first). Where they move by one
+    cell a step, who dawdles has no speed either: there only those stand who have another, or the lane's end, right
+    before them."""
     if link.limit > 1:
         return [not entry[2] for entry in cells]
     rears = [link.cells, *(entry[1] - size_of(entry) + 1 for entry in cells)]
@@ -149,7 +153,7 @@ def who_stand(cells: Cells, link: MapLink) -> list[bool]:
 
 def queue_metres(still: Cells, link: MapLink) -> float:
     """Metres from the stop line to the rear of the last vehicle of the queue; still: the entries of those who stand,
-    from the greatest cell."""
+    the greatest cell first. A gap of 20 m ends the queue; 0 where nobody stands near the line."""
     size, back, reach = link.metres / link.cells, 0.0, REACH
     for entry in still:
         ahead = (link.cells - 1 - entry[1]) * size

@@ -16,8 +16,9 @@ MOST_LOOKS = 8_000_000  # at a lane in every second of a run; where there would 
 
 
 def write_junctions(made: Recorded, interval: int) -> tuple[list[str], list[str]]:
-    """Writes movements.csv, approaches.csv and junctions.csv into the folder of a run, with rows of so many seconds.
-    Gives what is to be told of how they were made, and why they are not to be trusted, if anything."""
+    """Writes movements.csv, approaches.csv and junctions.csv into the folder of a run, with rows of `interval` seconds.
+    Gives sentences for the terminal on how they were made, and doubts: why they are not to be trusted; both may be
+    empty."""
     run, start, until = made.run, made.run.start(), made.settings.until
     approaches = approaches_of(made.mapping)
     lanes = places_of(approaches, made.mapping)
@@ -53,13 +54,13 @@ def write_junctions(made: Recorded, interval: int) -> tuple[list[str], list[str]
 
 
 def arrivals_of(records: Records) -> list[int | None]:
-    """The clock at which each vehicle arrived, or none."""
+    """The clock at which each vehicle arrived, by number; none for one that did not."""
     ends = (end.step if end is not None and end.state == "arrived" else None for end in records.ends)
     return [None if step is None else step + 1 for step in ends]
 
 
 def of_queues(approaches: Sequence[str]) -> tuple[list[str], list[str]]:
-    """What is to be told of approaches beyond which queues went on, and why their rows are not to be trusted."""
+    """A sentence for the terminal, and a doubt, on approaches beyond which queues went on; both empty for none."""
     if not approaches:
         return [], []
     small, found = "delays, letters and queues are too small", some(approaches)

@@ -12,7 +12,8 @@ MOVEMENT_SHARE = 0.05  # of a movement's vehicles, from which on a lane counts f
 
 
 class Tables:
-    """Rows of one interval after the other, by junction, approach and movement; those of nobody are left out."""
+    """The rows of the three tables, one interval after the other; movements, approaches and junctions that nobody used
+    in an interval have none."""
 
     def __init__(self, approaches: Mapping[str, Approach]) -> None:
         self.by_junction: defaultdict[str, list[Approach]] = defaultdict(list)
@@ -23,7 +24,7 @@ class Tables:
         self.junctions: list[Entry] = []
 
     def add(self, interval: Interval) -> None:
-        """Adds the rows of an interval."""
+        """Adds the rows of an interval to all three tables."""
         for junction, approaches in sorted(self.by_junction.items()):
             found = [one for approach in approaches if (one := self.add_approach(interval, approach))]
             if found:
@@ -33,8 +34,8 @@ class Tables:
                 self.junctions.append((interval.begin, interval.end, junction, control, *told(lost, interval), *last))
 
     def add_approach(self, interval: Interval, approach: Approach) -> tuple[Totals, float, float] | None:
-        """Adds the rows of an approach and its movements; gives what its vehicles lost, its longest queue and the
-        greatest v/c of its movements; none where nobody is."""
+        """Adds the rows of an approach and of its movements; gives what its vehicles lost, metres of its longest queue,
+        and the greatest v/c of its movements; none where nobody used it."""
         parts, ratios = [], []
         for target, name in sorted(approach.movements.items()):
             if (approach.edge, target) in interval.lost:
@@ -49,7 +50,8 @@ class Tables:
         return lost, max((queue for lane in queues for queue in lane), default=0.0), max(ratios)
 
     def add_movement(self, interval: Interval, approach: Approach, target: str, name: str) -> float:
-        """Adds the row of a movement, by the next edge and its letter; gives its v/c."""
+        """Adds the row of a movement of an approach; target: the next edge; name: L, T, R or U. Gives its v/c, 0 where
+        its capacity is not known."""
         lost, lanes = interval.lost[approach.edge, target], interval.lanes[approach.edge, target]
         count = max(1, sum(lanes.values()))
         hours = (interval.end - interval.begin) / 3600
@@ -67,7 +69,7 @@ class Tables:
         return ratio
 
     def filled(self) -> set[str]:
-        """The approaches that a queue filled in any interval."""
+        """The edges of the approaches that a queue filled in any interval."""
         at = [APPROACHES.index(name) for name in ("approach", "queue_max_m", "storage_m")]
         rows = ([row[place] for place in at] for row in self.approaches)
         return {edge for edge, queue, metres in rows if fills(float(queue), float(metres))}
@@ -80,7 +82,7 @@ class Tables:
 
 
 def told(lost: Totals, interval: Interval) -> tuple:
-    """The columns LOST, as texts."""
+    """The columns LOST of a row, as texts; empty where a value is not known."""
     hourly = lost.vehicles * 3600 / (interval.end - interval.begin)
     error = "" if lost.error is None else f"{lost.error:.1f}"
     stops = "" if lost.stops is None else f"{lost.stops:.2f}"
@@ -88,8 +90,8 @@ def told(lost: Totals, interval: Interval) -> tuple:
 
 
 def worst(lanes: Collection[Sequence[float]], metres: float) -> tuple:
-    """The columns QUEUED, of the lane with the longest queue by its 95 %; lanes: metres of the queues of each; metres:
-    of the approach."""
+    """The columns QUEUED of a row, in metres, of the lane whose queues have the greatest 95 % value; lanes: metres of
+    the queues of each; metres: the approach's length, for the column of the room."""
     queues = max(lanes, key=lambda lane: percentile(lane, 0.95), default=[])
     values = percentile(queues, 0.5), percentile(queues, 0.95), max(queues, default=0.0), metres
     return tuple(f"{value:.1f}" for value in values)

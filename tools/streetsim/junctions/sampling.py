@@ -1,4 +1,5 @@
-"""Delays by Little's law, from looks at random moments: vehicles on an approach are their flow by their time on it."""
+"""Delays by Little's law, from looks at random moments: as many vehicles are on an approach as their flow times their
+time on it."""
 from collections import Counter, defaultdict
 from collections.abc import Mapping, Sequence
 from random import Random
@@ -16,7 +17,7 @@ from streetsim.model.mapping import Map, Place
 from streetsim.model.runs import Run
 from streetsim.sumo.losses import STOPPING
 
-LOOKS = 30  # a quarter hour
+LOOKS = 30  # in a quarter hour
 QUARTER = 900  # seconds
 NEAR = 2  # seconds of driving before the stop line, in which a vehicle uses its green
 NORMAL = 1.96  # half the 95 % interval of a normal distribution, in standard deviations
@@ -31,7 +32,7 @@ def moments(start: int, until: int) -> list[int]:
 
 
 class Sampled:
-    """The measures of a run that was looked at now and then."""
+    """The measures of a run that was looked at now and then; intervals are numbered from 0."""
 
     def __init__(
         self,
@@ -66,7 +67,7 @@ class Sampled:
         self.unlike: set[Place] = set()  # (link, lane) of which not all vehicles have the same green
 
     def see(self, frame: Frame) -> None:
-        """Takes the look at a clock."""
+        """Takes the look at a clock (`Frame`); clocks rise."""
         clock = frame["clock"]
         at = (clock - 1 - self.start) // self.width
         seen: defaultdict[Way, list[int]] = defaultdict(lambda: [0, 0])
@@ -87,8 +88,8 @@ class Sampled:
     def note(
         self, at: int, clock: int, car: int, place: Place, standing: bool, seen: defaultdict[Way, list[int]]
     ) -> None:
-        """Notes a vehicle on an approach, in an interval by its number: it has passed all before it since it was seen
-        last. seen: of each movement vehicles and standing ones at this look."""
+        """Notes a vehicle on an approach: it has left all links of its plan before it since it was seen last. at:
+        number of the interval; seen: by movement [vehicles, standing ones] of this look, to which it is added."""
         plan, link = self.plans[car], place[0]
         before, since = self.last.get(car, (0, self.departs[car]))
         here = next((step for step in range(before, len(plan)) if plan[step] == link), None)
@@ -104,8 +105,8 @@ class Sampled:
                 self.taken[place].add(plan[here + 1])
 
     def movement(self, plan: Sequence[int], place: int) -> Way | None:
-        """The way over the junction behind the approach on which a vehicle is at a place of its plan; none where that
-        ends before."""
+        """The way (edge, next edge) over the junction behind the approach on which a vehicle is at a place of its plan;
+        none where it is on no approach, or the plan ends before the junction."""
         edge = self.edges.get(plan[place])
         last = next((at for at in range(place, len(plan) - 1) if plan[at] in self.lasts), None)
         if edge is None or last is None or self.edges[plan[last]] != edge:
@@ -113,7 +114,8 @@ class Sampled:
         return edge, self.mapping.links[plan[last + 1]].edge
 
     def pass_by(self, plan: Sequence[int], before: int, since: float, here: int, clock: float) -> None:
-        """Notes the approaches that a vehicle left from one place of its plan to another, evenly between two clocks."""
+        """Notes the approaches that a vehicle left between two places of its plan, before and here, as if it had gone
+        evenly from the clock `since` to `clock`."""
         for step, place in enumerate(range(before, here)):
             moment = since + (step + 0.5) * (clock - since) / (here - before)
             if movement := self.movement(plan, place):
@@ -123,7 +125,8 @@ class Sampled:
                 self.free[at, movement] += self.alone.approach(plan, place)
 
     def note_lane(self, at: int, clock: int, place: Place, cells: Cells) -> None:
-        """Notes a lane's queue at a look, and whether its green is used; cells: of its reply."""
+        """Notes a lane's queue at a look, whether it has green, and whether a vehicle near the stop line uses that. at:
+        number of the interval; cells: of its reply."""
         link = self.mapping.links[place[0]]
         still = [entry for entry, standing in zip(cells, who_stand(cells, link), strict=True) if standing]
         queue = queue_metres(still, link)
@@ -137,7 +140,7 @@ class Sampled:
             self.greens_used[at, *place] += bool(cells) and link.cells - 1 - cells[0][1] < NEAR * link.limit
 
     def finish(self) -> Self:
-        """Takes the way of those who have arrived since they were seen last."""
+        """Adds what those passed who have arrived since they were seen last; called once, after the last look."""
         for car, arrival in enumerate(self.arrivals):
             if arrival is not None:
                 before, since = self.last.get(car, (0, self.departs[car]))
@@ -145,7 +148,8 @@ class Sampled:
         return self
 
     def interval(self, begin: int, end: int) -> Interval:
-        """What is known of an interval, of the width that was asked for."""
+        """What is known from one clock to another, which are the bounds of an interval of the width that was asked
+        for."""
         at, found = (begin - self.start) // self.width, Interval(begin, end)
         looks = self.looks[at]
         for movement, count in self.passed[at].items():
@@ -163,8 +167,9 @@ class Sampled:
         return found
 
     def ratio(self, at: int, place: Place, hourly: float) -> float:
-        """v/c of a lane in an interval, by its number, by its saturation flow, or by how often a vehicle was near the
-        stop line at green. hourly: vehicles that pass."""
+        """v/c of a lane in an interval by its number: by its saturation flow, or, where not all its vehicles have the
+        same green, by how often one was near the stop line at green; 0 where it was not seen green. hourly: vehicles an
+        hour that pass."""
         seen = self.greens_seen[at, *place]
         if not seen:
             return 0.0
@@ -173,8 +178,9 @@ class Sampled:
         return hourly / (usual_flow(self.dawdle) * seen / self.looks[at])
 
     def lost(self, at: int, movement: Way, count: int, looks: int, seconds: int) -> Totals:
-        """What vehicles of a movement lost in an interval, by its number, by Little's law; the share that stops is that
-        of even arrivals. count: vehicles that passed; looks: in the interval; seconds: of it."""
+        """What the vehicles of a movement lost in an interval, by its number, by Little's law; the share that stops is
+        that of even arrivals, and how often they stop is not known. count: vehicles that passed, one at least; looks:
+        in the interval; seconds: its length."""
         seen = self.present[at, movement]
         vehicles = [number for number, _ in seen] + [0] * (looks - len(seen))
         if not looks:
@@ -188,8 +194,9 @@ class Sampled:
         return Totals(count, delay + loss * self.share_stopping(at, movement, rate), stood, None, error)
 
     def share_stopping(self, at: int, movement: Way, rate: float) -> float:
-        """The share of a movement's vehicles that stop. Of even arrivals those do that come at red, or while its queue
-        leaves: red over 1 less flow over saturation flow, both as shares of the cycle. rate: vehicles a second."""
+        """The share, 0 to 1, of a movement's vehicles that stop in an interval, by its number. Of even arrivals those
+        do that come at red, or while its queue leaves: red over 1 less flow over saturation flow, both as shares of the
+        cycle. rate: vehicles a second."""
         lanes = self.on_lanes[at, movement]
         looks = sum(self.looks[at] for _ in lanes)
         green = sum(self.greens_seen[at, *place] for place in lanes) / looks if looks else 1.0

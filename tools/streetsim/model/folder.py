@@ -68,7 +68,7 @@ class Folder:
     def polls(self) -> Iterator[Frame]:
         """What stood on the lanes at each poll, rising: {"clock", "lanes": [link, lane, [[car, cell, speed], ..], [cars
         in the buffer], closed stretches]}; the size of a car stands after its speed where it is above 1. Lanes with
-        nothing on them are left out."""
+        nothing on them, behind them and closed are left out, as are those that were not polled."""
         path = f"{self.path}/lanes.jsonl.gz"
         with reading(path), open_text(path) as file:
             yield from map(json.loads, file)
