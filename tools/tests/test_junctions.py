@@ -336,8 +336,8 @@ class OfARun(Case):
             self.assertEqual(out.splitlines()[-1].startswith(f"not to be trusted: {why}"), said, (cells, out))
             self.tool("report", self.folder / "out", "-o", self.folder / "page.html")
             page = (self.folder / "page.html").read_text(encoding="utf-8")
-            self.assertEqual("nothing speaks against this run" in page, not said)
-            self.assertEqual(f"<li>seed 0: {why}" in page, said)
+            self.assertEqual("nothing that a run checks of itself speaks against it" in page, not said)
+            self.assertEqual(f"is not to be trusted: seed 0: {why}" in page, said)
             row = self.table("out", "approaches", APPROACHES)[0]
             whole = float(row["storage_m"]) == 7.5 * (cells + 10)
             self.assertEqual((row["approach"], whole), ("a", not joins))

@@ -63,7 +63,8 @@ def told_of_polls(run: Run, mapping: Map, settings: Settings) -> str:
     polled = [place for place in places if not settings.edges or mapping.links[place[0]].edge in settings.edges]
     polls = LOOK * len(polled) * (steps // every) if every else 0.0
     free, enters = FreeFlow(mapping, run.load.command.get("dawdle", 0) / 1000), [line.command for line in run.enters]
-    moved = sum(max(0.0, min(free(one["plan"]), settings.until - one["depart"])) for one in enters)
+    known = [one for one in enters if all(0 <= link < len(mapping.links) for link in one["plan"])]  # others are refused
+    moved = sum(max(0.0, min(free(one["plan"]), settings.until - one["depart"])) for one in known)
     rescues = LOOK * len(places) * (steps // MINUTE) if settings.rescue else 0.0
     itself = MOVE * moved + LINE * len(enters) + rescues
     if polls < max(LONG, itself):
