@@ -1,1 +1,1 @@
-"""The commands of an installation, and how they say how far they are."""
+"""The commands: each module reads the words of one, has the packages below do the work, and prints what came of it."""

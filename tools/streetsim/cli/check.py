@@ -23,10 +23,11 @@ from streetsim.reports.seal import Seal, files_of, seal_of
 from streetsim.reports.sealing import COUNTS, NAMES, drawn_by, tools_sum
 from streetsim.results.tallying import Compared, compared
 
-MOST = 3  # differences told
+MOST = 3  # differences that the line names
 
 
 def parser() -> Parser:
+    """The words that streetsim-check takes."""
     made = Parser(
         prog="streetsim-check",
         description="Runs again what made a page of streetsim-report --sealed, a folder of streetsim-run or one of "
@@ -42,6 +43,7 @@ def parser() -> Parser:
 
 
 def main(arguments: list[str]) -> int:
+    """Runs streetsim-check; gives its status: 0 where each number is that of a run, else 1."""
     words = parser().parse_args(arguments)
     words.program = program.find_program(words.program)
     study = os.path.isdir(words.target) and is_study(words.target)
@@ -53,7 +55,7 @@ def main(arguments: list[str]) -> int:
 
 
 def check_page(words: argparse.Namespace) -> int:
-    """Checks a sealed page; gives the status."""
+    """Checks a sealed page; gives the status as `main` does. Fault where it is not sealed, or its seal was changed."""
     with reading(words.target), open_text(words.target) as file:
         text = file.read()
     seal = seal_of(words.target, text)
@@ -74,7 +76,8 @@ def check_page(words: argparse.Namespace) -> int:
 
 
 def tell(target: str, found: Sequence[Difference], good: str, note: str = "") -> int:
-    """Prints the one line; gives the status."""
+    """Prints the one line of the result; gives the status. good: what to say where nothing differs; note: what to add
+    in any case."""
     if not found:
         print(f"{target}: {good}{note}")
         return 0
@@ -86,7 +89,7 @@ def tell(target: str, found: Sequence[Difference], good: str, note: str = "") ->
 
 
 def page_again(words: argparse.Namespace, seal: Seal) -> str:
-    """The page that the sealed files and words give, with the same seal."""
+    """The page that the sealed files and words give now, with the same seal; Fault where they give none."""
     refuse_elsewhere(words.target, seal)
     with tempfile.TemporaryDirectory() as place:
         for name, content in files_of(seal, words.target):
@@ -111,7 +114,7 @@ def refuse_elsewhere(target: str, seal: Seal) -> None:
 
 
 def made_again(words: argparse.Namespace, seal: Seal, place: str) -> str:
-    """The page, of sealed files that lie at a place."""
+    """The page, of sealed files that were unpacked into the folder `place`; runs are written there too."""
     plans = seal.content["plans"]
     folders = [f"{place}/out-{at}" for at in range(len(plans))]
     for plan, folder in zip(plans, folders, strict=True):
@@ -130,7 +133,7 @@ def made_again(words: argparse.Namespace, seal: Seal, place: str) -> str:
 
 
 def check_folder(words: argparse.Namespace, study: bool) -> int:
-    """Checks a folder of a run, or of a study; gives the status."""
+    """Checks a folder of a run, or of a study; gives the status as `main` does."""
     counts = Compared()
     with tempfile.TemporaryDirectory() as place, Slow(f"running again what made {words.target}"):
         with contextlib.redirect_stdout(io.StringIO()), contextlib.redirect_stderr(io.StringIO()):

@@ -1,4 +1,4 @@
-"""Runs again what a folder of a run or of a study keeps."""
+"""Runs again what a folder of a run or of a study keeps, for streetsim-check."""
 import argparse
 import os
 import tempfile
@@ -15,19 +15,20 @@ from streetsim.results.reading import read_folders
 
 
 def seeds_words(seeds: Sequence[int]) -> list[str]:
-    """The words that name seeds; Fault where these do not follow each other."""
+    """The words of streetsim-run that name seeds, one at least; Fault where these do not follow each other."""
     if list(seeds) != list(range(seeds[0], seeds[0] + len(seeds))):
         raise Fault(f"seeds {', '.join(map(str, seeds))} do not follow each other: the runs of some were taken away")
     return [f"--seeds={seeds[0]}-{seeds[-1]}"]
 
 
 def machine_words(words: argparse.Namespace) -> list[str]:
-    """The words that say by what it is run again."""
+    """The words that name the program and how many runs go side by side, as they were given."""
     return ["--program", words.program, "--jobs", str(words.jobs)]
 
 
 def folder_again(words: argparse.Namespace, out: str) -> str:
-    """Makes the runs of a folder again, into another one; gives the part of it that is as the folder."""
+    """Makes the runs of the folder `words.target` again, into `out`; gives the folder that stands for it: `out`, or
+    that of the seed where the target is of one seed of several."""
     plan, files = plan_of(read_folders(words.target), 1)
     with tempfile.TemporaryDirectory() as place:
         os.mkdir(f"{place}/plan-1")
@@ -46,7 +47,8 @@ def is_study(folder: str) -> bool:
 
 
 def study_again(words: argparse.Namespace, out: str) -> str:
-    """Makes a study again, into another folder, which it gives; Fault where its file has changed since."""
+    """Makes the study of the folder `words.target` again, into `out`, which it gives; Fault where its file has changed
+    since."""
     made = read_json(f"{words.target}/{MADE}", ("study", "sum", "words"))
     path = words.study or os.path.join(words.target, made["study"])
     if sum_of(path) != made["sum"]:

@@ -16,6 +16,7 @@ from streetsim.results.compare import compare_edges, compare_trips, edges_of, re
 
 
 def parser() -> argparse.ArgumentParser:
+    """The words that streetsim-compare takes."""
     made = Parser(
         prog="streetsim-compare",
         description="Compares a run with SUMO's tripinfo and, if given, edgeData of the same periods; or with counts.",
@@ -45,6 +46,7 @@ def parser() -> argparse.ArgumentParser:
 
 
 def main(arguments: list[str]) -> int:
+    """Runs streetsim-compare; gives its status, as `with_sumo` or `with_counts` says."""
     words = parser().parse_args(arguments)
     sumo, counts = files_of(words.sumo), files_of(words.counts)
     if not sumo and not counts:
@@ -58,8 +60,8 @@ def main(arguments: list[str]) -> int:
 
 
 def with_sumo(path: str, files: list[str]) -> int:
-    """Trips, and edges where their file is given, of a folder beside SUMO's. Status 1 where nothing is common to
-    both."""
+    """Compares the trips of a folder with SUMO's tripinfo, and edges where a second file, edgeData, is given; prints
+    it. Status 1 where the trips, or the edges, have nothing in common, else 0."""
     if len(files) > 2:
         raise Fault("--sumo takes tripinfo.xml and at most one edgedata.xml")
     with Slow(f"reading {path}") as shown:
@@ -80,7 +82,9 @@ def with_sumo(path: str, files: list[str]) -> int:
 
 
 def with_counts(path: str, files: list[str], attribute: str | None, out: str | None) -> int:
-    """The usual criteria by hour; tables and pictures where a folder is named. Status 1 where they are not passed."""
+    """Prints how a folder meets counts by the usual criteria for each hour; writes tables and pictures where a folder
+    `out` is named. attribute: of SUMO's files, that is the count, or none. Status 1 where the criteria are not met,
+    else 0."""
     with Slow(f"reading {path}") as shown:
         folder = read_folder(path)
         counts = read_counts(files, attribute)

@@ -18,6 +18,7 @@ from streetsim.routes.loading import read_town
 
 
 def parser() -> argparse.ArgumentParser:
+    """The words that streetsim-demand takes."""
     made = Parser(
         prog="streetsim-demand",
         description="Makes vehicles with routes of counts of edges and turns, of matrices between zones, or of flows "
@@ -39,7 +40,7 @@ def parser() -> argparse.ArgumentParser:
 
 
 def add_inputs(made: argparse.ArgumentParser) -> None:
-    """The words that name what a demand is made of."""
+    """Adds the words that name what a demand is made of: files, and where trips may begin and end."""
     for name, words in (
         ("counts", "CSV (begin,end,from,to,vehicles; to is empty for an edge), or SUMO's edgeData or edgeRelations"),
         ("zones", "CSV (zone,edges), or SUMO's TAZ"),
@@ -62,7 +63,7 @@ def add_inputs(made: argparse.ArgumentParser) -> None:
 
 
 def add_fit(made: argparse.ArgumentParser) -> None:
-    """The words that say how numbers are found."""
+    """Adds the words that say how the fit is done: ways, error, runs, rounds."""
     made.add_argument(
         "--ways", type=within(0, 20), metavar="N", help="at most, of each pair (default 3; with --candidates 0)"
     )
@@ -87,7 +88,7 @@ def add_fit(made: argparse.ArgumentParser) -> None:
 
 
 def error_of(text: str) -> float:
-    """A share, 0 to 1; argparse's error otherwise."""
+    """A share, 0 to 1, of a text; argparse's error otherwise."""
     try:
         value = float(text)
     except ValueError:
@@ -98,6 +99,7 @@ def error_of(text: str) -> float:
 
 
 def main(arguments: Sequence[str]) -> int:
+    """Runs streetsim-demand; gives its status, as `making.tell` says."""
     words = parser().parse_args(arguments)
     asked, outputs = asked_of(words), Outputs(words.output, words.out, words.run, words.map)
     check_words(words)
@@ -123,7 +125,7 @@ def main(arguments: Sequence[str]) -> int:
 
 
 def asked_of(words: argparse.Namespace) -> Asked:
-    """What the words ask for; additional files are listed in the words."""
+    """What the words ask for. Changes `words.additional` to the list of the files that it names."""
     names = ("counts", "zones", "flows", "ratios", "candidates")
     files = {name: tuple(files_of(getattr(words, name))) for name in names}
     words.additional = files_of(words.additional)
@@ -134,7 +136,7 @@ def asked_of(words: argparse.Namespace) -> Asked:
 
 
 def check_words(words: argparse.Namespace) -> None:
-    """Refuses words that do not fit to each other, before anything is read."""
+    """Fault for words that do not fit to each other, or outputs that cannot be written, before anything is read."""
     if (words.run is None) != (words.map is None):
         raise Fault("--run and --map are given together or not at all")
     if words.runs and not words.counts:

@@ -9,6 +9,7 @@ from streetsim.base.words import Parser
 
 
 def parser() -> Parser:
+    """The words that streetsim-example takes."""
     made = Parser(
         prog="streetsim-example",
         description="Puts the files of an example into a folder; without a name, says which examples there are.",
@@ -19,7 +20,7 @@ def parser() -> Parser:
 
 
 def goals(example: Path, folder: Path) -> dict[Path, Path]:
-    """Where each file of an example goes; Fault where one is there."""
+    """Where each file of an example goes in a folder; Fault where a file of that name is there already."""
     begin = example if example.is_dir() else example.parent
     found = {path: folder / path.relative_to(begin) for path in files_of(example)}
     for goal in found.values():
@@ -29,7 +30,7 @@ def goals(example: Path, folder: Path) -> dict[Path, Path]:
 
 
 def put(example: Path, folder: Path) -> int:
-    """Copies an example, and gives how many files it has."""
+    """Copies an example into a folder, which is made, and gives how many files it has; Fault where that fails."""
     found = goals(example, folder)
     try:
         for path, goal in found.items():
@@ -41,10 +42,12 @@ def put(example: Path, folder: Path) -> int:
 
 
 def counted(files: int) -> str:
+    """A number of files in words, such as '3 files'."""
     return f"{files} file{'' if files == 1 else 's'}"
 
 
 def main(arguments: list[str]) -> int:
+    """Runs streetsim-example; gives status 0."""
     words = parser().parse_args(arguments)
     known = examples()
     if words.name is None:

@@ -12,6 +12,7 @@ from streetsim.results.reading import read_any
 
 
 def parser() -> Parser:
+    """The words that streetsim-export takes."""
     made = Parser(
         prog="streetsim-export",
         description="Writes the edges and junctions of a run with flow, speed, control delay, level of service, "
@@ -26,6 +27,7 @@ def parser() -> Parser:
 
 
 def main(arguments: list[str]) -> int:
+    """Runs streetsim-export; gives status 0."""
     words = parser().parse_args(arguments)
     ending = os.path.splitext(words.output)[1].lower()
     if ending not in (".geojson", ".gpkg"):

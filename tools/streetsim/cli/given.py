@@ -4,8 +4,8 @@ from collections.abc import Collection
 
 
 def given_words(made: argparse.ArgumentParser, words: argparse.Namespace, without: Collection[str]) -> list[str]:
-    """The options that were given otherwise than usual, as words that say the same; without: those that are left out,
-    by the attributes that they set."""
+    """The options that were given otherwise than by default, as words that say the same; without: options that are left
+    out, by the attributes that they set. Words without a name (positional ones) are left out too."""
     found = []
     for action in made._actions:
         value = getattr(words, action.dest, action.default)

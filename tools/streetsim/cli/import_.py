@@ -18,6 +18,7 @@ from streetsim.sumo.types import CLASSES
 
 
 def parser() -> argparse.ArgumentParser:
+    """The words that streetsim-import takes."""
     made = Parser(
         prog="streetsim-import",
         description="Makes load, signal and enter lines, and a map of the names, of a SUMO network and its routes.",
@@ -61,7 +62,7 @@ def parser() -> argparse.ArgumentParser:
 
 
 def add_options(made: argparse.ArgumentParser) -> None:
-    """The words that say how a network and its vehicles become commands."""
+    """Adds the words that say how a network and its vehicles become commands; `options_of` reads them."""
     add_lanes(made)
     add_vehicles(made)
     add_numbers(made)
@@ -74,7 +75,7 @@ def add_options(made: argparse.ArgumentParser) -> None:
 
 
 def add_lanes(made: argparse.ArgumentParser) -> None:
-    """The words that say which lanes there are, and how vehicles go from one to the next."""
+    """Adds the words that say which lanes there are, and how vehicles go from one to the next."""
     made.add_argument(
         "--classes", default="passenger", help="keep lanes that allow one of these vehicle classes, with commas between"
     )
@@ -100,7 +101,7 @@ def add_lanes(made: argparse.ArgumentParser) -> None:
 
 
 def add_vehicles(made: argparse.ArgumentParser) -> None:
-    """The words that say which vehicles there are."""
+    """Adds the words that say which vehicles there are."""
     made.add_argument(
         "--begin",
         type=time_within(0, limits.CLOCK),
@@ -122,7 +123,7 @@ def add_vehicles(made: argparse.ArgumentParser) -> None:
 
 
 def add_numbers(made: argparse.ArgumentParser) -> None:
-    """The words that set numbers of the model."""
+    """Adds the words that set numbers of the model, each within what the program takes."""
     for name, most, words in (
         ("dawdle", 1000, "chance of slowing down, of 1,000"),
         ("change", 1000, "chance of changing lane, of 1,000"),
@@ -140,7 +141,7 @@ def add_numbers(made: argparse.ArgumentParser) -> None:
 
 
 def options_of(words: argparse.Namespace) -> Options:
-    """The options that the words name; Fault where they do not fit to each other."""
+    """The options that the words of `add_options` name; Fault where they do not fit to each other."""
     if words.permissive is not None and not 0 <= words.permissive <= 1:
         raise Fault("--permissive is a share from 0 to 1")
     if words.end is not None and words.end <= words.begin:
@@ -159,8 +160,8 @@ def options_of(words: argparse.Namespace) -> Options:
 
 
 def words_of(arguments: list[str]) -> tuple[argparse.Namespace, dict[str, str]]:
-    """The words of a command, and the options of the configuration that they name (none where they name none), which
-    stand where no word says otherwise."""
+    """The words of a command, where no word is given completed by the configuration (-c) that they name; and the
+    options of that configuration, empty where they name none. Fault where no network is named."""
     made = parser()
     words = made.parse_args(arguments)
     if not words.configuration:
@@ -182,6 +183,7 @@ def words_of(arguments: list[str]) -> tuple[argparse.Namespace, dict[str, str]]:
 
 
 def main(arguments: list[str]) -> int:
+    """Runs streetsim-import; gives its status: 1 where --strict is given and vehicles were skipped, else 0."""
     words, told = words_of(arguments)
     words.additional, words.routes, words.trips = map(files_of, (words.additional, words.routes, words.trips))
     sources = Sources(words.net, words.additional, words.routes, words.trips)

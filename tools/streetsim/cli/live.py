@@ -26,6 +26,7 @@ CLAIM = "its translation for browsers, the browser and the page's script are tes
 
 
 def parser() -> Parser:
+    """The words that streetsim-live takes."""
     made = Parser(
         prog="streetsim-live",
         description="A page that runs a simulation: watch it, change signal plans, close lanes, take vehicles out, "
@@ -59,7 +60,8 @@ def parser() -> Parser:
 
 
 def engines_of(words: argparse.Namespace, lines: list[bytes], joining: Joining) -> list[Engine]:
-    """Of the traffic as it is, which may be kept, and as it was without changes."""
+    """Two engines of a served page: of the traffic as it is, whose session may be kept, and as it would be without the
+    user's changes. lines: of the run; joining: the page's run, which may be imported anew."""
     if not words.keep:
         program = program_of(words.program)
         if joining.driven:
@@ -81,7 +83,8 @@ def program_for_rounds(words: argparse.Namespace) -> str:
 
 
 def lights_told(run: Run, mapping: Map, driven: bool) -> list[str]:
-    """What there is to say of lights that SUMO times by detectors."""
+    """Sentences on lights that SUMO times by detectors and that show their listed seconds here; empty where there are
+    none. driven: whether the page's engines drive lights by detectors."""
     if driven or not mapping.actuated:
         return list(driven_lights(run, mapping).notes()) if driven else []
     why = "nobody looks at detectors where a session is kept, or in a page of one file"
@@ -89,7 +92,7 @@ def lights_told(run: Run, mapping: Map, driven: bool) -> list[str]:
 
 
 def serve(bridge: Bridge, opens: bool) -> None:
-    """Serves a page until Ctrl-C; opens: in a browser too."""
+    """Serves a page until Ctrl-C; opens: whether a browser is started with it."""
     print(f"{bridge.address}\n(on this machine alone, for one page at a time; Ctrl-C ends)", flush=True)
     if opens:
         webbrowser.open(bridge.address)
@@ -98,6 +101,7 @@ def serve(bridge: Bridge, opens: bool) -> None:
 
 
 def main(arguments: list[str]) -> int:
+    """Runs streetsim-live; gives status 0. Fault where the port cannot be had."""
     words = parser().parse_args(arguments)
     if words.keep and words.output:
         raise Fault("--keep is of a page that is served, and -o writes one file")

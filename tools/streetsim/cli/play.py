@@ -13,6 +13,7 @@ second = time_within(0, limits.CLOCK)
 
 
 def parser() -> Parser:
+    """The words that streetsim-play takes."""
     made = Parser(
         prog="streetsim-play",
         description="Makes one HTML file, without anything from outside, that plays the vehicles of a run, "
@@ -29,6 +30,7 @@ def parser() -> Parser:
 
 
 def main(arguments: list[str]) -> int:
+    """Runs streetsim-play; gives status 0. Fault where nothing was polled, or the page would be too large."""
     words = parser().parse_args(arguments)
     if len(words.folders) > 2:
         raise Fault("a page plays one run, or two side by side")

@@ -17,6 +17,7 @@ second = time_within(0, limits.CLOCK)
 
 
 def parser() -> Parser:
+    """The words that streetsim-plot takes: the kind of picture first, and those of the kind."""
     made = Parser(prog="streetsim-plot", description="Draws pictures of what streetsim-run wrote.")
     kinds = made.add_subparsers(dest="kind", required=True)
     for kind, words in (
@@ -71,7 +72,7 @@ def parser() -> Parser:
 
 
 def dawdles(text: str) -> list[int]:
-    """Up to six chances of dawdling, of 1,000, with commas between; argparse's error otherwise."""
+    """One to six chances of dawdling, 0 to 1,000 of 1,000, with commas between; argparse's error otherwise."""
     values = [within(0, 1000)(part) for part in text.split(",")]
     if len(values) > len(MARKERS):
         raise argparse.ArgumentTypeError(f"at most {len(MARKERS)} of them")
@@ -79,6 +80,7 @@ def dawdles(text: str) -> list[int]:
 
 
 def main(arguments: list[str]) -> int:
+    """Runs streetsim-plot; gives status 0."""
     words = parser().parse_args(arguments)
     if words.folder is None and not words.ring:
         raise Fault("fundamental needs a folder or --ring")
@@ -93,7 +95,7 @@ def main(arguments: list[str]) -> int:
 
 
 def drawn(pyplot: Pyplot, words: argparse.Namespace) -> Figure:
-    """The picture that the words ask for."""
+    """The picture that the words ask for, drawn but not saved."""
     if words.kind == "map" and words.what != "density":
         return maps.draw(pyplot, words.folder, words.what, words.begin)
     if words.kind == "fundamental" and words.ring:

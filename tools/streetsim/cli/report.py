@@ -31,12 +31,13 @@ from streetsim.results.timings import timings_of
 from streetsim.results.series import reds, trajectories, way_back
 
 # Words that say where a page is and what it is of; --plans and --names are sealed beside them.
-ALL = "all"
+ALL = "all"  # --sheets without a value
 ELSEWHERE = ("runs", "output", "csv", "names", "plans", "sealed", "counts")
 PICTURE = {"first": 0, "last": 600}  # seconds of the corridor's picture
 
 
 def parser() -> Parser:
+    """The words that streetsim-report takes."""
     made = Parser(
         prog="streetsim-report",
         description="Makes one HTML page, without anything from outside, of folders that streetsim-run wrote with "
@@ -97,6 +98,7 @@ def parser() -> Parser:
 
 
 def main(arguments: list[str]) -> int:
+    """Runs streetsim-report; gives status 0."""
     made = parser()
     words = made.parse_args(arguments)
     given = given_words(made, words, ELSEWHERE)
@@ -121,13 +123,14 @@ def main(arguments: list[str]) -> int:
 
 
 def files_beside(words: argparse.Namespace) -> dict[str, str]:
-    """The files of a page beside its runs, {name in its seal: path}."""
+    """The files that a page is made of beside its runs, {name in its seal: path}: names and counts."""
     found = {NAMES: words.names} if words.names else {}
     return found | {f"{COUNTS}{at}": path for at, path in enumerate(files_of(words.counts), 1)}
 
 
 def text_again(arguments: list[str], seal: Seal) -> str:
-    """The text of a page by the words that made it, with its seal: its programs stand for those of the runs."""
+    """The text of a page by the words that made it, with its seal; for the runs' programs it names those of the
+    seal."""
     words = parser().parse_args(arguments)
     refuse(words)
     plans = read_plans(words)
@@ -138,7 +141,7 @@ def text_again(arguments: list[str], seal: Seal) -> str:
 
 
 def refuse(words: argparse.Namespace) -> None:
-    """Refuses words that do not fit to each other; sets what is usual for those that were not given."""
+    """Fault for words that do not fit to each other. Sets --first and --last where they were not given."""
     if len(words.runs) > 2:
         raise Fault("a report is of one run, or of two: before and after")
     if words.plans and len(words.plans) != len(words.runs):
@@ -156,7 +159,7 @@ def refuse(words: argparse.Namespace) -> None:
 
 
 def read_plans(words: argparse.Namespace) -> list[Runs]:
-    """The runs of each plan, by the names that the words give them."""
+    """The runs of each plan, one or two, with their names and those of --names put into their maps."""
     plans = [read_runs(path) for path in words.runs]
     for runs, path in zip(plans, words.runs, strict=True):
         if words.names:
@@ -169,7 +172,8 @@ def read_plans(words: argparse.Namespace) -> list[Runs]:
 
 
 def wishes_of(plans: Sequence[Runs], words: argparse.Namespace, seal: Seal | None) -> Wishes:
-    """What the words ask of a page."""
+    """What the words ask of a page, with the sections and pictures that they add to its appendix. seal: none where the
+    page is not sealed."""
     pictures = []
     if words.corridor:
         pictures.append(Section("corridor", "Corridor", "".join(corridor(runs, words) for runs in plans)))
@@ -183,13 +187,14 @@ def wishes_of(plans: Sequence[Runs], words: argparse.Namespace, seal: Seal | Non
 
 
 def counts_told(runs: Runs, words: argparse.Namespace) -> str:
-    """Counts beside a plan's first seed."""
+    """How the first seed of a plan meets the counts of --counts, as HTML."""
     counts = read_counts(files_of(words.counts), words.attribute)
     return counts_section(runs.name, judged(counts, passed_in(runs.first, counts)), runs.first.mapping)
 
 
 def sheets_told(plans: Sequence[Runs], timings: Sequence[Timings], asked: str) -> str:
-    """The timing sheets of the lights that are asked for; Fault where a run does not keep their programs."""
+    """The timing sheets of lights, as HTML. timings: by plan; asked: lights with commas between, or ALL. Fault where a
+    run does not keep their programs, or a light is not among them."""
     for runs, own in zip(plans, timings, strict=True):
         if not own:
             why = "the files of the import were gone or had changed when it was run"
@@ -205,7 +210,8 @@ def sheets_told(plans: Sequence[Runs], timings: Sequence[Timings], asked: str) -
 
 
 def interval_of(all_runs: Sequence[Runs], words: argparse.Namespace) -> tuple[int, int]:
-    """The interval that is shown, which all plans have; Fault where there is none."""
+    """The interval (begin, end), in seconds, that is shown and that all plans have: the one of --begin, else the
+    busiest, else the first. Fault where there is none."""
     common = set(all_runs[0].intervals()).intersection(*(runs.intervals() for runs in all_runs))
     if not common:
         raise Fault("the runs have no interval in common")
@@ -222,7 +228,7 @@ def interval_of(all_runs: Sequence[Runs], words: argparse.Namespace) -> tuple[in
 
 
 def corridor(runs: Runs, words: argparse.Namespace) -> str:
-    """The corridor's picture of the first seed, in both directions where edges lead back."""
+    """The corridor's picture of a plan's first seed, as HTML, in both directions where edges lead back."""
     from streetsim.cli.plot import main as plot
 
     folder = runs.first
@@ -241,7 +247,7 @@ def corridor(runs: Runs, words: argparse.Namespace) -> str:
 
 
 def drawn_sum(folder: Folder, words: argparse.Namespace, back: bool) -> str:
-    """The SHA-256 of what a corridor's picture is drawn from."""
+    """The SHA-256 of the data that a corridor's picture is drawn from; back: whether it shows the way back too."""
     edges = listed(words.corridor)
     ways = [edges, *([way_back(folder, edges)] if back else [])]
     times = words.first, words.last
@@ -250,7 +256,7 @@ def drawn_sum(folder: Folder, words: argparse.Namespace, back: bool) -> str:
 
 
 def leads_back(folder: Folder, edges: str) -> bool:
-    """Whether each edge of a path has one of the other direction."""
+    """Whether each edge of a path (names with blanks or commas between) has one of the other direction."""
     try:
         return bool(way_back(folder, listed(edges)))
     except Fault:

@@ -30,6 +30,7 @@ KEPT = (
 
 
 def parser() -> argparse.ArgumentParser:
+    """The words that streetsim-route takes."""
     made = Parser(
         prog="streetsim-route",
         description="Finds routes for trips by feedback between a router and runs, until nobody gains much by another "
@@ -58,7 +59,7 @@ def parser() -> argparse.ArgumentParser:
 
 
 def add_search(made: argparse.ArgumentParser) -> None:
-    """The words that say how routes are searched and judged."""
+    """Adds the words that say how routes are searched and judged."""
     made.add_argument("--anew", action="store_true", help="forget the routes that vehicles have")
     made.add_argument(
         "--until",
@@ -104,7 +105,7 @@ def add_search(made: argparse.ArgumentParser) -> None:
 
 
 def add_works(made: argparse.ArgumentParser) -> None:
-    """The words that say what is closed, and who knows of it."""
+    """Adds the words that say what is closed, and who knows of it."""
     made.add_argument(
         "--close",
         action="extend",
@@ -142,7 +143,7 @@ def shares_of(text: str) -> list[float]:
 
 
 def share_of(text: str) -> float:
-    """A share, 0 to 1; argparse's error otherwise."""
+    """A share, 0 to 1, of a text; argparse's error otherwise."""
     try:
         value = float(text)
     except ValueError:
@@ -153,6 +154,7 @@ def share_of(text: str) -> float:
 
 
 def main(arguments: Sequence[str]) -> int:
+    """Runs streetsim-route; gives the greatest status that `tell` gives for one of the shares of drivers who know."""
     words = parser().parse_args(arguments)
     check_words(words)
     with Slow(f"reading {words.net}"):
@@ -167,7 +169,8 @@ def main(arguments: Sequence[str]) -> int:
 
 
 def check_words(words: argparse.Namespace) -> None:
-    """Refuses words that do not fit to each other, before anything is read."""
+    """Fault for words that do not fit to each other, or outputs that cannot be written, before anything is read.
+    Changes `words.close` to a list of single works."""
     if (words.run is None) != (words.map is None):
         raise Fault("--run and --map are given together or not at all")
     outputs = {"-o": words.output, "--run": words.run, "--map": words.map}
@@ -191,7 +194,8 @@ def check_words(words: argparse.Namespace) -> None:
 
 
 def job_of(words: argparse.Namespace) -> Job:
-    """The search that the words ask for, with its files read and checked."""
+    """The search that the words ask for, with its files read and checked; prints what is left out or changed in them.
+    Fault where something in them cannot be used."""
     report, simulator = Report(), program.find_program(words.program)
     files = {"additional": files_of(words.additional), "trips": files_of(words.trips)}
     town = read_town(words.net, files["additional"], options_of(words), report)

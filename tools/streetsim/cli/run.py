@@ -1,4 +1,4 @@
-"""streetsim-run: runs a file and writes its tables."""
+"""streetsim-run: the words by which a file is run and its tables are written."""
 import argparse
 
 from streetsim.base import limits, program
@@ -16,6 +16,7 @@ ELSEWHERE = ("run", "map", "out", "program", "workers", "jobs", "seeds")
 
 
 def parser() -> argparse.ArgumentParser:
+    """The words that streetsim-run takes."""
     made = Parser(
         prog="streetsim-run",
         description="Runs a file that streetsim-import made, and writes counts, trips, queues, a summary "
@@ -34,7 +35,7 @@ def parser() -> argparse.ArgumentParser:
 
 
 def add_looks(made: argparse.ArgumentParser) -> None:
-    """The words that say when a run ends, and what is looked at on the way."""
+    """Adds the words that say when a run ends, and what is looked at on the way."""
     made.add_argument(
         "--until",
         type=time_within(1, limits.CLOCK),
@@ -75,7 +76,7 @@ def add_looks(made: argparse.ArgumentParser) -> None:
 
 
 def add_seeds(made: argparse.ArgumentParser) -> None:
-    """The words that say how much is run."""
+    """Adds the words that say with which seeds is run, and how many runs go side by side."""
     made.add_argument(
         "--seeds", metavar="FIRST-LAST", help="run each of these seeds, side by side, into folders of their own"
     )
@@ -83,7 +84,7 @@ def add_seeds(made: argparse.ArgumentParser) -> None:
 
 
 def add_lanes(made: argparse.ArgumentParser) -> None:
-    """The words that close lanes, and that make them joint."""
+    """Adds the words that close lanes, and that make them joint."""
     made.add_argument(
         "--close",
         action="append",
@@ -109,7 +110,7 @@ def add_lanes(made: argparse.ArgumentParser) -> None:
 
 
 def add_buses(made: argparse.ArgumentParser) -> None:
-    """The words that say how buses go."""
+    """Adds the words that say how buses stop, and which lights wait for them."""
     made.add_argument(
         "--stops",
         choices=["made", "none"],
@@ -131,7 +132,7 @@ def add_buses(made: argparse.ArgumentParser) -> None:
 
 
 def add_outputs(made: argparse.ArgumentParser) -> None:
-    """The words that say what is written and where; and by which rounds it is made."""
+    """Adds the words that say what is written and where, and how many rounds find who gives way."""
     made.add_argument(
         "--sumo-output",
         type=kinds_of,
@@ -153,6 +154,7 @@ def add_outputs(made: argparse.ArgumentParser) -> None:
 
 
 def main(arguments: list[str]) -> int:
+    """Runs streetsim-run; gives status 0."""
     made = parser()
     words = made.parse_args(arguments)
     from streetsim.cli.running import run_by

@@ -1,4 +1,4 @@
-"""A run by the words of streetsim-run."""
+"""Makes the run, or the runs with several seeds, that the words of streetsim-run ask for."""
 import argparse
 import os
 import sys
@@ -39,8 +39,8 @@ AT_WISH = (
 
 
 def run_by(words: argparse.Namespace, given: Sequence[str], again: Sequence[str]) -> int:
-    """Runs as the words ask, and tells what it gave; gives the status. given: the words that change its numbers; again:
-    those by which it is made again of the lines that are kept."""
+    """Runs as the words ask, prints what it gave, and gives status 0. given: the words that change its numbers, for the
+    setting; again: those by which it is made again of the lines that its folder keeps."""
     run, mapping = read_with_map(words.run, words.map)
     settings = settings_of(words, run)
     refuse_unknown(words, settings, mapping)
@@ -74,14 +74,15 @@ def run_by(words: argparse.Namespace, given: Sequence[str], again: Sequence[str]
 
 
 def write_inputs(words: argparse.Namespace, folder: str, run: Run, mapping: Map) -> None:
-    """Writes what a run is made again by, and with junction tables what its lights show at the road."""
+    """Writes into a run's folder what it is made again by, and with junction tables what its lights show."""
     write_kept(folder, run)
     if words.junctions is not None:
         write_lights(folder, mapping, words.map)
 
 
 def with_priority(words: argparse.Namespace, run: Run, mapping: Map, settings: Settings) -> Settings:
-    """The settings with lights that wait for the vehicles of --priority; Fault where a word of it means nothing."""
+    """The settings with lights that wait for the vehicles of --priority, unchanged where it is not given; Fault where a
+    word of it means nothing."""
     names = listed(words.priority)
     if not names:
         if words.seen is not None:
@@ -97,7 +98,7 @@ def with_priority(words: argparse.Namespace, run: Run, mapping: Map, settings: S
 
 
 def settings_of(words: argparse.Namespace, run: Run) -> Settings:
-    """What a run is asked for; without a last second one is guessed."""
+    """What the words ask of a run; without --until its end is a first guess, which the run moves."""
     return Settings(
         until=words.until or first_guess(run),
         every=words.every,
@@ -111,13 +112,14 @@ def settings_of(words: argparse.Namespace, run: Run) -> Settings:
 
 
 def making_of(words: argparse.Namespace) -> Making:
-    """How the words ask for a run to be made."""
+    """How the words ask for a run to be made: by which program, and with which outputs."""
     simulator = program.find_program(words.program)
     return Making(simulator, words.rounds, words.workers, words.jobs, words.sumo_output, words.junctions)
 
 
 def refuse_unknown(words: argparse.Namespace, settings: Settings, mapping: Map) -> None:
-    """Refuses edges and detectors that the map does not have, and edges that nothing would poll."""
+    """Fault for edges of --edges and detectors of --sumo-output that the map does not have, and for --edges where
+    nothing is polled."""
     if unknown := [edge for edge in settings.edges if edge not in mapping.links_of]:
         raise Fault(f"--edges: the map has no edge {unknown[0]!r}")
     if settings.edges and settings.every == 0:
@@ -129,7 +131,7 @@ def refuse_unknown(words: argparse.Namespace, settings: Settings, mapping: Map) 
 
 
 def refuse_no_poll(settings: Settings, start: int) -> None:
-    """Refuses seconds between polls that are so many that a run ends before the first one."""
+    """Fault where the run ends before its first poll; start: the clock at its begin."""
     if (first := first_poll(settings.every, start)) > settings.until:
         raise Fault(
             f"--every {settings.every}: the first poll of the lanes is at {first} s, and the run ends at "
@@ -138,7 +140,7 @@ def refuse_no_poll(settings: Settings, start: int) -> None:
 
 
 def report(figures: Figures, name: str) -> None:
-    """Prints what a run gave."""
+    """Prints what a run gave; name: what each line begins with."""
     for told in figures.notes:
         print(f"{name}{told}", file=sys.stderr)
     print(f"{name}{figures.told}")
@@ -149,7 +151,8 @@ def report(figures: Figures, name: str) -> None:
 
 
 def run_seeds(words: argparse.Namespace, making: Making, run: Run, mapping: Map, settings: Settings) -> int:
-    """A run for each seed, side by side; prints and writes each mean trip, their mean and its 95 % interval."""
+    """Makes a run for each seed of --seeds, side by side; prints and writes each mean trip, their mean and its 95 %
+    interval. Gives status 0."""
     seeds, making = seeds_of(words.seeds, "--seeds"), replace(making, jobs=1)
     shown = UnderWay(settings.until, len(seeds))
     with whole_folder(words.out, NAME, AT_WISH) as folder:

@@ -30,6 +30,7 @@ RESERVE = 80  # a chance of slowing down, of 1,000, by which a tenth fewer pass 
 
 
 def parser() -> Parser:
+    """The words that streetsim-signals takes."""
     made = Parser(
         prog="streetsim-signals",
         description="Finds signal plans by simulation: cycles, splits and offsets under which trips are shorter. "
@@ -73,7 +74,7 @@ def parser() -> Parser:
 
 
 def add_search(made: argparse.ArgumentParser) -> None:
-    """The words that say what is searched, how long and with which seeds."""
+    """Adds the words that say what is searched, how long and with which seeds."""
     made.add_argument(
         "--change", default=",".join(CHANGES), help="what may be changed, with commas between (default %(default)s)"
     )
@@ -124,7 +125,7 @@ def add_search(made: argparse.ArgumentParser) -> None:
 
 
 def add_machines(made: argparse.ArgumentParser) -> None:
-    """The words that say where runs are done."""
+    """Adds the words that say where runs are made: --jobs, --cluster, --program."""
     add_jobs(made)
     made.add_argument(
         "--cluster", metavar="HOST:PORT", help="do the runs on the workers of this scheduler of dask.distributed"
@@ -133,6 +134,7 @@ def add_machines(made: argparse.ArgumentParser) -> None:
 
 
 def main(arguments: list[str]) -> int:
+    """Runs streetsim-signals; gives the status, as `tell` says."""
     words = parser().parse_args(arguments)
     changed, cycles = changes_of(words)
     check = check_seeds(words)
@@ -163,7 +165,8 @@ def main(arguments: list[str]) -> int:
 def bounds_found(
     words: argparse.Namespace, reading: Reading, town: Town, changed: Sequence[str], cycles: range
 ) -> int:
-    """Finds bounds of actuated lights, and the best plan of seconds beside them; gives the status."""
+    """Finds bounds of actuated lights, and the best plan of seconds to compare them with; gives the status. changed,
+    cycles: as `changes_of` gives them."""
     if words.edges:
         raise Fault("--edges draws plans of seconds, and --bounds finds none")
     ground, check = ground_of(reading, town), check_seeds(words)
@@ -185,7 +188,8 @@ def bounds_found(
 
 
 def changes_of(words: argparse.Namespace) -> tuple[list[str], range]:
-    """What may be changed, of CHANGES, and the cycles of the range, in seconds; none where cycles stay."""
+    """What may be changed, of CHANGES, and the cycles to try, in seconds, an empty range where cycles stay; Fault where
+    the words name others."""
     changed = listed(words.change)
     if unknown := [name for name in changed if name not in CHANGES]:
         raise Fault(f"--change: {unknown[0]!r} is none of {', '.join(CHANGES)}")
@@ -215,7 +219,8 @@ def check_seeds(words: argparse.Namespace) -> range:
 
 
 def reading_of(words: argparse.Namespace, changed: Sequence[str]) -> Reading:
-    """What is read of a town; refuses outputs that have no place. With offsets alone nobody slows down more often."""
+    """What is to be read of a town; Fault where outputs have no place. The reserve is left out where offsets alone are
+    changed."""
     plans = files_of(words.plans)
     refuse_equal({"-o": words.output}, [words.run, words.map, *plans])
     folder = os.path.dirname(place_of(words.output))
@@ -238,7 +243,7 @@ def reading_of(words: argparse.Namespace, changed: Sequence[str]) -> Reading:
 
 
 def check_cycles(words: argparse.Namespace, town: Town, cycles: range) -> None:
-    """Refuses cycles of which no light can keep one."""
+    """Fault where there are cycles to try and no light can keep any of them."""
     able = (town.lights[name].scaled(timing, cycle) for name, timing in town.plan.items() for cycle in cycles)
     if cycles and not any(able):
         raise Fault(
@@ -248,7 +253,7 @@ def check_cycles(words: argparse.Namespace, town: Town, cycles: range) -> None:
 
 
 def corridor_of(words: argparse.Namespace, town: Town) -> Corridor | None:
-    """What is drawn, if anything; refuses what could not be drawn at the end."""
+    """The ways that are drawn in the end, none where --edges is not given; Fault for what could not be drawn then."""
     if not words.edges:
         if given := [name for name in ("first", "last") if getattr(words, name) is not None]:
             raise Fault(f"--{given[0]} is of the pictures: give --edges too")
@@ -264,7 +269,8 @@ def corridor_of(words: argparse.Namespace, town: Town) -> Corridor | None:
 
 
 def search_seeds(words: argparse.Namespace, runner: Runner, tried: Sequence[int]) -> Sequence[int]:
-    """The seeds of the search: those given, else as many as runs of the given plan say; these are told."""
+    """The seeds of the search: those of --seeds, else the first of `tried`, as many as the spread of runs of the given
+    plan asks for. Prints which, and why."""
     means = list(runner.means([runner.town.plan], tried))
     needed = seeds_for(means)
     seeds = seeds_of(words.seeds, "--seeds") if words.seeds else tried[:needed]
@@ -279,7 +285,8 @@ def search_seeds(words: argparse.Namespace, runner: Runner, tried: Sequence[int]
 def searched(
     words: argparse.Namespace, runner: Runner, changed: Sequence[str], cycles: range, seeds: Sequence[int]
 ) -> tuple[Search, bool]:
-    """The search when it has ended, and whether the user ended it."""
+    """The search when it has ended, and whether the user ended it by Ctrl-C. changed, cycles: as `changes_of` gives
+    them; seeds: of the search."""
     town, meanwhile = runner.town, Meanwhile("simulations", words.budget)
     streets = streets_of(town.run, town.mapping, town.lights)
     with Stopping() as stopping:

@@ -26,6 +26,7 @@ ELSEWHERE = ("study", "out", "program", "jobs", "cluster")
 
 
 def parser() -> Parser:
+    """The words that streetsim-study takes."""
     made = Parser(
         prog="streetsim-study",
         description="Runs each variant of a study with each seed, and writes the differences of their mean trips with "
@@ -46,7 +47,7 @@ def parser() -> Parser:
 
 
 def percent(text: str) -> float:
-    """Above 0 and at most 100; argparse's error otherwise."""
+    """A percentage above 0 and at most 100, of a text; argparse's error otherwise."""
     try:
         value = float(text)
     except ValueError:
@@ -57,6 +58,7 @@ def percent(text: str) -> float:
 
 
 def main(arguments: list[str]) -> int:
+    """Runs streetsim-study; gives status 0."""
     made = parser()
     words = made.parse_args(arguments)
     if os.path.exists(words.out) and not os.path.isdir(words.out):
@@ -83,14 +85,15 @@ def main(arguments: list[str]) -> int:
 
 
 def write_made(words: argparse.Namespace, given: list[str], folder: str) -> None:
-    """Writes by what the study is made again: its file, from the folder that is written to, and the words."""
+    """Writes by what the study is made again: its file, as a path from the folder of --out, its SHA-256, and the words
+    that change numbers (given). folder: where the file is written until it is whole."""
     path = os.path.relpath(os.path.realpath(words.study), os.path.realpath(words.out))
     with whole_file(f"{folder}/{MADE}") as file:
         json.dump({"study": path, "sum": sum_of(words.study), "words": given}, file)
 
 
 def run_all(words: argparse.Namespace, study: Study) -> dict[str, list[Outcome]]:
-    """What each variant gives with each seed, {variant: outcomes}."""
+    """What each variant gives with each seed, {variant: outcomes in the order of the seeds}."""
     sessions = [variant.session for variant in study.variants.values()]
     total = len(study.variants) * len(study.seeds)
     meanwhile = Meanwhile("runs", total)
