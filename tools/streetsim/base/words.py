@@ -84,6 +84,17 @@ def listed(text: str) -> list[str]:
     return [name for name in re.split(r"[\s,]+", text) if name]
 
 
+def share_of(text: str) -> float:
+    """A share, 0 to 1; argparse's error otherwise."""
+    try:
+        value = float(text)
+    except ValueError:
+        value = -1.0
+    if not 0 <= value <= 1:
+        raise argparse.ArgumentTypeError(f"{text!r} is not 0 to 1")
+    return value
+
+
 def add_run(made: argparse.ArgumentParser) -> None:
     """Adds to a parser the words that name what streetsim-import made: the run and --map."""
     made.add_argument("run", help="the run (.jsonl)")

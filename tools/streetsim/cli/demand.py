@@ -8,7 +8,7 @@ from streetsim.base import program
 from streetsim.base.files import Fault, place_of, refuse_equal
 from streetsim.base.progress import Slow, Stopping
 from streetsim.base.report import Report
-from streetsim.base.words import Parser, add_rounds, files_of, within
+from streetsim.base.words import Parser, add_rounds, files_of, share_of, within
 from streetsim.cli.import_ import add_options, options_of
 from streetsim.counts import demanding, making
 from streetsim.counts.demanding import Asked
@@ -75,7 +75,7 @@ def add_fit(made: argparse.ArgumentParser) -> None:
         help="ways at most, about; of more pairs some are drawn (default %(default)s)",
     )
     made.add_argument(
-        "--error", type=error_of, default=ERROR, metavar="SHARE", help="by which counts are wrong (default %(default)s)"
+        "--error", type=share_of, default=ERROR, metavar="SHARE", help="by which counts are wrong (default %(default)s)"
     )
     made.add_argument(
         "--runs",
@@ -85,17 +85,6 @@ def add_fit(made: argparse.ArgumentParser) -> None:
         help="at most so many runs, after each of which the fit is corrected by what passed (default %(default)s)",
     )
     add_rounds(made)
-
-
-def error_of(text: str) -> float:
-    """A share, 0 to 1, of a text; argparse's error otherwise."""
-    try:
-        value = float(text)
-    except ValueError:
-        value = -1.0
-    if not 0 <= value <= 1:
-        raise argparse.ArgumentTypeError(f"{text!r} is not 0 to 1")
-    return value
 
 
 def main(arguments: Sequence[str]) -> int:

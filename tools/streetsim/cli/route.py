@@ -9,7 +9,9 @@ from streetsim.base.files import Fault, place_of, refuse_equal
 from streetsim.base.progress import Slow, Stopping
 from streetsim.base.report import Report
 from streetsim.base.seeds import seeds_of
-from streetsim.base.words import Parser, add_lights, add_lost, add_rounds, files_of, listed, time_within, within
+from streetsim.base.words import (
+    Parser, add_lights, add_lost, add_rounds, files_of, listed, share_of, time_within, within,
+)
 from streetsim.cli.import_ import add_options, options_of
 from streetsim.cli.signals import add_machines
 from streetsim.model import trust
@@ -140,17 +142,6 @@ def shares_of(text: str) -> list[float]:
     """The shares, 0 to 1, of a list with commas, in its order; what comes again is left out. argparse's error where one
     is no share."""
     return list(dict.fromkeys(map(share_of, listed(text))))
-
-
-def share_of(text: str) -> float:
-    """A share, 0 to 1, of a text; argparse's error otherwise."""
-    try:
-        value = float(text)
-    except ValueError:
-        value = -1.0
-    if not 0 <= value <= 1:
-        raise argparse.ArgumentTypeError(f"{text!r} is not 0 to 1")
-    return value
 
 
 def main(arguments: Sequence[str]) -> int:
