@@ -1,4 +1,4 @@
-"""The ways that a demand may take: the shortest by time between entries, exits and zones, several a pair."""
+"""The ways that a demand may take: the shortest by time between entries, exits and zones, several for a pair."""
 import random
 from collections import Counter, defaultdict
 from collections.abc import Iterable, Iterator, Mapping, Sequence
@@ -16,14 +16,14 @@ from streetsim.ways.router import Path
 
 LONGEST = 1.5  # times the seconds of the shortest way of a pair
 SPREAD = 0.25  # of the logarithm of seconds that are drawn to find further ways
-DRAWS = 3  # of them for each further way
+DRAWS = 3  # draws of all seconds for each further way
 BATCH = 200  # ends from which ways are searched at once
 
 
 @dataclass(frozen=True, slots=True)
 class End:
-    """How many begin or end at a place before anything is counted, beside others of its kind: where the network begins
-    or ends (outside), or within it."""
+    """What is expected of a place at which trips begin or end, before counts are looked at: its weight beside other
+    places of its kind, which is outside (the network begins or ends there) or within."""
 
     weight: float = 1.0
     outside: bool = False
@@ -31,7 +31,8 @@ class End:
 
 @dataclass(frozen=True, slots=True)
 class Pair:
-    """Where trips begin and end: names of zones or edges, and edges by number with their weights."""
+    """Where trips begin and end: names of zones or edges, the edges of both by number of the graph with their weights,
+    and what is expected of both ends."""
 
     source: str
     target: str
@@ -43,8 +44,9 @@ class Pair:
 
 @dataclass(frozen=True, slots=True)
 class Way:
-    """A way of a pair: seconds without other traffic, the share of the pair's vehicles that would take it, seconds
-    without waits at signals too, and what its ends have of the pair's vehicles (0: the share is told, and stays)."""
+    """A way of a pair, by its place among the pairs: edges by number; seconds with the mean waits at signals and
+    without other traffic; the share of the pair's vehicles that would take it; seconds without the waits too (driven);
+    and the share of the pair's vehicles that has its first and last edge (weight; 0: share is given, and stays)."""
 
     pair: int
     path: Path
@@ -55,7 +57,7 @@ class Way:
 
 
 def entries_and_exits(graph: Graph) -> tuple[list[int], list[int]]:
-    """The edges that nothing leads to, and that lead nowhere, but by turning back."""
+    """The numbers of the edges that nothing leads to, and of those that lead nowhere, but by turning back."""
     back = graph.turns_back
     return (
         [edge for edge, into in enumerate(graph.into) if all(back[movement] for _, movement in into)],
@@ -64,7 +66,8 @@ def entries_and_exits(graph: Graph) -> tuple[list[int], list[int]]:
 
 
 def pairs_of_edges(graph: Graph, net: SumoNet, everywhere: bool) -> list[Pair]:
-    """All pairs of an entry and an exit; of any two edges where there are none, or where trips begin everywhere."""
+    """All pairs of an entry and an exit; of any two edges where the network has no entries or no exits, or where trips
+    begin everywhere. Pairs of an edge with itself, or with the one that it turns back to, are left out."""
     entries, exits = entries_and_exits(graph)
     begins, ends = (ends_of(graph, net, some) for some in (entries, exits))
     if everywhere or not entries or not exits:
@@ -80,8 +83,9 @@ def pairs_of_edges(graph: Graph, net: SumoNet, everywhere: bool) -> list[Pair]:
 
 
 def ends_of(graph: Graph, net: SumoNet, outside: Iterable[int]) -> list[End]:
-    """For each edge what may begin or end there: by its lanes where it is one of `outside`, at which the network begins
-    or ends, else by the metres of its lanes, as for the houses along it."""
+    """For each edge what is expected of it as an end: weight by how many lanes it has where it is one of `outside`
+    (numbers of edges at which the network begins or ends), else by the metres of its lanes, as for the houses along
+    it."""
     lanes = [net.edges[name].lanes for name in graph.edges]
     metres = [sum(lane.metres for lane in some) for some in lanes]
     there = set(outside)
@@ -92,7 +96,7 @@ def ends_of(graph: Graph, net: SumoNet, outside: Iterable[int]) -> list[End]:
 
 
 def pairs_of_zones(graph: Graph, zones: Mapping[str, Zone], wanted: Iterable[tuple[str, str]]) -> list[Pair]:
-    """The pairs of zones, (source, target), that are wanted; their edges are numbers of the graph."""
+    """The pairs of zones that are wanted, (source, target) by name; edges of weight 0 are left out."""
 
     def numbers(weights: Mapping[str, float]) -> dict[int, float]:
         return {graph.number[name]: weight for name, weight in weights.items() if weight}
@@ -103,8 +107,9 @@ def pairs_of_zones(graph: Graph, zones: Mapping[str, Zone], wanted: Iterable[tup
 
 
 def thinned(pairs: Sequence[Pair], ways: int, most: int, seed: int) -> tuple[list[Pair], int]:
-    """Pairs, and how many ways of each are to be found, so that there are not more ways than asked for: fewer of each
-    pair, as pairs that are left out cost more; of more pairs than that a seed draws some."""
+    """The pairs to search, and how many ways of each, so that there are about `most` ways in all: fewer ways of each
+    pair first, as pairs that are left out cost more; where even one way of each is too many, a seed draws some
+    pairs."""
     count = sum(len(pair.sources) * len(pair.sinks) for pair in pairs)
     each = max(1, min(ways, most // max(1, count)))
     if count <= most:
@@ -122,8 +127,9 @@ class Times:
 
 
 def ways_between(graph: Graph, pairs: Sequence[Pair], times: Times, most: int, seed: int) -> list[Way]:
-    """At most so many ways of each pair of edges: the shortest by time with the waits at signals, then without, and
-    further ones as draws of these seconds find them; their shares fall with their seconds."""
+    """At most `most` ways of each pair of edges, with their shares: the shortest by time with the waits at signals,
+    then without, and further ones that draws of these seconds find, up to 1.5 times as long. Pairs without a way have
+    none."""
     numpy, _ = needed()
     both = [
         numpy.array([value + (TURN_BACK if back else 0.0) for value, back in zip(some, graph.turns_back, strict=True)])
@@ -151,8 +157,8 @@ def ways_between(graph: Graph, pairs: Sequence[Pair], times: Times, most: int, s
 
 @dataclass(frozen=True, slots=True)
 class Habit:
-    """How drivers choose between ways: the part of the waits at signals that they reckon with, and by how much of its
-    seconds a way is longer that e times fewer take."""
+    """How drivers choose between ways: the part, 0 to 1, of the waits at signals that they reckon with; and spread: a
+    way that is longer by this part of the shortest one's seconds is taken by a part 1 / e of as many."""
 
     waits: float
     spread: float
@@ -162,7 +168,7 @@ HABITS = [Habit(waits, spread) for waits in (1.0, 0.5, 0.0) for spread in (0.1, 
 
 
 def shares_by(ways: Sequence[Way], habit: Habit) -> Any:
-    """The share of its pair's vehicles that each way has by a habit."""
+    """The share of its pair's vehicles that each way has by a habit, as an array in the ways' order."""
     numpy, _ = needed()
     groups: dict[tuple[int, int, int], int] = {}
     group = numpy.array([groups.setdefault((way.pair, way.path[0], way.path[-1]), len(groups)) for way in ways], int)
@@ -175,7 +181,7 @@ def shares_by(ways: Sequence[Way], habit: Habit) -> Any:
 
 
 def ends_wanted(pairs: Iterable[Pair]) -> dict[int, list[int]]:
-    """For each edge on which trips begin those on which they end, but for itself."""
+    """For each edge on which trips begin the edges on which they end, sorted; an edge is no end of itself."""
     wanted: dict[int, set[int]] = {}
     for pair in pairs:
         for source in pair.sources:
@@ -184,8 +190,8 @@ def ends_wanted(pairs: Iterable[Pair]) -> dict[int, list[int]]:
 
 
 def shortest(graph: Graph, costs: Any, wanted: Mapping[int, Sequence[int]]) -> Iterator[tuple[int, int, Path]]:
-    """The shortest path, (origin, target, path), from each edge to the wanted ones, where there is one; costs: seconds
-    of each movement."""
+    """The shortest path, (origin, target, path), from each edge to those wanted for it, all by number; pairs without a
+    path are left out. costs: seconds of each movement, as an array."""
     numpy, scipy = needed()
     ways = graph.movements[: len(graph.movements) - len(graph.edges)]
     ends = numpy.array(ways or [(0, 0)])
@@ -202,7 +208,8 @@ def shortest(graph: Graph, costs: Any, wanted: Mapping[int, Sequence[int]]) -> I
 
 
 def traced(before: Sequence[int], origin: int, target: int) -> Path:
-    """The path that a search found, of the edges before each; empty where none leads there."""
+    """The path from origin to target, of the edge before each that a search found (below 0: none); empty where none
+    leads there."""
     path, edge = [target], before[target]
     while edge >= 0:
         path.append(edge)
@@ -211,13 +218,13 @@ def traced(before: Sequence[int], origin: int, target: int) -> Path:
 
 
 def seconds_of(graph: Graph, costs: Any, path: Path) -> float:
-    """The seconds of a path, its end with them; costs: of each movement."""
+    """The seconds of a path, the way over its last edge included; costs: of each movement."""
     return float(sum(costs[graph.movement_of[way]] for way in pairwise((*path, END))))
 
 
 def ways_of_pair(at: int, pair: Pair, found: Mapping[tuple[int, int], Mapping[Path, float]]) -> Iterator[Way]:
-    """The ways of a pair, by its place among the pairs, each with what its ends have of the pair's vehicles; shares are
-    told later. found: seconds of the paths between two edges."""
+    """The ways of a pair, by its place among the pairs, with the weights of their ends; their shares and driven seconds
+    are still 0. found: by (first edge, last edge) seconds of each path."""
     ends = {
         (source, sink): weight * other
         for source, weight in pair.sources.items() for sink, other in pair.sinks.items()
@@ -232,9 +239,10 @@ def ways_of_pair(at: int, pair: Pair, found: Mapping[tuple[int, int], Mapping[Pa
 def with_given(
     graph: Graph, pairs: Sequence[Pair], ways: Sequence[Way], routes: Iterable[tuple[str, ...]], costs: Sequence[float]
 ) -> tuple[list[Pair], list[Way]]:
-    """Pairs and ways with the routes of files, names of edges, as further candidates, each once. A route is of the pair
-    whose ends it has, else of a pair of its own; of the ways of a pair those of files have as much together as vehicles
-    have them. costs: seconds of each movement."""
+    """Pairs and ways with the routes of files (names of edges) as further candidates; one that is a way already is left
+    out. A route belongs to the pair whose ends it has, else to a new one of its own; the routes of files have half of
+    their pair's vehicles together, or all where it had no way, as often as each stands in the files. costs: seconds of
+    each movement."""
     many = Counter(tuple(graph.number[name] for name in edges) for edges in routes)
     all_pairs, known = list(pairs), {way.path for way in ways}
     place = {(one, other): at for at, pair in enumerate(pairs) for one in pair.sources for other in pair.sinks}
@@ -255,6 +263,6 @@ def with_given(
 
 
 def refuse_none(ways: Sequence[Way]) -> None:
-    """Refuses a demand without a way."""
+    """Fault for a demand without any way."""
     if not ways:
         raise Fault("no way leads from any place where trips begin to one where they end")

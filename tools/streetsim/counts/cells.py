@@ -1,4 +1,4 @@
-"""Tables as planners keep them: CSV with commas, semicolons or tabs, each row with its line."""
+"""Tables as planners keep them: CSV with commas, semicolons or tabs, whose rows know their line."""
 import csv
 from collections.abc import Callable, Collection, Iterator, Mapping, Sequence
 from dataclasses import dataclass
@@ -27,7 +27,8 @@ class Row:
         return f"{self.path}: line {self.line}"
 
     def get(self, name: str, convert: Callable[[str], Value]) -> Value:
-        """What a column has, converted; Fault where `convert` raises ValueError, whose words it tells."""
+        """What a column has, without blanks around it, converted; Fault where `convert` raises ValueError, whose words
+        it tells."""
         text = self.cells[name].strip()
         try:
             return convert(text)
@@ -35,12 +36,13 @@ class Row:
             raise Fault(f"{self.where}: {name} {text!r} {fault}") from None
 
     def text(self, name: str) -> str:
-        """What a column has that may be left out; then nothing."""
+        """What a column has, without blanks around it; empty where the table does not have the column."""
         return self.cells.get(name, "").strip()
 
 
 def rows_of(path: FilePath, needed: Sequence[str], more: Collection[str] = ()) -> Iterator[Row]:
-    """The rows of a table that must have some columns, and may have some more; any other column is refused."""
+    """The rows of a table with the columns `needed`, and maybe those of `more`; Fault for other columns, or a row of
+    another length. Blank rows, and those that begin with #, are left out."""
     with reading(path), open_text(path) as file:
         lines = (line for line in file)
         first = next((line for line in lines if line.strip()), "")
@@ -58,7 +60,8 @@ def rows_of(path: FilePath, needed: Sequence[str], more: Collection[str] = ()) -
 
 
 def check_columns(path: FilePath, names: Sequence[str], needed: Sequence[str], more: Collection[str]) -> None:
-    """Refuses a table without a needed column, with one that is none of the needed and more, or with one twice."""
+    """Fault for a table without a needed column, with one that is neither needed nor one of `more`, or with one
+    twice."""
     if names == [""]:
         raise Fault(f"{path}: nothing is in it; expected the columns {','.join(needed)}")
     if missing := [name for name in needed if name not in names]:
@@ -74,7 +77,8 @@ def check_columns(path: FilePath, names: Sequence[str], needed: Sequence[str], m
 
 
 def clock_of(text: str) -> int:
-    """Whole seconds: 3600, 01:00:00, 0:01:00:00, or 01:00 as planners write it; ValueError otherwise."""
+    """Whole seconds, 0 to 1,000,000,000, of 3600, 01:00:00, 0:01:00:00, or 01:00 (HH:MM) as planners write it;
+    ValueError otherwise."""
     parts = text.split(":")
     try:
         values = [float(part) for part in parts]
@@ -91,7 +95,7 @@ def clock_of(text: str) -> int:
 
 
 def vehicles_of(text: str) -> float:
-    """A number of vehicles, which may be a mean over days; ValueError where it is none, or below 0."""
+    """A number of vehicles from 0 on, not always whole, as it may be a mean over days; ValueError otherwise."""
     try:
         value = float(text)
     except ValueError:
@@ -102,20 +106,20 @@ def vehicles_of(text: str) -> float:
 
 
 def name_of(text: str) -> str:
-    """A name; ValueError where it is empty."""
+    """The text itself, as a name; ValueError where it is empty."""
     if not text:
         raise ValueError("names nothing")
     return text
 
 
 def period_of(begin: int, end: int, where: str) -> tuple[int, int]:
-    """A period in seconds; Fault, with where it stands, if it does not last."""
+    """(begin, end) in seconds; Fault, with where it stands, if the end is not after the begin."""
     if end <= begin:
         raise Fault(f"{where}: the period ends at {end:,} s, and begins at {begin:,} s")
     return begin, end
 
 
 def begins_with(path: FilePath, mark: str) -> bool:
-    """Whether the first sign of a file, but spaces, is a mark."""
+    """Whether a file begins with a mark, blanks and blank lines apart."""
     with reading(path), open_text(path) as file:
         return next((line for line in file if line.strip()), "").lstrip().startswith(mark)

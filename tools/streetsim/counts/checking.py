@@ -1,4 +1,4 @@
-"""Counts against the network and against each other: what is wrong is told with its line."""
+"""Checks counts against the network and against each other: what is wrong is told with its line."""
 from collections import defaultdict
 from collections.abc import Iterable, Iterator, Mapping, Sequence, Set
 from difflib import get_close_matches
@@ -14,7 +14,7 @@ APART = 0.1  # of the larger of two numbers that should be equal
 LEAST_APART = 10.0  # vehicles: less is chance
 MOST_A_LANE = 3600.0  # vehicles an hour: one a second
 
-Key = tuple[int, int, str]  # begin, end, class
+Key = tuple[int, int, str]  # begin and end in seconds, class
 
 
 class Contradiction(NamedTuple):
@@ -29,13 +29,14 @@ class Contradiction(NamedTuple):
     where: str  # files and lines, as `lines_told` has them
 
     def told(self) -> str:
-        """It in one line."""
+        """The contradiction in one line, with the lines of files that tell the numbers."""
         what = self.there.format(f"{self.first:g}", f"{self.second:g}")
         return f"{self.place}, {self.begin:,} to {self.end:,} s: {what} ({self.where})"
 
 
 def check_edges(names: Iterable[str], where: str, net: SumoNet) -> None:
-    """Refuses edges that the network does not have, or on which none of the classes may drive."""
+    """Fault, with where they stand, for names of edges that the network does not have, or on which none of the classes
+    may drive."""
     for name in names:
         if name in net.edges:
             continue
@@ -46,7 +47,8 @@ def check_edges(names: Iterable[str], where: str, net: SumoNet) -> None:
 
 
 def check_counts(counts: Sequence[Count], net: SumoNet, graph: Graph) -> None:
-    """Refuses counts of places that there are not, of a place and period twice, and of more than can pass."""
+    """Fault for counts of edges or turns that the network does not have, of a place and period twice, of more than a
+    vehicle a second and lane; and where all are 0."""
     for count in counts:
         check_edges(count.edges, count.where, net)
         for source, target in pairwise(count.edges):
@@ -64,7 +66,7 @@ def check_counts(counts: Sequence[Count], net: SumoNet, graph: Graph) -> None:
 
 
 def check_periods(counts: Sequence[Count]) -> None:
-    """Refuses two counts of one place and class whose periods overlap."""
+    """Fault for two counts of one place and class whose periods overlap."""
     of_place: defaultdict[tuple[tuple[str, ...], str], list[Count]] = defaultdict(list)
     for count in counts:
         of_place[count.edges, count.kind].append(count)
@@ -78,7 +80,7 @@ def check_periods(counts: Sequence[Count]) -> None:
 
 
 def check_zone_edges(zones: Mapping[str, Zone], net: SumoNet) -> None:
-    """Refuses zones of edges that the network does not have, or on which none of the classes may drive."""
+    """Fault for zones of edges that the network does not have, or on which none of the classes may drive."""
     for zone in zones.values():
         check_edges([*zone.sources, *zone.sinks], zone.where, net)
 
@@ -89,9 +91,9 @@ NOWHERE: frozenset[int] = frozenset()
 def contradictions(
     counts: Sequence[Count], graph: Graph, begins: Set[int] = NOWHERE, ends: Set[int] = NOWHERE
 ) -> list[Contradiction]:
-    """What differs by more than a tenth though it should be equal: of an edge its count, all its turns, and all turns
-    into it; of a junction all that comes in and goes out. begins, ends: edges on which trips begin, and end, so that
-    some of these may well differ."""
+    """Pairs of numbers that should be equal and differ by more than a tenth and ten vehicles: of an edge its count, all
+    its turns, and all turns into it; of a junction all that comes in and all that goes out. begins, ends: numbers of
+    edges on which trips begin, and end, where they may well differ."""
     sums: defaultdict[Key, dict[tuple[str, ...], Count]] = defaultdict(dict)
     for count in counts:
         sums[count.begin, count.end, count.kind][count.edges] = count
@@ -105,12 +107,13 @@ def contradictions(
     return found
 
 
-Sides = tuple[str, str, list[Count], list[Count]]
-There = Mapping[tuple[str, ...], Count]
+Sides = tuple[str, str, list[Count], list[Count]]  # place, text with two {}, and counts whose sums should be equal
+There = Mapping[tuple[str, ...], Count]  # the counts of one period and class, by edges
 
 
 def of_edges(there: There, graph: Graph, begins: Set[int], ends: Set[int]) -> Iterator[Sides]:
-    """Of each edge what should be equal: its count, all its turns, all turns into it; (place, text, counts, counts)."""
+    """Of each edge what should be equal: its count, all its turns, all turns into it, as far as all of a side are
+    counted."""
     for edge, name in enumerate(graph.edges):
         out = every(there, ((name, graph.edges[following]) for following, _ in graph.out[edge]))
         into = every(there, ((graph.edges[before], name) for before, _ in graph.into[edge]))
@@ -124,8 +127,8 @@ def of_edges(there: There, graph: Graph, begins: Set[int], ends: Set[int]) -> It
 
 
 def of_junctions(there: There, graph: Graph, begins: Set[int], ends: Set[int]) -> Iterator[Sides]:
-    """Of junctions all of whose edges are counted, by the edges that lead to the same ones, what comes in and goes out;
-    as `of_edges`."""
+    """Of junctions all of whose edges are counted what comes in and what goes out, which should be equal. A junction is
+    known by the edges that lead to the same ones."""
     seen = set()
     for edge in range(len(graph.edges)):
         targets = {following for following, _ in graph.out[edge]}
@@ -141,13 +144,13 @@ def of_junctions(there: There, graph: Graph, begins: Set[int], ends: Set[int]) -
 
 
 def every(there: There, keys: Iterable[tuple[str, ...]]) -> list[Count]:
-    """The counts of all places, or none where one has none."""
+    """The counts of all places, by edges; empty where one of these has none."""
     found = [there.get(key) for key in keys]
     return [] if None in found else [count for count in found if count is not None]
 
 
 def lines_told(counts: Sequence[Count], most: int = 4) -> str:
-    """Where some counts stand: the file once, and lines."""
+    """Where some counts stand: each file once, with at most `most` of its lines and how many further ones there are."""
     places: defaultdict[str, list[str]] = defaultdict(list)
     for count in counts:
         path, _, line = count.where.rpartition(": line ")

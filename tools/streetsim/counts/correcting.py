@@ -1,4 +1,5 @@
-"""The fit in the simulation: runs of a demand, and what they show corrected, until it fits or no run is left."""
+"""The fit in the simulation: runs of a demand, each corrected by what the one before showed, until one fits or no run
+is left."""
 from collections.abc import Iterator, Sequence
 from dataclasses import dataclass, field
 from typing import Any
@@ -25,8 +26,8 @@ LATE = 0.1  # of a count, that does not pass though the vehicles for it are ther
 
 @dataclass(frozen=True, slots=True)
 class Attempt:
-    """A demand and what its run gave. passed: vehicles by count; full: edges that were full in it, with seconds
-    lost."""
+    """A demand and what its run gave. number: of the run, from 1; passed: vehicles that passed, by count; full: by
+    number of an edge that was full in the run, the mean seconds that vehicles lost there."""
 
     number: int
     trips: list[Trip]
@@ -39,11 +40,11 @@ class Attempt:
 
     @property
     def arrived(self) -> int:
-        """How many vehicles have arrived."""
+        """How many of its vehicles have arrived."""
         return sum(end is not None for end in self.ran.ends)
 
     def line(self) -> str:
-        """What is told of the run when it ends."""
+        """What is told of the run when it ends, in one line."""
         return (
             f"run {self.number}: {len(self.trips):,} vehicles, {self.arrived:,} arrived, {self.ran.rescues:,} rescues, "
             f"GEH below 5 for {100 * self.judged.share:.1f} % of the counts by hour, "
@@ -51,15 +52,15 @@ class Attempt:
         )
 
     def order(self) -> tuple[bool, float, float]:
-        """Of two attempts the one is better whose order is greater."""
+        """What attempts are ranked by: the better one has the greater value."""
         return self.judged.fits, round(self.judged.share, 3), -self.judged.apart
 
 
 def attempts(
     basis: Basis, asked: Asked, ground: Ground, runs: int, first: Fitted, told: Told = lambda _text: None
 ) -> Iterator[Attempt]:
-    """Runs, at most so many, each of the demand that the one before corrects, until one fits; first: the fit on
-    paper."""
+    """Runs a demand at most `runs` times, and gives each attempt as it ends: the first of the fit on paper (first), the
+    others of what the run before corrects. Ends after one that fits. told: gets what is done just now."""
     graph, fitted, costs = basis.town.graph, first, basis.free_costs()
     counted = made_up = counted_of(basis.counts)
     for number in range(1, runs + 1):
@@ -75,7 +76,7 @@ def attempts(
 
 
 def attempt(basis: Basis, asked: Asked, ground: Ground, number: int, fitted: Fitted, costs: Costs) -> Attempt:
-    """The run, by its number from 1, of a fit; costs: seconds of movements, by which the fit was made."""
+    """Runs a fit; number: of the run, from 1; costs: the seconds of movements by which the fit was made."""
     trips = vehicles_of(basis, asked, fitted)
     town = basis.town
     loaded = town.loaded(trips)
@@ -86,7 +87,7 @@ def attempt(basis: Basis, asked: Asked, ground: Ground, number: int, fitted: Fit
 
 
 def kind_of(trip: Trip, kinds: Sequence[str]) -> str:
-    """The class of a trip, as counts name it; empty where they do not tell it apart."""
+    """The class of a trip, as counts name it; empty where its type is none of the counts' classes (kinds)."""
     return trip.type if trip.type in kinds else ""
 
 
@@ -102,7 +103,8 @@ def corrected(basis: Basis, one: Attempt, costs: Costs, counted: Any, before: An
 
 
 def full_edges(graph: Graph, lost: Sequence[float]) -> dict[int, float]:
-    """The edges on which vehicles lose more than a cycle, with the seconds; lost: by movement."""
+    """The numbers of the edges on which vehicles lose more than 120 s on the mean, with these seconds; lost: by
+    movement."""
     found: dict[int, float] = {}
     for (edge, _), seconds in zip(graph.movements, lost, strict=True):
         if seconds > FULL:
@@ -111,18 +113,19 @@ def full_edges(graph: Graph, lost: Sequence[float]) -> dict[int, float]:
 
 
 def is_behind(count: Count, full: dict[int, float], graph: Graph) -> bool:
-    """Whether a count is at the end of a full edge or next after one."""
+    """Whether a count is at the end of a full edge, or on an edge that a full one leads to; full: by edge number."""
     edge = graph.number[count.edges[0]]
     return edge in full or any(before in full for before, _ in graph.into[edge])
 
 
 def best_of(all_: Sequence[Attempt]) -> Attempt:
-    """The attempt that fits best, of one at least."""
+    """The attempt that fits best, of one at least; the first of equal ones."""
     return max(all_, key=Attempt.order)
 
 
 def left_over(basis: Basis, one: Attempt) -> Iterator[str]:
-    """What stays of counts that do not fit, and why as far as the run shows it; and which counts tell no demand."""
+    """Sentences on the counts that fit worst, and why as far as the run shows it; and on counts at full edges, which do
+    not tell how many want to pass."""
     graph = basis.town.graph
     for each in worst(one.judged):
         figures = f"{each.passed:,.0f} passed of {each.counted:,.0f}, GEH {each.geh:.1f}"
@@ -137,14 +140,14 @@ def left_over(basis: Basis, one: Attempt) -> Iterator[str]:
 
 
 def place_told(each: Compared) -> str:
-    """The place and period of a count, in words."""
+    """The edges and the period of a count in words."""
     source, *others = each.edges
     return f"{source}{f' to {others[-1]}' if others else ''}, {each.begin:,} to {each.end:,} s"
 
 
 def why(basis: Basis, one: Attempt, each: Compared) -> str:
-    """Why a count does not fit, as far as it is known: its vehicles were there and came late, or others speak against
-    it."""
+    """How a sentence on a count that does not fit ends, from its colon on: its vehicles were there and came late, or
+    other counts speak against it; empty where it is not known."""
     planned = sum(
         value
         for count, value in zip(basis.counts, one.fitted.passed(), strict=True)
@@ -158,7 +161,7 @@ def why(basis: Basis, one: Attempt, each: Compared) -> str:
 
 
 def doubts_of(one: Attempt) -> list[str]:
-    """Why the run of a demand is not to be trusted."""
+    """Why the run of a demand is not to be trusted, each in some words; empty where it is."""
     rescues, (waiting, clock) = one.ran.rescues, one.ran.waiting
     found = []
     if rescues > max(1, trust.MOST_RESCUES * len(one.trips)):

@@ -1,4 +1,4 @@
-"""A demand from what a planner has: inputs read and checked, candidates, and the fit."""
+"""Makes a demand from what a planner has: inputs read and checked, candidate ways, and the fit."""
 from collections import Counter
 from collections.abc import Callable, Iterable, Mapping, Sequence
 from dataclasses import dataclass, replace
@@ -27,12 +27,12 @@ from streetsim.ways.seconds import free_seconds
 from streetsim.ways.trips import Trip
 
 CAR = "passenger"  # a class that needs no type of its own
-Told = Callable[[str], object]
+Told = Callable[[str], object]  # takes what is done just now, in words
 
 
 @dataclass(frozen=True, slots=True)
 class Asked:
-    """What a demand is to be made of. Files, and how."""
+    """What a demand is to be made of: paths of files, and how."""
 
     counts: tuple[str, ...] = ()
     attribute: str | None = None  # of SUMO's files, that is the count
@@ -41,17 +41,18 @@ class Asked:
     flows: tuple[str, ...] = ()
     ratios: tuple[str, ...] = ()
     candidates: tuple[str, ...] = ()
-    ways: int | None = None  # of a pair; none: usual
-    most: int = 60_000  # candidates
+    ways: int | None = None  # of a pair at most; none: 3, or 0 with files of candidates
+    most: int = 60_000  # candidate ways, about
     everywhere: bool = False  # trips begin and end on any edge
-    error: float = fitting.ERROR
+    error: float = fitting.ERROR  # of a count, as a share, by which it is taken to be wrong
     seed: int = 1
 
 
 @dataclass(frozen=True, slots=True)
 class Basis:
-    """What a fit stands on. given: vehicles by class, way and slice of a matrix or of turn ratios, by class; free:
-    seconds of movements."""
+    """What a fit stands on. kinds: vehicle classes that are told apart, empty for all others; given: by class the
+    vehicles of each way and slice, ways first, of a matrix or of turn ratios; free: seconds of each movement without
+    other traffic."""
 
     town: Town
     counts: list[Count]
@@ -66,14 +67,15 @@ class Basis:
     thinned: tuple[int, int]  # pairs that were kept, of how many
 
     def free_costs(self) -> Costs:
-        """The seconds of movements without other traffic, at any time."""
+        """The seconds of movements without other traffic, equal in all slices of time."""
         return flat_costs(self.town.graph, list(self.free))
 
 
 @dataclass(frozen=True, slots=True)
 class Fitted:
-    """A fit on paper. passing: the matrix, counts by columns; vehicles: of each class, way and slice; expected: the
-    same before anything was counted; whole: in whole vehicles."""
+    """A fit on paper; vehicles are arrays by class, way and slice, classes first. passing: the matrix of the counts, a
+    column for each of these; expected: vehicles before anything was counted; vehicles: of the fit; whole: the same in
+    whole vehicles."""
 
     passing: Any
     expected: Any
@@ -81,12 +83,13 @@ class Fitted:
     whole: Any
 
     def passed(self) -> list[float]:
-        """How many would pass each count."""
+        """How many of the whole vehicles would pass each count, by the seconds of the fit."""
         return [float(value) for value in self.passing @ self.whole]
 
 
 def basis_of(town: Town, asked: Asked, told: Told = lambda _text: None) -> Basis:
-    """Reads and checks what was asked for, and finds candidates; told: gets what is done just now."""
+    """Reads and checks what was asked for, and finds the candidate ways; Fault for what cannot be used. told: gets what
+    is done just now."""
     needed()
     refuse_nothing(asked)
     told("reading counts")
@@ -115,7 +118,7 @@ def basis_of(town: Town, asked: Asked, told: Told = lambda _text: None) -> Basis
 
 
 def refuse_nothing(asked: Asked) -> None:
-    """Refuses words that lead to no demand, or of which one leaves another without effect."""
+    """Fault for words that lead to no demand, or of which one leaves another without effect."""
     if not (asked.counts or asked.matrices or asked.flows):
         raise Fault("nothing to make a demand of: give --counts, --matrix or --flows with --ratios")
     if bool(asked.flows) != bool(asked.ratios):
@@ -127,7 +130,8 @@ def refuse_nothing(asked: Asked) -> None:
 
 
 def read_matrix(asked: Asked, counts: Sequence[Count], town: Town) -> tuple[dict[str, Zone], list[Cell]]:
-    """Zones, and the matrix between them. Without zones a matrix is between edges."""
+    """The zones by name, and the cells of the matrix between them; without zones a matrix is between edges. Cells
+    without a period have that of all counts."""
     zones = read_zones(asked.zones)
     checking.check_zone_edges(zones, town.net)
     period = (min(one.begin for one in counts), max(one.end for one in counts)) if counts else None
@@ -144,7 +148,8 @@ def read_matrix(asked: Asked, counts: Sequence[Count], town: Town) -> tuple[dict
 
 
 def kinds_of(counts: Iterable[Count], cells: Iterable[Cell], types: Types) -> tuple[str, ...]:
-    """The classes that are told apart, each of which becomes a vehicle type; all others are cars."""
+    """The classes that are told apart by counts and matrix, sorted; empty stands for all others, which are cars. Each
+    becomes a vehicle type in `types`; Fault for one that SUMO does not have."""
     found = dict.fromkeys([*((one.kind, one.where) for one in counts), *((one.kind, one.where) for one in cells)])
     for kind, where in found:
         if kind and kind not in CLASSES:
@@ -159,8 +164,8 @@ def kinds_of(counts: Iterable[Count], cells: Iterable[Cell], types: Types) -> tu
 def by_pairs(
     town: Town, asked: Asked, times: Times, zones: Mapping[str, Zone], cells: Sequence[Cell]
 ) -> tuple[list[Pair], list[Way], tuple[int, int]]:
-    """Pairs of a matrix, of zones, or of entries and exits; their ways, with those of route files; and how many pairs
-    were kept of how many."""
+    """The pairs of a matrix, of zones, or of entries and exits; their ways, with those of route files; and (pairs that
+    were kept, of how many)."""
     graph = town.graph
     count = (0 if asked.candidates else 3) if asked.ways is None else asked.ways
     if cells:
@@ -184,7 +189,7 @@ def by_pairs(
 
 def given_routes(town: Town, asked: Asked) -> list[tuple[str, ...]]:
     """The edges of each route of the files of candidates: as often as vehicles have it, once where none has. Routes of
-    one edge are left out; a Fault where no connection leads from an edge to the next."""
+    one edge are left out; Fault where a file has none, or no connection leads from an edge to the next."""
     demand = Demand(town.net, town.types, asked.seed, Report())
     for path in asked.candidates:
         demand.read(path)
@@ -204,8 +209,8 @@ def given_routes(town: Town, asked: Asked) -> list[tuple[str, ...]]:
 def by_ratios(
     town: Town, asked: Asked, free: Sequence[float]
 ) -> tuple[list[Pair], list[Way], list[tuple[float, int]]]:
-    """Pairs and ways by turn ratios, and for each vehicle its departure and its way's place. free: seconds of
-    movements."""
+    """The pairs and ways that turn ratios give, and (departure, place of its way) of each vehicle. free: seconds of
+    each movement."""
     found, sinks = ratios.read_ratios(asked.ratios)
     inflows = ratios.read_inflows(asked.flows, asked.seed)
     turns = walking.Turns(found, sinks, town.net, town.graph)
@@ -217,8 +222,8 @@ def by_ratios(
 
 
 def bounds_of(counts: Iterable[Count], cells: Iterable[Cell], departs: Sequence[tuple[float, int]]) -> list[int]:
-    """The begins and ends of slices, rising: of counts and of cells, else of departures, (second, way); Fault where
-    there are none."""
+    """The begins and ends of slices in seconds, rising: of counts and of cells, else of departures (second, place of
+    the way); Fault where they make no period."""
     periods = [*((one.begin, one.end) for one in counts), *((one.begin, one.end) for one in cells)]
     bounds = {bound for period in periods for bound in period}
     if departs and not bounds:
@@ -231,8 +236,9 @@ def bounds_of(counts: Iterable[Count], cells: Iterable[Cell], departs: Sequence[
 
 
 def by_cells(cells: Sequence[Cell], pairs: Sequence[Pair], ways: Sequence[Way], slices: Slices) -> dict[str, Any]:
-    """The vehicles of a matrix by class, then by way and slice: those of a cell over the slices of its period and the
-    ways of its pair."""
+    """By class the vehicles of a matrix as an array by way and slice, ways first: those of a cell over the slices of
+    its period, evenly, and over the ways of its pair by their shares. Cells of pairs that have no place are left
+    out."""
     numpy, _ = needed()
     place = {(pair.source, pair.target): at for at, pair in enumerate(pairs)}
     of_pair: dict[str, Any] = {}
@@ -248,7 +254,8 @@ def by_cells(cells: Sequence[Cell], pairs: Sequence[Pair], ways: Sequence[Way], 
 
 
 def by_departures(departs: Sequence[tuple[float, int]], slices: Slices, ways: int) -> dict[str, Any]:
-    """The vehicles of each way and slice, of no class, of departures (second, way); nothing where there are none."""
+    """The vehicles of each way and slice, ways first, under the empty class, of departures (second, place of the way);
+    nothing where there are none. ways: how many there are."""
     if not departs:
         return {}
     numpy, _ = needed()
@@ -260,7 +267,8 @@ def by_departures(departs: Sequence[tuple[float, int]], slices: Slices, ways: in
 
 
 def stacked(basis: Basis, costs: Costs) -> Any:
-    """The matrix of all classes: a count of one has the columns of this alone."""
+    """The matrix of all classes side by side: rows are counts, columns class, way and slice. A count of one class has
+    shares in the columns of this alone, one without a class in all."""
     numpy, scipy = needed()
     base = passing_matrix(basis.town.graph, basis.ways, basis.slices, basis.places, costs)
     masks = [numpy.array([float(one.kind in ("", kind)) for one in basis.counts]) for kind in basis.kinds]
@@ -268,8 +276,8 @@ def stacked(basis: Basis, costs: Costs) -> Any:
 
 
 def fit(basis: Basis, asked: Asked, costs: Costs, counted: Any = None) -> Fitted:
-    """The vehicles that fit what was counted; costs: seconds of movements. counted: by count, where it is corrected by
-    what a run showed."""
+    """The vehicles that fit the counts best. costs: seconds of movements, by which it is known who passes when;
+    counted: vehicles by count to be met, where what was counted is corrected by a run, else none."""
     numpy, scipy = needed()
     size = len(basis.ways) * len(basis.slices)
     passing = stacked(basis, costs) if basis.counts else scipy.sparse.csr_matrix((0, len(basis.kinds) * size))
@@ -286,8 +294,9 @@ def fit(basis: Basis, asked: Asked, costs: Costs, counted: Any = None) -> Fitted
 
 
 def expected_of(basis: Basis, asked: Asked, kind: str, base: Any, counted: Any) -> Any:
-    """The vehicles of a class that are expected of ways and slices: of a matrix or ratios, else by the counts alone.
-    base: the matrix's columns of this class."""
+    """The vehicles of a class that are expected of each way and slice, ways first: of a matrix or of ratios, else by
+    the counts of the class. base: the matrix's columns of this class; counted: vehicles by count. Without any count of
+    the class 0."""
     numpy, _ = needed()
     if kind in basis.given:
         return basis.given[kind]
@@ -305,7 +314,7 @@ def expected_of(basis: Basis, asked: Asked, kind: str, base: Any, counted: Any) 
 
 
 def vehicles_of(basis: Basis, asked: Asked, fitted: Fitted) -> list[Trip]:
-    """The trips of a fit by departure; Fault where there are none."""
+    """The trips of a fit, by departure; Fault where it has no vehicle."""
     trips = trips_of(fitted.whole, basis.kinds, basis.ways, basis.slices, asked.seed)
     if not trips:
         raise Fault("nobody drives: the fit has no vehicle")
@@ -313,7 +322,7 @@ def vehicles_of(basis: Basis, asked: Asked, fitted: Fitted) -> list[Trip]:
 
 
 def with_begin(town: Town, begin: int) -> Town:
-    """The town with runs that begin at a clock."""
+    """The same town with runs that begin at a clock."""
     made = Town(town.net, town.types, replace(town.options, begin=begin))
     made.works = town.works
     return made

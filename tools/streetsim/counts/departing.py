@@ -1,4 +1,4 @@
-"""Vehicles with their departures, of the numbers that ways and slices have."""
+"""Trips with their departures, from how many vehicles each way and slice has."""
 import random
 from collections import defaultdict
 from collections.abc import Sequence
@@ -11,8 +11,9 @@ from streetsim.ways.trips import Trip
 
 
 def trips_of(whole: Any, kinds: Sequence[str], ways: Sequence[Way], slices: Slices, seed: int) -> list[Trip]:
-    """Vehicles by departure. Those of a slice that begin on the same edge depart one after another over all of it, each
-    at random within its part. whole: numbers by class, way and slice."""
+    """Trips by departure, with numbers as names. Those of a slice that begin on one edge are spread over all of it, one
+    after another in random order, each at a random second of its part. whole: vehicles by class, way and slice, classes
+    first; seed: of the draws."""
     count = len(slices)
     begun: defaultdict[tuple[int, int], list[tuple[str, Way]]] = defaultdict(list)
     for at in whole.nonzero()[0].tolist():

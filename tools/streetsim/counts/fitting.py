@@ -9,19 +9,20 @@ from streetsim.counts.science import needed
 from streetsim.counts.values import Count
 
 ERROR = 0.05  # of a count, by which it is taken to be wrong
-CHANCE = 1.0  # vehicles, by which any count is taken to be wrong besides
-FIRM = 10.0  # times as much as that says, counts weigh in the last fit against what is expected of single ways
+CHANCE = 1.0  # square of the vehicles by which any count is taken to be wrong besides
+FIRM = 10.0  # how many times as much as their deviations say counts weigh in the last fit
 ENDS_ROUNDS = 6  # in which the trips that begin and end at each place are estimated
 OUTSIDE = (0, 2, 4)  # times doubled, that an end outside has more than one within: what fits best
 HALF = 0.5  # of what is expected of a way, by what begins and ends at its places
 LEAST = 1e-6  # vehicles that are expected of a way and slice at least, so that it is not ruled out
-STEPS = 500  # of a search
+STEPS = 500  # of the search for the least squares, at most
 
 
 @dataclass(frozen=True, slots=True)
 class Problem:
-    """passing: a row for each count, a column for each way and slice; expected: vehicles of each of these before
-    anything was counted; counted, and the deviation of each count."""
+    """What is to be fitted. passing: the share of the vehicles of each way and slice (columns) that pass each count
+    (rows); expected: vehicles of each column before anything was counted; counted: vehicles of each row; deviation: how
+    far off each of these is taken to be."""
 
     passing: Any
     expected: Any
@@ -30,14 +31,14 @@ class Problem:
 
 
 def deviations(counted: Any, error: float) -> Any:
-    """How far off counts are taken to be, in vehicles; error: as a share of a count."""
+    """How far off counts are taken to be, in vehicles; counted: an array of vehicles; error: share of a count."""
     numpy, _ = needed()
     return numpy.sqrt(CHANCE + (error * counted) ** 2)
 
 
 def solved(problem: Problem) -> Any:
-    """The vehicles of each column for which the squares of what counts differ by, over their deviations, and of what
-    vehicles differ by from those expected, over the spread of a number that is by chance, are least; none below 0."""
+    """The vehicles of each column, 0 at least, for which the sum of squares is least: of what the counts differ by over
+    their deviations, and of what the vehicles differ by from those expected over the root of these."""
     numpy, scipy = needed()
     root = numpy.sqrt(numpy.maximum(problem.expected, LEAST))
     scaled = scipy.sparse.diags(1 / problem.deviation) @ problem.passing @ scipy.sparse.diags(root)
@@ -57,7 +58,7 @@ def solved(problem: Problem) -> Any:
 
 
 def apart_in(problem: Problem, vehicles: Any) -> float:
-    """The sum of squares that is least in a fit."""
+    """The sum of squares that `solved` makes least, for some vehicles."""
     numpy, _ = needed()
     counts = (problem.passing @ vehicles - problem.counted) / problem.deviation
     root = numpy.sqrt(numpy.maximum(problem.expected, LEAST))
@@ -65,8 +66,8 @@ def apart_in(problem: Problem, vehicles: Any) -> float:
 
 
 class Ends:
-    """The places where trips begin, or where they end: for each way the number of its place; and for each place its
-    weight beside others of its kind, and its kind."""
+    """The places where trips begin, or those where they end, by number: of_way has the number of each way's place;
+    weight and kind (1: outside, 0: within) are those of each place."""
 
     def __init__(self, names: Sequence[str], ends: Sequence[End]) -> None:
         """names, ends: of each way's place, in the ways' order."""
@@ -78,7 +79,8 @@ class Ends:
         self.kind = numpy.array([int(known[name].outside) for name in numbers])
 
     def shares(self, vehicles: Any) -> Any:
-        """For each way the vehicles of its place: half as there are, half as places of its kind have by weight."""
+        """For each way the vehicles of its place: half of them as the ways have them, half as all places of its kind
+        would by their weights. vehicles: of each way."""
         numpy, _ = needed()
         own = numpy.bincount(self.of_way, vehicles, len(self.weight))
         rates = numpy.bincount(self.kind, own, 2) / numpy.maximum(numpy.bincount(self.kind, self.weight, 2), LEAST)
@@ -86,10 +88,11 @@ class Ends:
 
 
 class Expecting:
-    """What is expected of ways and slices before the counts of each are looked at: how much a slice has by all counts,
-    and how much begins and ends at each place."""
+    """What is expected of ways and slices by counts alone: how much each slice has by all counts together, and how much
+    begins and ends at each place."""
 
     def __init__(self, ways: Sequence[Way], pairs: Sequence[Pair], slices: Slices, error: float) -> None:
+        """error: share of a count by which it is taken to be wrong."""
         numpy, _ = needed()
         self.slices, self.error, self.ways = slices, error, ways
         own = [pairs[way.pair] for way in ways]
@@ -100,9 +103,9 @@ class Expecting:
         self.outside = 2.0 ** sum(kinds)  # doubles for each end of a way that lies outside
 
     def without_matrix(self, passing: Any, counted: Any) -> Any:
-        """The vehicles of each way and slice by counts alone: at first by the habit of drivers, and by what ends
-        outside have more, that fit the counts best; then half by what begins and ends at each place, and half by what
-        the counts have shown of each way."""
+        """The vehicles of each way and slice, ways first, by counts alone: at first by the habit of drivers, and by
+        what ends outside have more, that fit the counts best; then half by what begins and ends at each place, and half
+        by what the counts have shown of each way. passing, counted: as `Problem` has them."""
         numpy, _ = needed()
         deviation = deviations(counted, self.error)
         if all(way.weight for way in self.ways):
@@ -118,25 +121,27 @@ class Expecting:
         return numpy.outer(numpy.maximum(base, LEAST), rates).ravel()
 
     def apart(self, passing: Any, counted: Any, share: Any) -> float:
-        """How far counts, and what is expected by some shares of ways, stay apart in a fit."""
+        """How far counts and what is expected stay apart in a fit, by the sum of squares; share: of each way."""
         base, rates = self.scaled(passing, counted, self.by_ends(share))
         problem = Problem(pooled_columns(passing, rates), base, counted, deviations(counted, self.error))
         return apart_in(problem, solved(problem))
 
     def scaled(self, passing: Any, counted: Any, base: Any) -> tuple[Any, Any]:
-        """The vehicles of ways over all slices, and the share that each slice has of them, by all counts; base: how
-        ways share."""
+        """The vehicles of each way over all slices, and the share, 0 to 1, that each slice has of them, by all counts
+        together; base: any numbers in whose proportion ways have vehicles."""
         rates = self.rates(passing, counted, base)
         total = float(rates.sum())
         return base * total, rates / total
 
     def by_ends(self, vehicles: Any) -> Any:
-        """The vehicles of ways as the product of how many begin and how many end at each place."""
+        """The vehicles of each way as the product of how many begin and how many end at its places and of its share;
+        their sum is that of `vehicles`."""
         made = self.begins.shares(vehicles) * self.ends.shares(vehicles) * self.share
         return made * (vehicles.sum() / max(made.sum(), LEAST))
 
     def rates(self, passing: Any, counted: Any, base: Any) -> Any:
-        """How many vehicles a slice has for one of the base; the slice that leads in as many a second as the next."""
+        """How many vehicles a slice has for one vehicle of `base`, which has a number for each way. The slice that
+        leads in, if there is one, has as many a second as the next."""
         numpy, scipy = needed()
         count = len(self.slices)
         columns = numpy.arange(passing.shape[1])
@@ -153,7 +158,8 @@ class Expecting:
 
 
 def pooled_columns(passing: Any, rates: Any) -> Any:
-    """The matrix with the columns of each way as one, its slices by their rates."""
+    """The matrix with one column for each way, in place of one for each of its slices; rates: the share that each slice
+    has."""
     numpy, scipy = needed()
     columns = numpy.arange(passing.shape[1])
     sums = scipy.sparse.csr_matrix((rates[columns % len(rates)], (columns, columns // len(rates))))
@@ -161,13 +167,13 @@ def pooled_columns(passing: Any, rates: Any) -> Any:
 
 
 def counted_of(counts: Sequence[Count]) -> Any:
-    """The vehicles of counts, as an array."""
+    """The vehicles of counts as an array, in their order."""
     numpy, _ = needed()
     return numpy.array([count.vehicles for count in counts])
 
 
 def uncounted(passing: Any, counts: Sequence[Count]) -> list[Count]:
-    """The counts of vehicles that no way can fit, as none passes then; counts of 0 are none of them."""
+    """The counts above 0 that no way can fit, as nobody of any way passes there in that period."""
     numpy, _ = needed()
     sums = numpy.asarray(passing.sum(axis=1)).ravel()
     return [count for count, share in zip(counts, sums, strict=True) if share <= 0 and count.vehicles > 0]

@@ -26,14 +26,14 @@ class Compared:
     begin: int
     end: int
     edges: tuple[str, ...]
-    kind: str
-    group: str
+    kind: str  # the vehicle class; empty: all vehicles
+    group: str  # the screen line; empty: none
     counted: float
     passed: float
 
     @property
     def geh(self) -> float:
-        """Of hourly volumes."""
+        """The GEH of both numbers, as vehicles an hour."""
         hours = (self.end - self.begin) / HOUR
         return geh(self.counted / hours, self.passed / hours)
 
@@ -59,17 +59,18 @@ class Sums:
 
     @property
     def share(self) -> float:
-        """Of its counts, those that fit, 0 to 1."""
+        """The share, 0 to 1, of its counts whose GEH is below 5."""
         return self.good / self.counts
 
     @property
     def difference(self) -> float:
-        """What passed beyond what was counted, as a share of this."""
+        """What passed beyond what was counted, as a share of what was counted; less than 0 where fewer passed. Where
+        nothing was counted 1 if anything passed, else 0."""
         return self.passed / self.counted - 1 if self.counted else float(self.passed > 0)
 
     @property
     def fits(self) -> bool:
-        """Whether enough counts fit, and the totals do."""
+        """Whether GEH is below 5 for 85 % of its counts, and its totals differ by 5 % at most."""
         return self.share >= SHARE and abs(self.difference) <= TOTAL
 
     def row(self) -> tuple[object, ...]:
@@ -88,7 +89,8 @@ class Sums:
 
 @dataclass(frozen=True, slots=True)
 class Judged:
-    """each: by count; hourly: by place and hour; hours; groups: by screen line and hour."""
+    """How well a run, or a fit, meets counts. each: by count; hourly: by place and hour of the clock; hours: sums of
+    all places, by hour; groups: sums by screen line and hour."""
 
     each: list[Compared]
     hourly: list[Compared]
@@ -102,16 +104,16 @@ class Judged:
 
     @property
     def share(self) -> float:
-        """Of the counts of all hours, those that fit, 0 to 1."""
+        """The share, 0 to 1, of the counts of all hours whose GEH is below 5."""
         return sum(one.good for one in self.hours) / sum(one.counts for one in self.hours)
 
     @property
     def apart(self) -> float:
-        """By how much, as a share, the hour whose total is farthest off differs."""
+        """The greatest difference of an hour's total from what was counted, as a share."""
         return max(abs(one.difference) for one in self.hours)
 
     def lines(self) -> Iterator[str]:
-        """The criteria, hour by hour, then screen lines, r and slope."""
+        """Lines for the terminal: the criteria hour by hour, then screen lines, r and slope."""
         for one in self.hours:
             yield (
                 f"{one.begin:,} to {one.end:,} s: GEH below 5 for {100 * one.share:.1f} % of {one.counts:,} counts, "
@@ -128,14 +130,14 @@ class Judged:
 
     @staticmethod
     def wanted(one: Sums) -> str:
-        """What an hour that does not fit would need."""
+        """What an hour that does not fit would have to reach."""
         parts = [] if one.share >= SHARE else [f"GEH below 5 for {100 * SHARE:.0f} %"]
         parts += [] if abs(one.difference) <= TOTAL else [f"totals within {100 * TOTAL:.0f} %"]
         return " and ".join(parts)
 
 
 def judged(counts: Sequence[Count], passed: Sequence[float]) -> Judged:
-    """How well what passed, by count, fits the counts."""
+    """How well numbers of vehicles that passed, one for each count, meet the counts."""
     each = [
         Compared(count.begin, count.end, count.edges, count.kind, count.group, count.vehicles, value)
         for count, value in zip(counts, passed, strict=True)
@@ -146,7 +148,7 @@ def judged(counts: Sequence[Count], passed: Sequence[float]) -> Judged:
 
 
 def by_hour(each: Iterable[Compared]) -> list[Compared]:
-    """The counts of a place within an hour of the clock as one."""
+    """The counts of a place and class whose begins lie in one hour of the clock, as one with their sums."""
     found: defaultdict[tuple[object, ...], list[Compared]] = defaultdict(list)
     for one in each:
         found[one.begin // HOUR, one.edges, one.kind].append(one)
@@ -160,7 +162,7 @@ def by_hour(each: Iterable[Compared]) -> list[Compared]:
 
 
 def sums_of(hourly: Iterable[Compared], grouped: bool) -> list[Sums]:
-    """By hour of the clock, and by screen line where they are grouped."""
+    """Sums of counts by hour of the clock (of their begin); where `grouped`, for each screen line by itself."""
     found: defaultdict[tuple[int, str], list[Compared]] = defaultdict(list)
     for one in hourly:
         found[one.begin // HOUR, one.group if grouped else ""].append(one)
@@ -174,13 +176,13 @@ def sums_of(hourly: Iterable[Compared], grouped: bool) -> list[Sums]:
 
 
 def line_through(each: Sequence[Compared]) -> tuple[float, float] | None:
-    """Pearson's r of what passed with what was counted, and the slope of the line through them; none where they do not
-    vary."""
+    """Pearson's r of what passed with what was counted, and the slope of the line through them; none where one of both
+    does not vary."""
     counted, passed = [one.counted for one in each], [one.passed for one in each]
     r = correlation(counted, passed)
     return None if r is None else (r, r * pstdev(passed) / pstdev(counted))
 
 
 def worst(fit: Judged, most: int = 5) -> list[Compared]:
-    """The counts of hours that fit worst, of those that do not, so many at most."""
+    """Of the places and hours with a GEH of 5 or more the worst, at most `most` of them."""
     return sorted((one for one in fit.hourly if one.geh >= GOOD), key=lambda one: -one.geh)[:most]

@@ -1,4 +1,4 @@
-"""A demand from its basis to its files: fitted, run as often as asked for, written, and told."""
+"""Makes a demand from its basis to its files: fitted, run as often as asked for, written, and told."""
 import sys
 from collections.abc import Callable, Mapping
 from dataclasses import asdict, dataclass
@@ -20,12 +20,13 @@ from streetsim.sessions.prepared import digest_of
 from streetsim.ways.trips import Trip, Trips, write_routes
 
 SLICE = 300  # seconds over which the seconds of movements are means
-MOST_TOLD = 5
+MOST_TOLD = 5  # warnings of a kind
 
 
 @dataclass(frozen=True, slots=True)
 class Outputs:
-    """Where outputs go: the vehicles, the folder of tables, and the run with its map, where these are asked for."""
+    """Where outputs go: paths of the vehicles, of the folder of tables, and of the run with its map; none where these
+    are not asked for."""
 
     routes: str
     folder: str
@@ -35,7 +36,7 @@ class Outputs:
 
 @dataclass(frozen=True, slots=True)
 class Running:
-    """How a demand is run: by which program, at most how often, by how many rounds of giving way."""
+    """How a demand is run: by which program, at most how many times, by how many rounds of giving way."""
 
     program: str
     runs: int
@@ -44,7 +45,8 @@ class Running:
 
 @dataclass(frozen=True, slots=True)
 class Made:
-    """A demand: on paper, and the runs that were tried. judged: what is written of it; trips: its vehicles."""
+    """A demand, with all runs that were tried. judged: how it meets the counts, none where there are none; trips: its
+    vehicles."""
 
     basis: Basis
     fitted: Fitted
@@ -61,8 +63,8 @@ class Made:
 def tried(
     basis: Basis, asked: Asked, wanted: Running, fitted: Fitted, ends: Callable[[], bool], told: demanding.Told
 ) -> list[Attempt]:
-    """Runs until the demand fits, the runs are spent, or the user asks for an end (ends); each is told on standard
-    error."""
+    """Runs until the demand fits, all runs are used up, or the user asks for an end (which `ends` tells); prints a line
+    on standard error after each, and gives them all."""
     until = min(limits.CLOCK, basis.slices.bounds[-1] + correcting.AFTER)
     program = wanted.program
     ground = Ground(program, digest_of(program), basis.town.graph, SLICE, until, wanted.rounds)
@@ -76,7 +78,7 @@ def tried(
 
 
 def made_of(basis: Basis, asked: Asked, fitted: Fitted, tried: list[Attempt]) -> Made:
-    """The demand of the best run, or of the fit on paper where nothing was run."""
+    """The demand of the run that fits best, or of the fit on paper where nothing was run."""
     if tried:
         best = correcting.best_of(tried)
         return Made(basis, best.fitted, tried, best.judged, best.trips)
@@ -85,7 +87,8 @@ def made_of(basis: Basis, asked: Asked, fitted: Fitted, tried: list[Attempt]) ->
 
 
 def tell_inputs(basis: Basis, fitted: Fitted) -> None:
-    """Tells, on standard error, what is noticed of the counts before anything runs."""
+    """Prints on standard error what is noticed of the counts before anything runs: contradictions, counts that no way
+    passes, and pairs that were left out."""
     for one in basis.apart[:MOST_TOLD]:
         print(f"warning: counts contradict each other: {one.told()}", file=sys.stderr)
     if (more := len(basis.apart) - MOST_TOLD) > 0:
@@ -133,7 +136,7 @@ def setting_of(asked: Asked, made: Made, runs: int) -> dict[str, Any]:
 
 
 def tell(made: Made) -> int:
-    """Says what was made and how well it fits; gives the status, 1 where it does not fit."""
+    """Prints what was made and how well it fits; gives the status: 1 where counts do not fit, else 0."""
     slices, ways = made.basis.slices, made.basis.ways
     print(
         f"{len(made.trips):,} vehicles from {slices.bounds[0]:,} to {slices.bounds[-1]:,} s on "

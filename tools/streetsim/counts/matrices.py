@@ -1,4 +1,4 @@
-"""Matrices between zones: CSV, SUMO's O and V formats, and its tazRelation files."""
+"""Reads matrices between zones: CSV, SUMO's O and V formats, and its tazRelation files."""
 from collections.abc import Iterable, Iterator, Mapping
 from dataclasses import replace
 
@@ -13,8 +13,8 @@ MORE = ("begin", "end", "class")
 
 
 def read_matrices(paths: Iterable[FilePath], period: tuple[int, int] | None) -> list[Cell]:
-    """The cells of files; Fault where one has none. period: of cells without one, as where a table has no such
-    columns."""
+    """The cells of files, by the format that each begins with; Fault where one has none, or two files have one cell.
+    period: (begin, end) of cells of tables without these columns, or none."""
     found: list[Cell] = []
     for path in paths:
         if begins_with(path, "<"):
@@ -31,7 +31,7 @@ def read_matrices(paths: Iterable[FilePath], period: tuple[int, int] | None) -> 
 
 
 def refuse_twice(cells: Iterable[Cell]) -> None:
-    """Refuses two cells of one period, pair and class."""
+    """Fault for two cells of one period, pair and class."""
     seen: dict[tuple[int, int, str, str, str], Cell] = {}
     for cell in cells:
         key = cell.begin, cell.end, cell.source, cell.target, cell.kind
@@ -41,7 +41,8 @@ def refuse_twice(cells: Iterable[Cell]) -> None:
 
 
 def of_table(path: FilePath, period: tuple[int, int] | None) -> Iterator[Cell]:
-    """The cells of a CSV table: from,to,vehicles, and maybe begin,end,class."""
+    """The cells of a CSV table: from,to,vehicles, and maybe begin,end,class; Fault where a row has no period and none
+    is given."""
     for row in rows_of(path, COLUMNS, MORE):
         if row.text("begin") or row.text("end"):
             begin, end = period_of(row.get("begin", clock_of), row.get("end", clock_of), row.where)
@@ -67,7 +68,7 @@ def of_sumo(path: FilePath) -> Iterator[Cell]:
 
 
 class Words:
-    """The words of a matrix in O or V format, line by line; lines with * are comments."""
+    """The words of a matrix in O or V format, line by line; blank lines and comments (*) are left out."""
 
     def __init__(self, path: FilePath, lines: Iterable[str]) -> None:
         self.path, self.lines, self.line = path, enumerate(lines, 1), 0
@@ -78,21 +79,21 @@ class Words:
         return f"{self.path}: line {self.line}"
 
     def following(self) -> list[str]:
-        """The words of the next line; none at the end."""
+        """The words of the next line; empty at the end of the file."""
         for self.line, text in self.lines:
             if text.strip() and not text.lstrip().startswith("*"):
                 return text.split()
         return []
 
     def number(self, text: str) -> float:
-        """A word as a number of vehicles; Fault otherwise."""
+        """A word as a number of vehicles; Fault, with the line, where it is none."""
         try:
             return vehicles_of(text)
         except ValueError as fault:
             raise Fault(f"{self.where}: {text!r} {fault}") from None
 
     def one(self, what: str) -> str:
-        """The first word of the next line; Fault at the end, which names what was expected."""
+        """The first word of the next line; Fault at the end of the file, with what was expected."""
         words = self.following()
         if not words:
             raise Fault(f"{self.path}: ends before {what}")
@@ -100,8 +101,8 @@ class Words:
 
 
 def of_format(path: FilePath) -> Iterator[Cell]:
-    """The cells of a file in SUMO's formats $OR (from, to, vehicles) and $VR (a matrix). An M in the first word: a line
-    with the vehicle type."""
+    """The cells of a file in SUMO's formats $O.. (from, to, vehicles) or $V.. (a square matrix), with its factor; an M
+    in the first word means that a line with the vehicle type follows, which is passed over."""
     with reading(path), open_text(path) as file:
         words = Words(path, file.read().splitlines())
     head = words.one("its first line")
@@ -120,7 +121,7 @@ def of_format(path: FilePath) -> Iterator[Cell]:
 
 
 def hours_of(words: Words, text: str) -> int:
-    """Seconds of a time HH.MM; Fault otherwise."""
+    """The seconds of a time HH.MM, as 7.30; Fault otherwise."""
     hours, _, minutes = text.partition(".")
     if not (hours.isdecimal() and minutes.isdecimal() and int(minutes) < 60):
         raise Fault(f"{words.where}: {text!r} is no time as HH.MM")
@@ -128,7 +129,7 @@ def hours_of(words: Words, text: str) -> int:
 
 
 def pairs(words: Words) -> Iterator[Cell]:
-    """Cells of the O format's lines, without period and factor."""
+    """The cells of the O format's lines, still without period and factor."""
     while row := words.following():
         if len(row) != 3:
             raise Fault(f"{words.where}: expected from, to and vehicles")
@@ -136,7 +137,7 @@ def pairs(words: Words) -> Iterator[Cell]:
 
 
 def square(words: Words) -> Iterator[Cell]:
-    """Cells of the V format's matrix, without period and factor."""
+    """The cells of the V format's matrix, still without period and factor."""
     text = words.one("the number of its districts")
     if not text.isdecimal() or not int(text):
         raise Fault(f"{words.where}: {text!r} is no number of districts")
@@ -148,7 +149,8 @@ def square(words: Words) -> Iterator[Cell]:
 
 
 def several(words: Words, count: int, what: str) -> list[str]:
-    """So many words, over lines; Fault where there are fewer or more."""
+    """The next `count` words, over as many lines as they need; Fault where there are fewer or more. what: their name in
+    faults."""
     found: list[str] = []
     while len(found) < count:
         row = words.following()
@@ -161,7 +163,8 @@ def several(words: Words, count: int, what: str) -> list[str]:
 
 
 def check_zones(cells: Iterable[Cell], zones: Mapping[str, Zone]) -> None:
-    """Refuses cells of zones that there are not, or where nobody may begin or end."""
+    """Fault for cells of zones that are not known, and for vehicles from or to a zone where no trip may begin or
+    end."""
     for cell in cells:
         for name, way, edges in ((cell.source, "begin", "sources"), (cell.target, "end", "sinks")):
             if name not in zones:

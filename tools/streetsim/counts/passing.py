@@ -1,4 +1,4 @@
-"""When vehicles of a way pass the places that were counted: the matrix of a fit."""
+"""When vehicles of a way pass the places that were counted: the matrix by which a demand is fitted to counts."""
 from bisect import bisect_left
 from collections.abc import Iterable, Iterator, Sequence
 from dataclasses import dataclass
@@ -15,28 +15,29 @@ from streetsim.ways.graph import END, Graph
 from streetsim.ways.router import Path
 
 MOST_UNKNOWNS = 5_000_000
-MOST_SLICES = 500
+MOST_SLICES = 500  # periods of departure
 
 
 @dataclass(frozen=True, slots=True)
 class Slices:
-    """The periods in which vehicles depart, one after another. first: the first one whose vehicles are counted from its
-    begin on; those before it lead in."""
+    """The periods in which vehicles depart, one after another, by their bounds in seconds. first: the place of the
+    first one that lies in the time of the counts; 1 where one before it leads in, else 0."""
 
     bounds: tuple[int, ...]
     first: int
 
     def __len__(self) -> int:
+        """How many periods there are."""
         return len(self.bounds) - 1
 
     def widths(self) -> list[int]:
-        """The seconds of each."""
+        """The seconds of each period."""
         return [end - begin for begin, end in pairwise(self.bounds)]
 
 
 def slices_of(bounds: Iterable[int], lead: float, begin: int) -> Slices:
-    """Slices between the begins and ends of counts, two bounds at least, and before them one in which those depart who
-    are on their way when counting begins: lead seconds, but not before the begin of all."""
+    """Slices between all begins and ends of counts, two bounds at least, and before them one that leads in, for those
+    who are on their way when counting begins: as long as `lead` seconds need, but not before the clock `begin`."""
     found = sorted(set(bounds))
     width = min(later - sooner for sooner, later in pairwise(found))
     early = max(begin, found[0] - ceil(lead / width) * width)
@@ -46,7 +47,7 @@ def slices_of(bounds: Iterable[int], lead: float, begin: int) -> Slices:
 
 
 class Places:
-    """The places that were counted, as ways pass them."""
+    """The places that were counted, found by the edges of a way. Counts are told by their place in the list."""
 
     def __init__(self, counts: Sequence[Count], graph: Graph) -> None:
         self.counts = counts
@@ -58,7 +59,7 @@ class Places:
         self.sizes = sorted({len(edges) for edges in self.of})
 
     def along(self, path: Path) -> Iterator[tuple[list[int], int]]:
-        """The counts of the places that a way passes, each with the place in the way of the edge at whose end it is
+        """The counts of each place that a way passes, and the place in the way of the edge at whose end they are
         counted."""
         for at in range(len(path)):
             for size in self.sizes:
@@ -67,8 +68,8 @@ class Places:
                     yield some, at + max(0, size - 2)
 
     def when(self, some: Sequence[int], begin: float, end: float) -> Iterator[tuple[int, float]]:
-        """The counts, of those of a place, in whose period those pass who pass evenly from one clock to another, and
-        the share of these in each."""
+        """Of the counts of one place (some) those in whose period vehicles pass that go by evenly from one clock to
+        another, and the share, 0 to 1, of these vehicles in each."""
         counts = self.counts
         at = bisect_left(some, begin, key=lambda one: counts[one].end)
         while at < len(some) and counts[some[at]].begin < end:
@@ -80,7 +81,8 @@ class Places:
 
 
 def clocks_of(graph: Graph, table: Table, path: Path, depart: float) -> list[float]:
-    """The clock at which the end of each edge of a way is passed, of one that departs at a clock."""
+    """The clock at which the end of each edge of a way is passed by a vehicle that departs at a clock; table: seconds
+    of movements by time."""
     found, clock = [], depart
     for way in pairwise((*path, END)):
         clock += table.at(graph.movement_of[way], clock)
@@ -89,8 +91,9 @@ def clocks_of(graph: Graph, table: Table, path: Path, depart: float) -> list[flo
 
 
 def passing_matrix(graph: Graph, ways: Sequence[Way], slices: Slices, places: Places, costs: Costs) -> Any:
-    """A row for each count and a column for each way and slice, ways first: the share of the vehicles that depart then
-    which pass there in its period. Fault where there are too many columns."""
+    """A sparse matrix with a row for each count and a column for each way and slice, ways first: the share of the
+    vehicles that depart in the slice which pass the count's place in its period. Fault where there are more than
+    5,000,000 columns."""
     if len(ways) * len(slices) > MOST_UNKNOWNS:
         raise Fault(
             f"{len(ways):,} ways times {len(slices):,} periods are more than {MOST_UNKNOWNS:,} unknowns: fewer --ways, "

@@ -14,7 +14,8 @@ GOOD_COLOUR, BAD_COLOUR = "#225588", "#c04000"
 
 
 def draw(folder: str, fit: Judged, links: Sequence[MapLink], what: str) -> None:
-    """Draws both into a folder; without matplotlib nothing, which is said. what: how vehicles passed."""
+    """Draws fit.png and differences.png into a folder; without matplotlib none, which is said on standard error. what:
+    of the axes, how vehicles passed ("passed in the run")."""
     pyplot = drawing.drawing_if_there()
     if pyplot is None:
         return
@@ -23,7 +24,8 @@ def draw(folder: str, fit: Judged, links: Sequence[MapLink], what: str) -> None:
 
 
 def scatter(pyplot: Any, hourly: Sequence[Compared], what: str) -> Any:
-    """The picture of all places and hours: a point for each, and where GEH is 5. what: how vehicles passed."""
+    """The picture of passed over counted, vehicles an hour: a point for each place and hour, and the curves on which
+    GEH is 5. what: how vehicles passed."""
     figure, axes = pyplot.subplots(figsize=(5.6, 5.4))
     scale = [HOUR / (one.end - one.begin) for one in hourly]
     for good, colour, mark in ((True, GOOD_COLOUR, "o"), (False, BAD_COLOUR, "x")):
@@ -46,14 +48,16 @@ def scatter(pyplot: Any, hourly: Sequence[Compared], what: str) -> Any:
 
 
 def of_geh(counted: float, sign: int) -> float:
-    """The volume above (sign 1) or below (-1) a counted one whose GEH beside it is 5: of 2 (p - c)^2 = 25 (p + c)."""
+    """The volume above (sign 1) or below (sign -1) a counted one whose GEH beside it is 5, 0 at least; by 2 (p - c)^2 =
+    25 (p + c)."""
     square = GOOD**2
     root = (square * square + 16 * square * counted) ** 0.5
     return max(0.0, counted + (square + sign * root) / 4)
 
 
 def map_of(pyplot: Any, hourly: Sequence[Compared], links: Sequence[MapLink], what: str) -> Any:
-    """The map of edges by how many more or fewer passed than were counted, an hour: of the edge, else of its turns."""
+    """The map of edges by how many vehicles an hour more or fewer passed than were counted: of the edge itself, else of
+    its turns together. what: how vehicles passed."""
     whole: defaultdict[str, float] = defaultdict(float)
     turns: defaultdict[str, float] = defaultdict(float)
     hours = len({one.begin // HOUR for one in hourly})
@@ -77,6 +81,6 @@ def map_of(pyplot: Any, hourly: Sequence[Compared], links: Sequence[MapLink], wh
 
 
 def halfway(link: MapLink) -> tuple[float, float]:
-    """The middle of a link's last piece."""
+    """The point (x, y) in the middle between a link's first and last point."""
     (x, y), *_, (next_x, next_y) = link.shape
     return (x + next_x) / 2, (y + next_y) / 2

@@ -1,4 +1,4 @@
-"""Flows without an end, and turn ratios by which they go on, as SUMO's jtrrouter takes them."""
+"""Reads flows without an end, and turn ratios by which they go on, as SUMO's jtrrouter takes them."""
 import random
 from collections.abc import Iterable
 
@@ -14,8 +14,8 @@ TURNS = ("turns", "edgeRelations", "turn-defs", "data")
 
 
 def read_inflows(paths: Iterable[FilePath], seed: int) -> list[Inflow]:
-    """Flows with `from` alone; one with a `to` or a route is a Fault, as is a file without a flow. seed: of departures
-    by chance."""
+    """Flows that have a `from` alone; Fault for one with a `to` or a route, and for a file without a flow. Vehicle
+    types are passed over. seed: of departures by chance."""
     found: list[Inflow] = []
     draws = random.Random(f"inflows {seed}")
     for path in paths:
@@ -37,7 +37,8 @@ def read_inflows(paths: Iterable[FilePath], seed: int) -> list[Inflow]:
 
 
 def read_ratios(paths: Iterable[FilePath]) -> tuple[list[Ratio], set[str]]:
-    """Turn ratios, and the names of the edges that are told to be sinks; Fault where a file has no ratio."""
+    """Turn ratios, and the names of the edges that are said to be sinks, where vehicles end; Fault where a file has no
+    ratio, or another element."""
     found: list[Ratio] = []
     sinks: set[str] = set()
     for path in paths:
@@ -64,5 +65,5 @@ def read_ratios(paths: Iterable[FilePath]) -> tuple[list[Ratio], set[str]]:
 
 
 def weight_of(tag: Tag) -> float:
-    """The weight of a turn: its probability, else its count."""
+    """The weight of a turn: its attribute probability, else count; any number from 0 on."""
     return tag.get("probability" if "probability" in tag.attributes else "count", vehicles_of)

@@ -1,4 +1,4 @@
-"""Counts of edges and turns, from CSV and from SUMO's edgeData and edgeRelation files."""
+"""Reads counts of edges and turns, from CSV and from SUMO's edgeData and edgeRelation files."""
 from collections.abc import Iterable, Iterator, Mapping
 
 from streetsim.base.files import Fault, FilePath
@@ -15,7 +15,8 @@ BY_TURN = (("count",), ("vehicles",))
 
 
 def read_counts(paths: Iterable[FilePath], attribute: str | None = None) -> list[Count]:
-    """The counts of files; Fault where one has none. attribute: of SUMO's files, the one that is the count."""
+    """The counts of files, in their order; Fault where a file has none. attribute: of SUMO's files, the one that is the
+    count; none: the usual ones."""
     found: list[Count] = []
     for path in paths:
         own = list(of_sumo(path, attribute) if begins_with(path, "<") else of_table(path))
@@ -26,8 +27,8 @@ def read_counts(paths: Iterable[FilePath], attribute: str | None = None) -> list
 
 
 def of_table(path: FilePath) -> Iterator[Count]:
-    """The counts of a CSV table, begin,end,from,to,vehicles: `to` is empty for an edge, and has several edges, with
-    spaces between, for a way."""
+    """The counts of a CSV table with begin,end,from,to,vehicles and maybe class,group: `to` is empty for an edge, and
+    has several edges, with blanks between, for a way."""
     for row in rows_of(path, COLUMNS, MORE):
         begin, end = period_of(row.get("begin", clock_of), row.get("end", clock_of), row.where)
         edges = (row.get("from", name_of), *row.text("to").split())
@@ -36,7 +37,8 @@ def of_table(path: FilePath) -> Iterator[Count]:
 
 
 def of_sumo(path: FilePath, attribute: str | None) -> Iterator[Count]:
-    """The counts of an edgeData or edgeRelation file; attribute: the one that is the count, none: the usual one."""
+    """The counts of an edgeData or edgeRelation file; lanes in it are passed over. attribute: the one that is the
+    count; none: the usual ones."""
     begin = end = 0
     told = False
     for tag in tags(path, ROOTS):
@@ -55,13 +57,13 @@ def of_sumo(path: FilePath, attribute: str | None) -> Iterator[Count]:
 
 
 def clock_rounded(text: str) -> int:
-    """Whole seconds of a time that may be written as SUMO does, 900.00; ValueError otherwise."""
+    """Whole seconds of a time as `clock_of` takes it, or with .00 behind it as SUMO writes; ValueError otherwise."""
     return clock_of(text.removesuffix(".00"))
 
 
 def number_in(tag: Tag, usual: Iterable[tuple[str, ...]], attribute: str | None) -> float:
-    """The count of an element: the attribute that is asked for, or the first of the usual ones that there are; Fault
-    where there are none."""
+    """The count of an element: of the attribute that is asked for, else the sum of the first of the usual groups whose
+    first attribute it has; Fault where it has none."""
     has: Mapping[str, str] = tag.attributes
     if attribute:
         return tag.get(attribute, vehicles_of)

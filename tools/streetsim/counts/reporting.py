@@ -1,4 +1,4 @@
-"""Counts beside a run on a page: by hour, screen lines, scatter, map of the differences, and the worst."""
+"""Counts beside a run on a page, as HTML: by hour, screen lines, scatter, map of the differences, and the worst."""
 from collections import defaultdict
 from html import escape
 
@@ -15,7 +15,7 @@ BAD, GOOD_COLOUR = "#c04000", "#225588"
 
 
 def counts_section(name: str, fit: Judged, mapping: Map) -> str:
-    """How well what passed in a run, by its plan's name, fits the counts, as HTML."""
+    """How well what passed in a plan's first seed meets the counts, as HTML; name: of the plan."""
     names = Names(mapping)
     line = line_through(fit.each)
     more = f"; all {len(fit.each):,} counts: r = {line[0]:.3f}, slope {line[1]:.3f}" if line else ""
@@ -28,7 +28,7 @@ def counts_section(name: str, fit: Judged, mapping: Map) -> str:
 
 
 def hours_table(fit: Judged) -> str:
-    """The criteria by hour."""
+    """A table of the criteria by hour, as HTML."""
     rows = [
         [
             f"{clock(one.begin)} to {clock(one.end)}", str(one.counts), f"{100 * one.share:.1f}", f"{one.counted:,.0f}",
@@ -41,7 +41,7 @@ def hours_table(fit: Judged) -> str:
 
 
 def groups_table(fit: Judged) -> str:
-    """The screen lines; empty where there are none."""
+    """A table of the screen lines by hour, as HTML; empty where there are none."""
     rows = [
         [
             escape(one.group), f"{clock(one.begin)} to {clock(one.end)}", f"{one.counted:,.0f}", f"{one.passed:,.0f}",
@@ -53,7 +53,7 @@ def groups_table(fit: Judged) -> str:
 
 
 def worst_table(fit: Judged, names: Names) -> str:
-    """The counts that fit worst; empty where all fit."""
+    """A table of the counts that fit worst, as HTML; empty where all fit."""
     rows = []
     for one in worst(fit):
         called = names.approach(one.edges[0]) if len(one.edges) == 1 else names.movement(*one.edges[:2])
@@ -63,7 +63,8 @@ def worst_table(fit: Judged, names: Names) -> str:
 
 
 def scatter(fit: Judged) -> str:
-    """What passed over what was counted, by place and hour, with the curves on which GEH is 5."""
+    """A picture (SVG) of passed over counted, vehicles an hour, by place and hour, with the curves on which GEH is
+    5."""
     points = [(one.counted * per_hour(one), one.passed * per_hour(one), one.geh < GOOD) for one in fit.hourly]
     most = 1.08 * max([1.0, *(max(counted, passed) for counted, passed, _ in points)])
     scale = (SIDE - EDGE - 10) / most
@@ -91,12 +92,13 @@ def scatter(fit: Judged) -> str:
 
 
 def per_hour(one: Compared) -> float:
-    """What makes a count one of an hour."""
+    """The factor that makes a count of a period one of an hour."""
     return HOUR / (one.end - one.begin)
 
 
 def differences_map(fit: Judged, mapping: Map) -> str:
-    """The map of how many more or fewer passed an edge, or its turns, than were counted, an hour."""
+    """A map of how many vehicles an hour more or fewer passed than were counted, of an edge, else of its turns
+    together, as HTML."""
     hours = len({one.begin // HOUR for one in fit.hourly})
     whole: defaultdict[str, float] = defaultdict(float)
     turns: defaultdict[str, float] = defaultdict(float)

@@ -1,16 +1,17 @@
-"""Whole vehicles whose sums are those of the fit."""
+"""Makes the vehicles of a fit whole, so that their sums stay those of the fit."""
 from typing import Any
 
 from streetsim.counts.fitting import deviations
 from streetsim.counts.science import needed
 
 SWAPS = 20_000  # of a vehicle of one way and slice for one of another, at most
-LEAST_GAIN = 1e-9
+LEAST_GAIN = 1e-9  # in the sum of squares, for which one is swapped
 
 
 def rounded(vehicles: Any, passing: Any, seed: int, error: float) -> Any:
-    """Each number rounded up or down, so that the sum of any that follow each other is within one of what it was, and
-    then so that the numbers that pass the counted places are near those of the fit. error: of a count, as a share."""
+    """Each number of vehicles rounded up or down, as integers, so that the sum of any that follow each other is within
+    one of what it was; then swapped so that what passes the counts is near the fit. passing: as `Problem` has it; seed:
+    of the rounding; error: share of a count by which it is taken to be wrong."""
     numpy, _ = needed()
     start = numpy.random.default_rng(seed).random()
     whole = numpy.diff(numpy.floor(numpy.concatenate(([0.0], numpy.cumsum(vehicles))) + start))
@@ -20,7 +21,8 @@ def rounded(vehicles: Any, passing: Any, seed: int, error: float) -> Any:
 
 
 def improved(whole: Any, vehicles: Any, passing: Any, error: float) -> Any:
-    """Swaps one that was rounded up with one that was rounded down, as long as what passes the places comes nearer."""
+    """Swaps one that was rounded up with one that was rounded down, as long as what passes the counts comes nearer to
+    that of `vehicles`. whole: the rounded numbers, which it changes."""
     numpy, scipy = needed()
     wanted = passing @ vehicles
     scaled = (scipy.sparse.diags(1 / deviations(wanted, error)) @ passing).tocsc()

@@ -1,4 +1,4 @@
-"""A demand in the simulation: when its vehicles passed the places that were counted, and what their ways took."""
+"""Runs a demand in the simulation: when its vehicles passed the places that were counted, and what their ways took."""
 from collections.abc import Sequence
 from dataclasses import dataclass
 from functools import partial
@@ -21,8 +21,9 @@ from streetsim.ways.router import Path
 
 @dataclass(frozen=True, slots=True)
 class Ran:
-    """left: for each vehicle when it left each edge of its way, as far as it came; ends: when each arrived, none where
-    it did not; waiting: the most vehicles that waited to enter at once, and when."""
+    """What one run gave. left: for each vehicle the clocks at which it left each edge of its way, as far as it came;
+    ends: the clock at which each arrived, none where it did not; observed: seconds of movements by time; waiting: the
+    most vehicles that waited to enter at once, and the clock."""
 
     left: list[list[float]]
     ends: list[int | None]
@@ -64,8 +65,8 @@ def ran(ground: Ground, loaded: Loaded, expected: Costs, seed: int) -> Ran:
 
 
 def passed(places: Places, paths: Sequence[Path], kinds: Sequence[str], left: Sequence[Sequence[float]]) -> list[int]:
-    """How many vehicles passed in each count's period. paths, kinds, left: the way, class and clocks of each
-    vehicle."""
+    """How many vehicles passed in each count's period and class. paths, kinds, left: the way, class and clocks (of
+    leaving each edge) of each vehicle."""
     found = [0] * len(places.counts)
     for path, kind, clocks in zip(paths, kinds, left, strict=True):
         for some, edge in places.along(path):
@@ -77,12 +78,14 @@ def passed(places: Places, paths: Sequence[Path], kinds: Sequence[str], left: Se
 
 
 def at_clock(places: Places, some: Sequence[int], clock: float) -> list[int]:
-    """Those counts of a place in whose period a clock is; who passes at its end is of it."""
+    """Those of the counts of a place (some) in whose period a clock lies; the end belongs to the period, the begin does
+    not."""
     return [at for at in some if places.counts[at].begin < clock <= places.counts[at].end]
 
 
 def delays(graph: Graph, observed: Observed, free: Sequence[float]) -> list[float]:
-    """For each movement the greatest mean seconds of a slice beyond the free ones; 0 where nobody was seen."""
+    """For each movement how many seconds its slowest slice took on the mean beyond the free ones; 0 where nobody was
+    seen. free: seconds of each movement."""
     found = []
     for movement in range(len(graph.movements)):
         base = movement * observed.slices

@@ -1,4 +1,4 @@
-"""Debian's python3-scipy, which the fit stands on and which may be missing."""
+"""NumPy and SciPy, which the fit stands on and which may not be installed."""
 import os
 from typing import Any
 
@@ -8,8 +8,8 @@ THREADS = ("OPENBLAS_NUM_THREADS", "OMP_NUM_THREADS", "MKL_NUM_THREADS")
 
 
 def needed() -> Any:
-    """NumPy and SciPy; a Fault that says what to install where they are missing. They take one thread: by several, sums
-    hang on chance."""
+    """NumPy and SciPy; Fault, which says what to install, where they are missing. They take one thread: with several,
+    sums hang on chance."""
     for name in THREADS:
         os.environ.setdefault(name, "1")
     try:

@@ -1,4 +1,5 @@
-"""What passed the places that were counted, in a folder that streetsim-run wrote: by its tables, else by its polls."""
+"""How many passed the places that were counted, in a folder that streetsim-run wrote: by its tables, else by its
+polls."""
 import csv
 import os
 from collections import defaultdict, deque
@@ -21,7 +22,7 @@ Sums = Mapping[Key, Sequence[tuple[int, int, float]]]  # by edges: begin, end an
 
 
 def passed_in(folder: Folder, counts: Sequence[Count]) -> list[float]:
-    """The vehicles that passed in each count's period; Fault where the folder cannot tell."""
+    """The vehicles that passed in each count's period, in the counts' order; Fault where the folder cannot tell."""
     check_places(folder, counts)
     rows = {**edge_rows(folder), **movement_rows(folder)}
     found = [within(rows.get(count.edges, ()), count) if not count.kind else None for count in counts]
@@ -31,7 +32,8 @@ def passed_in(folder: Folder, counts: Sequence[Count]) -> list[float]:
 
 
 def check_places(folder: Folder, counts: Sequence[Count]) -> None:
-    """Refuses counts of places that the run's map does not have, and of periods that it did not reach."""
+    """Fault for counts of edges or turns that the run's map does not have, of periods that it did not reach, and for
+    two counts of one place whose periods overlap."""
     links = folder.mapping.links
     ways = {(links[turn.link].edge, links[turn.next].edge) for turn in folder.mapping.turns}
     last = max((float(row["end"]) for row in folder.edges()), default=0.0)
@@ -48,7 +50,7 @@ def check_places(folder: Folder, counts: Sequence[Count]) -> None:
 
 
 def edge_rows(folder: Folder) -> dict[Key, list[tuple[int, int, float]]]:
-    """The vehicles that left each edge, in periods of the table of edges."""
+    """By (edge,): (begin, end, vehicles that left it) of each period of edges.csv."""
     found: defaultdict[Key, list[tuple[int, int, float]]] = defaultdict(list)
     for row in folder.edges():
         found[(row["edge"],)].append((int(row["begin"]), int(row["end"]), float(row["left"])))
@@ -56,7 +58,8 @@ def edge_rows(folder: Folder) -> dict[Key, list[tuple[int, int, float]]]:
 
 
 def movement_rows(folder: Folder) -> dict[Key, list[tuple[int, int, float]]]:
-    """The vehicles of each movement, (edge, next edge), in intervals of the junction tables, where the run has them."""
+    """By (edge, next edge): (begin, end, vehicles) of each interval of movements.csv; empty where the run has no
+    junction tables."""
     path = f"{folder.path}/movements.csv"
     found: defaultdict[Key, list[tuple[int, int, float]]] = defaultdict(list)
     if not os.path.exists(path):
@@ -69,7 +72,8 @@ def movement_rows(folder: Folder) -> dict[Key, list[tuple[int, int, float]]]:
 
 
 def within(rows: Sequence[tuple[int, int, float]], count: Count) -> float | None:
-    """The vehicles of rows that make up a count's period; none where they do not."""
+    """The vehicles of those rows (begin, end, vehicles) that together make up a count's period; none where they do
+    not."""
     inside = [row for row in rows if count.begin <= row[0] and row[1] <= count.end]
     whole = sum(end - begin for begin, end, _ in inside) == count.end - count.begin
     return sum(vehicles for *_, vehicles in inside) if whole else None
@@ -77,7 +81,8 @@ def within(rows: Sequence[tuple[int, int, float]], count: Count) -> float | None
 
 @dataclass(frozen=True, slots=True)
 class Driven:
-    """A vehicle of the run file: its links, when it wished to depart, and when it arrived, if not by a rescue."""
+    """A vehicle of the run file: its links, when it wished to depart, and the clock at which it arrived; none where it
+    did not, or was rescued."""
 
     plan: Sequence[int]
     depart: float
@@ -86,7 +91,7 @@ class Driven:
 
 @dataclass(frozen=True, slots=True)
 class Last:
-    """Where a vehicle was last seen; place: in its plan, where this is known."""
+    """Where a vehicle was last seen, and at which clock; place: of the link in its plan, 0 where that is not known."""
 
     clock: float
     link: int
@@ -94,10 +99,12 @@ class Last:
 
 
 class Traces:
-    """Vehicles from poll to poll. Between two polls one has gone on in its plan, where the run file is there, else the
-    way with the fewest links; and passed the ends of links one after another."""
+    """Vehicles followed from poll to poll. Between two polls one has gone on in its plan, where the run file is there,
+    else the way with the fewest links; it is taken to have passed the ends of links evenly."""
 
     def __init__(self, folder: Folder, counts: Sequence[Count], driven: Sequence[Driven]) -> None:
+        """driven: the vehicles of the run file, by number, or none; Fault where there are no polls, or more than 60 s
+        between them."""
         self.folder, self.counts, self.mapping, self.driven = folder, counts, folder.mapping, driven
         if not 0 < folder.every <= MOST_APART:
             raise Fault(
@@ -115,7 +122,7 @@ class Traces:
         self.sums = [0.0] * len(counts)
 
     def passed(self) -> list[float]:
-        """The vehicles that passed in each count's period, by all polls; to be asked once."""
+        """The vehicles that passed in each count's period, by all polls; to be called once, as it adds up."""
         last: dict[int, Last] = {}
         unseen = set(range(len(self.driven)))
         for poll in self.folder.polls():
@@ -133,14 +140,14 @@ class Traces:
         return self.sums
 
     def begin(self, car: int) -> Last:
-        """Notes a vehicle of the run file at its departure."""
+        """Takes a vehicle of the run file at its departure."""
         one = self.driven[car]
         self.trails[car] = [self.mapping.links[one.plan[0]].edge]
         return Last(one.depart, one.plan[0])
 
     def go_on(self, car: int, before: Last | None, clock: float, link: int) -> Last:
-        """Notes a vehicle that is seen on a link, and passed some links since it was seen before (none: for the first
-        time), or departed."""
+        """Takes a vehicle that is seen on a link at a clock: it has passed all links since it was seen before (none: it
+        is seen for the first time)."""
         if car < len(self.driven):
             plan, before = self.driven[car].plan, before or self.begin(car)
             if link in plan[before.place :]:
@@ -154,7 +161,7 @@ class Traces:
         return Last(clock, link)
 
     def along(self, car: int, way: Sequence[int], since: float, until: float) -> None:
-        """Adds what a vehicle passes that goes along some links from one clock to another."""
+        """Counts what a vehicle passes that goes evenly along some links from one clock to another."""
         trail = self.trails[car]
         for place, link in enumerate(way[1:], 1):
             clock = since + (until - since) * place / len(way)
@@ -165,8 +172,8 @@ class Traces:
                 self.add(car, tuple(trail[-size:]), clock)
 
     def end(self, car: int, before: Last, clock: float) -> None:
-        """Notes a vehicle that is gone by a clock: it has arrived on the edge where it was seen, or further on in its
-        plan."""
+        """Takes a vehicle that is gone by a clock: it has arrived on the edge where it was seen, or further on in its
+        plan; one that was rescued or did not arrive counts no more."""
         arrival = self.driven[car].arrival if car < len(self.driven) else (before.clock + clock) / 2
         if arrival is not None:
             if car < len(self.driven):
@@ -175,14 +182,16 @@ class Traces:
         del self.trails[car]
 
     def add(self, car: int, key: Key, clock: float) -> None:
-        """Counts a vehicle where it passes a place, by its edges, at a clock."""
+        """Adds a vehicle that passes a place, by its edges, at a clock, to the counts whose period and class it is
+        of."""
         for at in self.of.get(key, ()):
             count = self.counts[at]
             if count.begin < clock <= count.end and count.kind in ("", self.kinds.get(car, "")):
                 self.sums[at] += 1
 
     def between(self, first: int, last: int) -> list[int]:
-        """The links from one to another, by fewest; these two alone where there is no way of a few."""
+        """The links from one to another with the fewest links, both included; these two alone where there is no way of
+        at most nine."""
         if first == last:
             return [first]
         key = first, last
@@ -192,8 +201,8 @@ class Traces:
 
 
 def driven_in(folder: Folder) -> list[Driven]:
-    """The vehicles of the run file, where the folder keeps it, or it lies beside it or here, and has as many; none
-    elsewhere."""
+    """The vehicles of the run file, where it is found (in the folder, above it or in the current folder) and is the one
+    of this run; empty otherwise."""
     name, trips = str(folder.made.get("run", "")), folder.trips()
     above = os.path.dirname(os.path.abspath(folder.path))
     places = (f"{folder.path}/{KEPT}", f"{above}/{KEPT}", os.path.join(above, name), name)
@@ -215,14 +224,14 @@ def arrival_of(row: Mapping[str, str]) -> float | None:
 
 
 def links_of(mapping: Map) -> list[list[int]]:
-    """The links as a load has them."""
+    """The links of a map, as the load of a run has them."""
     return [
         [at, link.begin, link.end, len(link.lanes), link.cells, link.limit] for at, link in enumerate(mapping.links)
     ]
 
 
 def turns_of(mapping: Map) -> dict[int, list[int]]:
-    """The links to which each link has turns."""
+    """By link the links to which it has turns."""
     found: defaultdict[int, list[int]] = defaultdict(list)
     for turn in mapping.turns:
         if turn.next not in found[turn.link]:
@@ -231,7 +240,8 @@ def turns_of(mapping: Map) -> dict[int, list[int]]:
 
 
 def fewest(following: Mapping[int, Sequence[int]], first: int, last: int) -> list[int]:
-    """The way with the fewest links; empty where there is none of a few. following: the links after each."""
+    """The way with the fewest links from one to another, both included; empty where none has at most nine links.
+    following: by link the next ones."""
     ways: deque[list[int]] = deque([[first]])
     seen = {first}
     while ways:
@@ -246,7 +256,7 @@ def fewest(following: Mapping[int, Sequence[int]], first: int, last: int) -> lis
 
 
 def places_in(lanes: Iterable[Sequence[object]]) -> Iterator[tuple[int, int]]:
-    """Each vehicle and its link, of the lanes of a poll, those in buffers too."""
+    """(vehicle, link) of all vehicles in the lanes of a poll, those in buffers too."""
     for link, _, cells, buffer, *_ in lanes:
         for entry in cells:  # type: ignore[attr-defined]
             yield entry[0], link  # type: ignore[misc]

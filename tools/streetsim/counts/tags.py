@@ -1,4 +1,4 @@
-"""XML files tag by tag, with the line of each, so that a fault can name it."""
+"""Reads XML files tag by tag, with the line of each, so that a fault can name it."""
 from collections.abc import Callable, Collection, Iterator, Mapping
 from dataclasses import dataclass
 from typing import TypeVar
@@ -12,7 +12,7 @@ CHUNK = 1 << 16  # bytes that are read at once
 
 @dataclass(frozen=True, slots=True)
 class Tag:
-    """The begin of an element. inside: the names of those around it, from the root."""
+    """The begin of an element. line: from 1; inside: the names of the elements around it, from the root."""
 
     path: FilePath
     line: int
@@ -38,8 +38,8 @@ class Tag:
 
 
 def tags(path: FilePath, roots: Collection[str]) -> Iterator[Tag]:
-    """The elements of a file in order, as they begin; the root, which is not among them, must have one of the given
-    names: Fault otherwise."""
+    """All elements of a file below its root, in the order in which they begin; Fault where the root's name is none of
+    `roots`, or the file is no XML."""
     found: list[Tag] = []
     inside: list[str] = []
     parser = expat.ParserCreate()

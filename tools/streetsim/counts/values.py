@@ -9,7 +9,7 @@ class Count:
     or more those that went from the first over all others to the last."""
 
     begin: int  # seconds
-    end: int
+    end: int  # seconds
     edges: tuple[str, ...]
     vehicles: float
     where: str  # the file and its line
@@ -18,16 +18,18 @@ class Count:
 
     @property
     def hours(self) -> float:
+        """The length of its period in hours."""
         return (self.end - self.begin) / 3600
 
     def place(self) -> str:
-        """Its edges, as the user is told."""
+        """Its edges with blanks between, as the user is told."""
         return " ".join(self.edges)
 
 
 @dataclass(frozen=True, slots=True)
 class Zone:
-    """Edges on which trips of a zone begin, and those on which they end, each with its weight."""
+    """Edges on which trips of a zone begin (sources), and those on which they end (sinks), by name, each with its
+    weight beside the others of the zone; where: the file and its line."""
 
     name: str
     sources: Mapping[str, float]
@@ -37,7 +39,8 @@ class Zone:
 
 @dataclass(frozen=True, slots=True)
 class Cell:
-    """Vehicles that want to go from one zone to another, and depart in a period."""
+    """Vehicles that want to go from one zone to another and depart in a period, in seconds; where: the file and its
+    line."""
 
     begin: int
     end: int
@@ -50,7 +53,8 @@ class Cell:
 
 @dataclass(frozen=True, slots=True)
 class Inflow:
-    """Vehicles that depart on an edge, and turn by ratios from there on."""
+    """Vehicles that depart evenly on an edge in a period, in seconds, and go on by turn ratios; where: the file and the
+    element."""
 
     name: str
     edge: str
@@ -62,7 +66,8 @@ class Inflow:
 
 @dataclass(frozen=True, slots=True)
 class Ratio:
-    """The weight with which vehicles go on from an edge to another one, in a period."""
+    """The weight with which vehicles go on from an edge to another one in a period, in seconds; shares are weights over
+    the sum of those of the edge."""
 
     begin: int
     end: int

@@ -17,7 +17,7 @@ Turning = tuple[list[int], list[float]]  # next edges, and their weights added u
 
 
 class Turns:
-    """By edge and time the next edges with their weights."""
+    """By edge and time the next edges with their weights, and the edges at which ways end."""
 
     def __init__(self, ratios: Sequence[Ratio], sinks: set[str], net: SumoNet, graph: Graph) -> None:
         """sinks: names of edges; Fault where the network lacks an edge or a connection that is named."""
@@ -36,8 +36,8 @@ class Turns:
             self.of[source].append((begin, end, turning))
 
     def after(self, edge: int, clock: float, draws: random.Random) -> int | None:
-        """The edge on which one goes on; none at a sink, or where nothing leads on. Fault where several do and no ratio
-        holds."""
+        """The edge on which a vehicle goes on from an edge at a clock, drawn by the weights; none at a sink, or where
+        nothing leads on but back. Fault where several edges follow and no ratio holds."""
         if edge in self.sinks:
             return None
         given = next((turning for begin, end, turning in self.of[edge] if begin <= clock < end), None)
@@ -56,8 +56,8 @@ class Turns:
 def walked(
     inflows: Sequence[Inflow], turns: Turns, seconds: Sequence[float], net: SumoNet, seed: int
 ) -> Iterator[tuple[float, Path]]:
-    """The vehicles of flows, each with its departure and its way; Fault where a way has no end. seconds: of movements,
-    by which it is known which ratio holds."""
+    """The vehicles of flows, (departure, way by numbers of edges), flow by flow; Fault where a way has no end. seconds:
+    of each movement, by which it is known which ratio holds; seed: of the draws."""
     graph, draws = turns.graph, random.Random(f"ratios {seed}")
     for flow in inflows:
         check_edges([flow.edge], flow.where, net)

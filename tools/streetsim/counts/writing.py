@@ -1,4 +1,4 @@
-"""The files of a fitted demand and of a comparison with counts."""
+"""Writes the files of a fitted demand and of a comparison with counts."""
 import json
 from collections import Counter
 from collections.abc import Iterator, Mapping, Sequence
@@ -19,7 +19,7 @@ NAME = "setting.json"
 PAIRS = ("begin", "end", "from", "to", "class", "vehicles")
 RUNS = ("run", "vehicles", "arrived", "rescues", "geh_below_5_percent", "total_difference_percent", "criteria")
 APART = ("place", "begin", "end", "what", "first", "second", "where")
-LAST = "hours.csv"  # of the tables of a comparison
+LAST = "hours.csv"  # the table of a comparison that is written last
 # What a comparison has only where counts have groups or matplotlib is installed; and a demand where there are counts,
 # where these contradict each other, and where runs were asked for.
 JUDGED_AT_WISH = ("groups.csv", "fit.png", "differences.png")
@@ -27,7 +27,8 @@ AT_WISH = (*JUDGED_AT_WISH, "fit.csv", LAST, "contradictions.csv", "runs.csv")
 
 
 def write_judged(folder: str, fit: Judged) -> None:
-    """The tables of a comparison with counts."""
+    """Writes the tables of a comparison with counts: fit.csv, hours.csv, and groups.csv where there are screen
+    lines."""
     write_table(f"{folder}/fit.csv", FIT, (one.row() for one in fit.each))
     write_table(f"{folder}/{LAST}", HOURS, (one.row() for one in fit.hours))
     if fit.groups:
@@ -35,7 +36,7 @@ def write_judged(folder: str, fit: Judged) -> None:
 
 
 def write_demand(folder: str, basis: Basis, fitted: Fitted, tried: Sequence[Attempt]) -> None:
-    """The tables of a demand, and its candidates."""
+    """Writes the tables of a demand, and its candidate ways as routes. tried: its runs, none: no table of runs."""
     write_table(f"{folder}/pairs.csv", PAIRS, pair_rows(basis, fitted))
     write_candidates(f"{folder}/candidates.rou.xml", basis.ways, basis.town.graph)
     if basis.apart:
@@ -45,7 +46,8 @@ def write_demand(folder: str, basis: Basis, fitted: Fitted, tried: Sequence[Atte
 
 
 def pair_rows(basis: Basis, fitted: Fitted) -> Iterator[tuple[object, ...]]:
-    """The vehicles of each pair, class and slice, where there are any: a matrix that --matrix takes."""
+    """(begin, end, from, to, class, vehicles) of each pair, class and slice with vehicles: a matrix that --matrix
+    takes."""
     found: Counter[tuple[int, int, int]] = Counter()
     count, size = len(basis.slices), len(basis.ways) * len(basis.slices)
     for at in fitted.whole.nonzero()[0].tolist():
@@ -57,7 +59,7 @@ def pair_rows(basis: Basis, fitted: Fitted) -> Iterator[tuple[object, ...]]:
 
 
 def write_candidates(path: str, ways: Sequence[Way], graph: Graph) -> None:
-    """The candidates as routes, as SUMO's routeSampler takes them."""
+    """Writes candidate ways as routes, with numbers as ids, as SUMO's routeSampler takes them."""
     with whole_file(path) as file:
         file.write("<routes>\n")
         for at, way in enumerate(ways):
@@ -66,14 +68,14 @@ def write_candidates(path: str, ways: Sequence[Way], graph: Graph) -> None:
 
 
 def apart_rows(found: Sequence[Contradiction]) -> Iterator[tuple[object, ...]]:
-    """The rows of contradictions.csv."""
+    """The rows of contradictions.csv, as APART has the columns."""
     for one in found:
         values = f"{one.first:g}", f"{one.second:g}"
         yield one.place, one.begin, one.end, one.there.replace("{} ", ""), *values, one.where
 
 
 def run_rows(tried: Sequence[Attempt]) -> Iterator[tuple[object, ...]]:
-    """The rows of runs.csv."""
+    """The rows of runs.csv, as RUNS has the columns."""
     for one in tried:
         told = "passed" if one.judged.fits else "not passed"
         shares = f"{100 * one.judged.share:.1f}", f"{100 * one.judged.apart:.1f}"
@@ -81,6 +83,7 @@ def run_rows(tried: Sequence[Attempt]) -> Iterator[tuple[object, ...]]:
 
 
 def write_setting(folder: str, setting: Mapping[str, Any]) -> None:
+    """Writes setting.json of a demand to a folder."""
     with whole_file(f"{folder}/{NAME}") as file:
         json.dump(setting, file, indent=1)
         file.write("\n")

@@ -1,4 +1,4 @@
-"""Zones as lists of edges: CSV, and SUMO's TAZ."""
+"""Reads zones as lists of edges: CSV, and SUMO's TAZ."""
 from collections.abc import Iterable, Iterator
 
 from streetsim.base.files import Fault, FilePath
@@ -24,15 +24,15 @@ def read_zones(paths: Iterable[FilePath]) -> dict[str, Zone]:
 
 
 def of_table(path: FilePath) -> Iterator[Zone]:
-    """The zones of a CSV table, zone,edges: the edges of a zone with spaces between; trips begin and end on each
-    alike."""
+    """The zones of a CSV table with zone,edges: the edges with blanks between; trips begin and end on each with equal
+    weight."""
     for row in rows_of(path, ("zone", "edges")):
         weights = dict.fromkeys(row.get("edges", name_of).split(), 1.0)
         yield Zone(row.get("zone", name_of), weights, weights, row.where)
 
 
 def of_sumo(path: FilePath) -> Iterator[Zone]:
-    """The zones of a file of SUMO's TAZ."""
+    """The zones of a file of SUMO's TAZ, with the weights of its tazSource and tazSink."""
     zone: Tag | None = None
     sources: dict[str, float] = {}
     sinks: dict[str, float] = {}
@@ -51,7 +51,8 @@ def of_sumo(path: FilePath) -> Iterator[Zone]:
 
 
 def made(tag: Tag, sources: dict[str, float], sinks: dict[str, float]) -> Zone:
-    """The zone of a <taz>: its own edges where it has no sources, or no sinks; Fault where it has neither."""
+    """The zone of a <taz>: for sources, or sinks, that it does not list the edges of its attribute `edges`, with equal
+    weight; Fault where it has none of all."""
     edges = dict.fromkeys(tag.attributes.get("edges", "").split(), 1.0)
     zone = Zone(tag.get("id", name_of), sources or edges, sinks or edges, tag.where)
     if not zone.sources and not zone.sinks:
