@@ -1,1 +1,1 @@
-"""Pictures and the player."""
+"""Pictures of runs by matplotlib, and the data of the page that plays them."""

@@ -11,12 +11,12 @@ Pyplot = Any
 Figure = Any
 Axes = Any
 Lines = Any
-DPI, COLOURS = 95, 64
+DPI, COLOURS = 95, 64  # of a PNG: dots an inch, colours
 DATES = {"svg": {"Date": None}, "pdf": {"CreationDate": None}}  # without: equal runs give equal bytes
 
 
 def drawing_if_there() -> Pyplot:
-    """matplotlib's pyplot; none where it is not installed, which is said."""
+    """matplotlib's pyplot; none where it is not installed, which is said on standard error."""
     try:
         return drawing()
     except Fault as fault:
@@ -25,7 +25,7 @@ def drawing_if_there() -> Pyplot:
 
 
 def drawing() -> Pyplot:
-    """matplotlib's pyplot, without a display; Fault where it is not installed."""
+    """matplotlib's pyplot, without a display and with the settings of all pictures; Fault where it is not installed."""
     try:
         import matplotlib
     except ImportError:
@@ -43,7 +43,7 @@ def drawing() -> Pyplot:
 
 
 def ending_of(path: str) -> str:
-    """The format of a picture, which its name tells; Fault where it is none of png, svg and pdf."""
+    """The format of a picture by the end of its name: png, svg or pdf; Fault for any other."""
     ending = os.path.splitext(path)[1].lower().removeprefix(".")
     if ending not in ("png", *DATES):
         raise Fault(f"{path}: a picture's name ends with .png, .svg or .pdf")
@@ -51,7 +51,7 @@ def ending_of(path: str) -> str:
 
 
 def save(figure: Figure, path: str) -> None:
-    """Writes a picture in the format of its name; a PNG of few colours, which keeps it small."""
+    """Writes a picture in the format of its name, whole or not at all; a PNG with 64 colours, which keeps it small."""
     ending = ending_of(path)
     with whole_path(path) as half:
         if ending != "png":

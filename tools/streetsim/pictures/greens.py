@@ -15,7 +15,8 @@ Row = Mapping[str, str]
 
 
 def draw_greens(pyplot: Pyplot, folder: Folder, lights: Sequence[str]) -> Figure:
-    """A panel for each of some lights, of all the first where none is named: how long each of its greens lasted."""
+    """A panel for each of some lights, the first six where none is named: how long each of its greens lasted. Fault
+    where detectors drive no such light."""
     rows = of_lights(folder, lights)
     figure, panels = pyplot.subplots(len(rows), figsize=(10, 1 + 2.6 * len(rows)), squeeze=False, sharex=True)
     names, mapping = Names(folder.mapping), folder.mapping
@@ -29,7 +30,8 @@ def draw_greens(pyplot: Pyplot, folder: Folder, lights: Sequence[str]) -> Figure
 
 
 def of_lights(folder: Folder, lights: Sequence[str]) -> dict[str, list[Row]]:
-    """The ended greens of each light."""
+    """By light the rows of phases.csv of greens that have ended; of the first six lights where none is named. Fault
+    where a named one has none."""
     found: defaultdict[str, list[Row]] = defaultdict(list)
     for row in folder.phases():
         if set(row["state"]) & set("Gg") and not set(row["state"]) & set("yY") and row["ended"]:
@@ -40,7 +42,8 @@ def of_lights(folder: Folder, lights: Sequence[str]) -> dict[str, list[Row]]:
 
 
 def draw_light(axes: Axes, light: str, rows: Sequence[Row]) -> None:
-    """Seconds of greens over their begin, by phase; filled where traffic held one until its most."""
+    """Draws seconds of greens over their begin in minutes, by phase; filled where traffic held one until its greatest
+    length."""
     phases = sorted({int(row["phase"]) for row in rows})
     for at, phase in enumerate(phases):
         own = [row for row in rows if int(row["phase"]) == phase]

@@ -21,20 +21,20 @@ LABELS = {
     "flow": ("Vehicles that leave each edge", "vehicles/h"),
     "queue": ("95 % queues of approaches", "metres"),
 }
-ROUND = (0.5, 1, 2, 5, 10, 20, 50, 100, 200, 500, 1000, 2000, 5000, 10_000)
+ROUND = (0.5, 1, 2, 5, 10, 20, 50, 100, 200, 500, 1000, 2000, 5000, 10_000)  # ends of the scale of colours
 
 
 @dataclass(slots=True)
 class Shown:
-    """An edge: its shape, and its value or letter; none where it has none."""
+    """A street in a picture: its shape, and its number or letter; none where it has none."""
 
     shape: Shape
     value: Any  # a number or a letter
 
 
 def draw(pyplot: Pyplot, path: str, what: str, second: int | None) -> Figure:
-    """The streets of a folder, or of one of seeds, by one of WHAT but the density, in the interval that begins at a
-    second, or the busiest one."""
+    """The streets of a folder's run, or of its seeds, by one of WHAT but the density, in the interval that begins at
+    `second`, or (none) the busiest one. Fault where nothing is known of it then."""
     runs = read_any(path)
     begin, end = interval_of(runs, what, second)
     values = values_of(runs, begin, end)
@@ -57,8 +57,8 @@ def draw(pyplot: Pyplot, path: str, what: str, second: int | None) -> Figure:
 
 
 def interval_of(runs: Runs, what: str, second: int | None) -> tuple[int, int]:
-    """The interval that begins at a second, else the busiest, else the first; Fault where there is none, or what is
-    wanted needs junction tables."""
+    """The interval (begin, end) that begins at `second`; where that is none the busiest, else the first. Fault where
+    there is none, or `what` needs junction tables and there are none."""
     if what != "flow" and not runs.rows:
         raise Fault(f"{runs.first.path}: a map of {what} needs streetsim-run --junctions")
     found = intervals_of(runs)
@@ -71,7 +71,7 @@ def interval_of(runs: Runs, what: str, second: int | None) -> tuple[int, int]:
 
 
 def value_of(values: Values, what: str) -> float | str | None:
-    """The value of an edge, by one of WHAT: a number or a letter; none where it is not known."""
+    """The value of an edge by one of WHAT but the density: a number or a letter; none where it is not known."""
     if what == "flow":
         return values.traffic.flow if values.traffic else None
     if values.row is None:
@@ -80,12 +80,13 @@ def value_of(values: Values, what: str) -> float | str | None:
 
 
 def clock(second: int) -> str:
-    """A second of the day as hours and minutes."""
+    """Seconds since midnight as hours and minutes, 7:30; seconds are cut off."""
     return f"{second // 3600:d}:{second // 60 % 60:02d}"
 
 
 def canvas(pyplot: Pyplot, shapes: Sequence[Shape]) -> tuple[Figure, Axes, dict[str, str | float]]:
-    """A picture of all streets in grey, its axes, and where a bar of colours lies."""
+    """A picture of all streets in grey, its axes, and the settings by which a bar of colours lies beside or below
+    it."""
     from matplotlib.collections import LineCollection
 
     width, height = (max(places) - min(places) for places in zip(*(point for shape in shapes for point in shape)))
@@ -100,8 +101,8 @@ def canvas(pyplot: Pyplot, shapes: Sequence[Shape]) -> tuple[Figure, Axes, dict[
 
 
 def draw_lines(axes: Axes, shown: Iterable[Shown], colours: str = "YlOrRd") -> Lines:
-    """Draws edges by their values, wider where they are higher; gives the lines, which a bar of colours is of. One at
-    least has a value."""
+    """Draws edges by their numbers, wider where they are higher, those with none left out; gives the lines, for a bar
+    of colours. One at least has a number."""
     from matplotlib.collections import LineCollection
 
     known = sorted((one for one in shown if one.value is not None), key=lambda one: one.value)
@@ -118,7 +119,8 @@ def draw_lines(axes: Axes, shown: Iterable[Shown], colours: str = "YlOrRd") -> L
 
 
 def draw_letters(axes: Axes, shown: Sequence[Shown], runs: Runs, interval: tuple[int, int]) -> None:
-    """Draws edges and junctions by letter, darker and wider where it is worse, in an interval, with the legend."""
+    """Draws edges and junctions by letter, darker and wider where it is worse, in an interval (begin, end), with the
+    legend; those without a letter stay grey."""
     from matplotlib.collections import LineCollection
     from matplotlib.lines import Line2D
 
@@ -139,7 +141,8 @@ def draw_letters(axes: Axes, shown: Sequence[Shown], runs: Runs, interval: tuple
 
 
 def draw_density(pyplot: Pyplot, folder: Folder) -> Figure:
-    """The streets by mean density over all polls, of each link."""
+    """The streets by mean density over all polls, vehicles a kilometre and lane, of each link; Fault where nothing was
+    polled."""
     densities = series.densities(folder)
     shown = [Shown(link.shape, value) for value, link in zip(densities, folder.mapping.links, strict=True)]
     figure, axes, beside = canvas(pyplot, [one.shape for one in shown])

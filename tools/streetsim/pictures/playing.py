@@ -1,4 +1,4 @@
-"""One page that plays the vehicles of a run, or of two side by side."""
+"""The data of the page that plays the vehicles of a run, or of two side by side."""
 import os
 from pathlib import Path
 
@@ -11,8 +11,8 @@ MOST_BYTES = 100_000_000  # of the packed data; browsers are slow with more
 
 
 def data_of(folder: Folder, first: int, last: int) -> Json:
-    """What the page plays of a run from a first to a last second: links, signal plans with the links that may go, and
-    the polls."""
+    """What the page plays of a run from a first to a last second, as JSON: links, signal plans with the links that may
+    go, and the polls."""
     names = Names(folder.mapping)
     links = [
         {

@@ -18,13 +18,13 @@ SPEEDS = (  # the least speed, in cells a step, its label, colour and width
     (2, "54 km/h", "#3b7fc4", 0.8),
     (3, "81 km/h and more", "#1f4e79", 0.8),
 )
-MOST_LANES = 25
+MOST_LANES = 25  # in the picture of queues
 MARKERS = "osd^v*"
 RING = (20, 40, 60, 70, 80, 90, 110, 140, 180, 250, 350, 500, 700)  # vehicles on 1,000 cells
 
 
 def refuse_broken(folder: Folder, edges: Sequence[str]) -> None:
-    """Refuses edges of which one does not lead to the next."""
+    """Fault where one of some edges does not lead to the next, or the map does not have one."""
     links = folder.links_along(edges)
     turns = {(turn.link, turn.next) for turn in folder.mapping.turns}
     for (edge, here), (following, there) in zip(zip(edges, links), list(zip(edges, links))[1:]):
@@ -34,7 +34,7 @@ def refuse_broken(folder: Folder, edges: Sequence[str]) -> None:
 
 @dataclass(frozen=True, slots=True)
 class Corridor:
-    """What a picture of ways shows: edges along a path, from one second to another, also back or not."""
+    """What a picture of ways along a path shows: its edges, from one second to another; both: also the way back."""
 
     edges: Sequence[str]
     first: int  # seconds
@@ -43,8 +43,8 @@ class Corridor:
 
 
 def draw_corridor(pyplot: Pyplot, folder: Folder, corridor: Corridor) -> Figure:
-    """Where each vehicle is along a path (metres) over time (seconds), the way back below; of lanes that were polled
-    each few seconds."""
+    """Where each vehicle is along a path (metres) over time (seconds), the way back below. Fault where the edges make
+    no path, or lanes were not polled every 5 s or oftener."""
     first, last = corridor.first, corridor.last
     refuse_broken(folder, corridor.edges)
     if first >= last:
@@ -64,7 +64,7 @@ def draw_corridor(pyplot: Pyplot, folder: Folder, corridor: Corridor) -> Figure:
 
 
 def draw_way(axes: Axes, folder: Folder, way: Corridor) -> None:
-    """Draws the vehicles along a path, with the junctions beside it."""
+    """Draws the vehicles along one direction of a path, with its red signals, and the names of junctions beside it."""
     from matplotlib.collections import LineCollection, PolyCollection
 
     edges, first, last = way.edges, way.first, way.last
@@ -94,7 +94,8 @@ def draw_way(axes: Axes, folder: Folder, way: Corridor) -> None:
 
 
 def draw_ring(pyplot: Pyplot, program: str | None, dawdles: Sequence[int], limit: int) -> Figure:
-    """Flow over density in a ring, for chances of dawdling, of 1,000; limit: cells a step."""
+    """Flow over density in a ring of one lane, measured by the program, for one to six chances of dawdling, of 1,000;
+    limit: cells a step."""
     figure, axes = fundamental(pyplot, f"One lane in a ring, limit {limit * limits.CELL_KMH} km/h")
     for dawdle, marker in zip(dawdles, MARKERS):
         points = [ring.measure(program, count, limit, dawdle) for count in RING]
@@ -105,7 +106,8 @@ def draw_ring(pyplot: Pyplot, program: str | None, dawdles: Sequence[int], limit
 
 
 def draw_fundamental(pyplot: Pyplot, folder: Folder, edges: Sequence[str], at_stop_lines: bool) -> Figure:
-    """Flow over density of some edges, or of all: at the stop lines by their counts, or in the middle of lanes."""
+    """Flow over density of some edges, or of all where none is named: at the stop lines by counts.csv, else in the
+    middle third of lanes by polls."""
     folder.links_along(edges)  # which names an edge that the map does not have
     counts = (series.flows if at_stop_lines else series.middle_flows)(folder, edges)
     where = f"Counts of {folder.period} s at the stop lines"
@@ -115,21 +117,21 @@ def draw_fundamental(pyplot: Pyplot, folder: Folder, edges: Sequence[str], at_st
 
 
 def fundamental(pyplot: Pyplot, title: str) -> tuple[Figure, Axes]:
-    """An empty picture of flow over density."""
+    """An empty picture of flow over density, and its axes."""
     figure, axes = pyplot.subplots(figsize=(7, 5))
     axes.set(xlabel="density (vehicles/km and lane)", ylabel="flow (vehicles/h and lane)", title=title)
     return figure, axes
 
 
 def from_zero(figure: Figure, axes: Axes) -> Figure:
-    """The picture with axes from 0 on."""
+    """The same picture with axes that begin at 0."""
     axes.set_xlim(left=0)
     axes.set_ylim(bottom=0)
     return figure
 
 
 def draw_queues(pyplot: Pyplot, folder: Folder) -> Figure:
-    """The longest queues at stop lines over time; Fault where there were none."""
+    """The longest queues at stop lines over time, of 25 lanes at most; Fault where there were none."""
     lanes, count = series.longest_queues(folder, MOST_LANES)
     if not lanes:
         raise Fault(f"{folder.path}: no queues in this run")
@@ -158,8 +160,8 @@ def draw_queues(pyplot: Pyplot, folder: Folder) -> Figure:
 
 
 def draw_arrivals(pyplot: Pyplot, folder: Folder, tripinfo: str | None) -> Figure:
-    """Departures and arrivals over time, and below them the difference: to SUMO's arrivals, of its tripinfo (a path),
-    else between the two curves."""
+    """Departures and arrivals over time, and below them a difference: of the arrivals to SUMO's, where a tripinfo (its
+    path) is given, else of departures to arrivals."""
     departs, arrivals = series.arrival_curves(folder)
     figure, (axes, below) = pyplot.subplots(2, figsize=(8, 6.5), sharex=True, height_ratios=(3, 1))
     curves: list[tuple[Sequence[float], str, str, str]]

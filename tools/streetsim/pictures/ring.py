@@ -1,19 +1,19 @@
-"""One lane in a ring: the fundamental diagram of the rules themselves."""
+"""Measures the fundamental diagram of the rules themselves: one lane in a ring."""
 from dataclasses import dataclass
 
 from streetsim.base import limits
 from streetsim.base.client import Client
 
-CELLS = 1_000
-LAPS = 1_000
-WARM_UP = 4_000
-PERIOD = 300
+CELLS = 1_000  # of the ring
+LAPS = 1_000  # of each vehicle's plan
+WARM_UP = 4_000  # steps before anything is measured
+PERIOD = 300  # steps of a row
 ROWS = 10
 
 
 @dataclass(slots=True, frozen=True)
 class Point:
-    """One density in a ring, and what was measured there."""
+    """One density in a ring, and the flow and speed that were measured there."""
 
     density: float  # vehicles a cell, of the whole ring
     flow: float  # vehicles a step, at a detector
@@ -31,8 +31,8 @@ class Point:
 
 
 def measure(program: str | None, vehicles: int, limit: int = 5, dawdle: int = 0, seed: int = 1) -> Point:
-    """A point of the diagram, of a ring of 1,000 cells, over ten rows of 300 steps; limit: cells a step; dawdle: of
-    1,000."""
+    """A point of the diagram: a ring of 1,000 cells with some vehicles, over ten rows of 300 steps; limit: cells a
+    step; dawdle: of 1,000."""
     with Client(program) as sim:
         sim.load(nodes=[[0, 1, 2]], links=[[0, 0, 0, 1, CELLS, limit]], turns=[[0, 0, 0, 0]], dawdle=dawdle, seed=seed)
         sim.signal(0, [[600, []]])

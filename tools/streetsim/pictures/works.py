@@ -7,11 +7,12 @@ from streetsim.pictures.drawing import Figure, Pyplot
 from streetsim.results.works import Place, places_of
 
 MOST = 6  # places in one picture
-BIN = 22.5  # metres
+BIN = 22.5  # metres of a field of the picture
 
 
 def draw_works(pyplot: Pyplot, folder: Folder) -> Figure:
-    """A panel for each place: who stands how far before the works, and how far the queue reaches."""
+    """A panel for each of the first six places of works: how far before them vehicles stand, and how far the queue
+    reaches, over time. Fault where the run had no works."""
     places = places_of(folder)[:MOST]
     figure, panels = pyplot.subplots(len(places), figsize=(10, 1 + 2.6 * len(places)), squeeze=False)
     for place, (axes,) in zip(places, panels, strict=True):

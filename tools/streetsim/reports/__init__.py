@@ -1,1 +1,1 @@
-"""streetsim-report: one page that tells what runs gave."""
+"""Pages of streetsim-report: one HTML file that tells what runs gave, and what is sealed in it."""

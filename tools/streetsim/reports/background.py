@@ -28,7 +28,7 @@ ASSUMPTIONS = (
 
 
 def what_was_run(all_runs: Sequence[Runs]) -> str:
-    """Network, demand, seeds, the program's sum."""
+    """A table, as HTML, of what was run for each plan: network, demand, time, seeds, SHA-256 of the program."""
     rows: list[tuple[str, str]] = []
     for runs in all_runs:
         folder, made = runs.first, runs.first.made
@@ -60,7 +60,7 @@ def what_was_run(all_runs: Sequence[Runs]) -> str:
 
 
 def warnings(all_runs: Sequence[Runs]) -> str:
-    """What the import had to say, what changes results most first."""
+    """What the import had to say, by kind, as HTML, first what changes results most; at most eight lines of each."""
     lines = list(dict.fromkeys(line for runs in all_runs for line in runs.first.mapping.warnings))
     marks = tuple(mark for mark, _ in WEIGHTS if mark)
     parts = []
@@ -74,5 +74,5 @@ def warnings(all_runs: Sequence[Runs]) -> str:
 
 
 def assumptions() -> str:
-    """What is assumed."""
+    """What the simulation assumes, as an HTML list."""
     return bullets(ASSUMPTIONS)

@@ -5,26 +5,28 @@ from streetsim.reports.comparing import Difference, by_seed, paired
 from streetsim.results.reading import Row, Rows
 
 BAD = "EF"  # worse than D
-LEAST = 5.0  # seconds of delay that are a change
+LEAST = 5.0  # seconds of control delay, from which on a sure change is noticed
 
 
 @dataclass(slots=True)
 class Told:
-    """A junction or movement before and after another plan; without one the row alone."""
+    """A junction, approach or movement: its row with the last plan, and where there is another plan the row before it
+    and the change of its control delay; key: as in KEYS of reading."""
 
     key: tuple[str, ...]
     row: Row  # of the last plan
-    before: Row | None
-    change: Difference | None
+    before: Row | None  # none: one plan, or nobody there with the first
+    change: Difference | None  # of control delay, seconds; none as above, or without a common seed
 
     @property
     def is_bad(self) -> bool:
-        """Whether it is worse than D."""
+        """Whether its level of service is worse than D."""
         return self.row.letter() in BAD
 
     @property
     def changes(self) -> bool:
-        """Whether its delay changes for sure by so much that one notices, or its level of service does."""
+        """Whether its delay changes for sure by 5 s or more, or for sure and with another level of service; false with
+        one plan."""
         if self.change is None or self.before is None:
             return False
         other = self.before.letter() != self.row.letter()
@@ -32,14 +34,14 @@ class Told:
 
     @property
     def weight(self) -> float:
-        """Seconds that all its vehicles lose or win in an hour; of one plan those that they lose."""
+        """Seconds that all its vehicles together lose or win in an hour; of one plan those that they lose."""
         seconds = abs(self.change.change) if self.change else self.row.delay
         return seconds * self.row.values["vehicles_per_hour"]
 
 
 def told_of(after: Rows, before: Rows | None) -> list[Told]:
-    """Rows of the last plan, beside those of the one before it: first those that change or are worse than D, by how
-    much all their vehicles lose or win."""
+    """What is told of each row of the last plan, beside the one before it (none: there is one plan): first those that
+    change or are worse than D, each part by weight."""
     found = []
     for key, row in after.items():
         first = before.get(key) if before is not None else None

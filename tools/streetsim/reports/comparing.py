@@ -1,4 +1,4 @@
-"""Before and after: differences of two plans, paired by seed."""
+"""Differences of two plans, before and after, paired by seed."""
 from collections.abc import Iterable
 from dataclasses import dataclass
 
@@ -17,18 +17,18 @@ class Difference:
     seeds: int
 
     def told(self) -> str:
-        """The change with its interval."""
+        """The change with its sign and the half of its interval: '-3.2 ± 0.4'; of one seed without the half."""
         if self.half is None:
             return f"{self.change:+.1f}"
         return f"{self.change:+.1f} ± {self.half:.1f}"
 
     def is_sure(self) -> bool:
-        """Whether the interval leaves no doubt of the sign."""
+        """Whether the 95 % interval leaves no doubt of the sign; never of one seed."""
         return self.half is not None and abs(self.change) > self.half
 
 
 def paired(before: dict, after: dict) -> Difference | None:
-    """The difference of values by seed; none where no seed is common."""
+    """The difference of values, {seed: value}, over the seeds that both have; none where there are none."""
     seeds = sorted(before.keys() & after.keys())
     if not seeds:
         return None
@@ -38,12 +38,13 @@ def paired(before: dict, after: dict) -> Difference | None:
 
 
 def by_seed(row: Row, name: str) -> dict:
-    """The values of a measure, by its column, of the seeds that have it."""
+    """{seed: value} of a measure of a row, by its column; seeds that do not have it are left out."""
     return {seed: values[name] for seed, values in row.by_seed.items() if name in values}
 
 
 def total_delay(rows: Iterable[Row]) -> dict:
-    """By seed the mean control delay over all of some rows, in seconds a vehicle."""
+    """By seed the mean control delay, seconds a vehicle, over all vehicles of some rows; seeds without vehicles are
+    left out."""
     sums: dict[int, tuple[float, float]] = {}
     for row in rows:
         for seed, values in row.by_seed.items():

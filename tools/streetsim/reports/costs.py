@@ -8,7 +8,7 @@ from streetsim.model.folder import Folder
 from streetsim.reports.comparing import Difference, paired
 from streetsim.results.reading import Runs
 
-NOTICED = 10  # seconds of a trip
+NOTICED = 10  # seconds by which a trip changes, above which one notices
 FEW = 10  # trips of a group in a run, below which it is not told
 
 
@@ -19,19 +19,20 @@ class Costs:
     changes: list[int] = field(default_factory=list)  # seconds, rising
     lost: int = 0  # trips that arrived with the first plan alone
     won: int = 0  # with the second alone
-    groups: dict[str, tuple[int, Difference]] = field(default_factory=dict)  # trips in all, mean seconds
+    groups: dict[str, tuple[int, Difference]] = field(default_factory=dict)  # by flow: trips, mean seconds of a trip
 
     def share(self, slower: bool) -> float:
-        """The share, 0 to 1, of trips that become slower, or quicker, by more than one notices."""
+        """The share, 0 to 1, of trips that become slower (or quicker, where false) by more than 10 s; there must be
+        trips."""
         return sum(change > NOTICED if slower else change < -NOTICED for change in self.changes) / len(self.changes)
 
     def tenth(self) -> int:
-        """The seconds that one trip in ten becomes longer by, at least."""
+        """The seconds that one trip in ten becomes longer by, at least; less than 0: shorter. There must be trips."""
         return self.changes[len(self.changes) * 9 // 10]
 
 
 def costs_of(before: Runs, after: Runs) -> Costs:
-    """The changes of trips from one plan to another, also by the flow that they are of."""
+    """The changes of trips of the same vehicles and seeds from one plan to another, in all and by flow."""
     found, sums = Costs(), defaultdict[str, tuple[dict, dict]](lambda: ({}, {}))
     counts: defaultdict[str, int] = defaultdict(int)
     for seed in sorted(before.folders.keys() & after.folders.keys()):
@@ -55,7 +56,8 @@ def durations(folder: Folder) -> dict[str, int]:
 
 
 def grouped(names: Iterable[str]) -> dict[str, list[str]]:
-    """Vehicles by the flow that they are of, as SUMO names them, FLOW.NUMBER; without flows of few vehicles."""
+    """The names of vehicles by the flow that they are of, as SUMO names them, FLOW.NUMBER; other vehicles, and flows of
+    fewer than ten, are left out."""
     found: defaultdict[str, list[str]] = defaultdict(list)
     for name in names:
         flow, point, number = name.rpartition(".")

@@ -14,20 +14,21 @@ from streetsim.reports.markup import bullets, change_told, clock, mean_told, tab
 from streetsim.reports.saying import change_in_words, number, several
 from streetsim.results.reading import Row, Runs
 
-Interval = tuple[int, int]
-MOST_GROUPS = 6
+Interval = tuple[int, int]  # begin and end, seconds
+MOST_GROUPS = 6  # flows in the table of trips
 LONG = 160  # letters of a warning on the first page
 LEAST_HOURLY = 20  # vehicles an hour of a movement that is called the worst
 
 
 def junctions_of(plans: Sequence[Runs], shown: Interval, table_: str = "junctions") -> list[Told]:
-    """The rows of the last plan, first those that change or are worse than D."""
+    """What is told of each row of a junction table (its name) in the interval that is shown: of the last plan, beside
+    the first where there are two; first those that change or are worse than D."""
     rows = [runs.rows.get((table_, *shown), {}) for runs in plans]
     return told_of(rows[-1], rows[0] if len(plans) == 2 else None)
 
 
 def asked(question: str, plans: Sequence[Runs], shown: Interval) -> str:
-    """What was asked, and of what, as HTML."""
+    """What was asked (a usual question where it is empty), and of which runs, as HTML."""
     last, made = plans[-1], plans[-1].first.made
     names = [runs.name for runs in plans]
     two = len(names) == 2
@@ -43,7 +44,7 @@ def asked(question: str, plans: Sequence[Runs], shown: Interval) -> str:
 
 
 def verdict(plans: Sequence[Runs], shown: Interval) -> str:
-    """The verdict in two sentences, as HTML."""
+    """The verdict in a few sentences, as HTML, with a mark where runs are not to be trusted."""
     said = change_verdict(plans, shown) if len(plans) == 2 else state_verdict(plans[0], shown)
     untrusted = [runs.name for runs in plans if doubts_of(runs)]
     told = f"Not to be trusted: {' and '.join(untrusted)} (why: below)."
@@ -52,17 +53,18 @@ def verdict(plans: Sequence[Runs], shown: Interval) -> str:
 
 
 def doubts_of(runs: Runs) -> list[str]:
-    """Why runs are not to be trusted, by seed."""
+    """Why the runs of a plan are not to be trusted, each with its seed; empty where they are."""
     return [f"seed {seed}: {doubt}" for seed, folder in runs.folders.items() for doubt in folder.doubts]
 
 
 def delay_change(plans: Sequence[Runs], shown: Interval) -> Difference | None:
-    """The change of the mean control delay at all junctions."""
+    """The change, over seeds, of the mean control delay of all vehicles at all junctions; none without a common
+    seed."""
     return paired(*(total_delay(runs.rows["junctions", *shown].values()) for runs in plans))
 
 
 def change_verdict(plans: Sequence[Runs], shown: Interval) -> str:
-    """What the second plan changes."""
+    """What the second plan changes for trips and delays, in plain words."""
     trip, delay = paired(*(runs.mean_trips() for runs in plans)), delay_change(plans, shown)
     first, name = "Nothing can be said of trips, as nobody arrived.", plans[1].name
     if trip:
@@ -79,7 +81,7 @@ def change_verdict(plans: Sequence[Runs], shown: Interval) -> str:
 
 
 def state_verdict(runs: Runs, shown: Interval) -> str:
-    """How traffic flows."""
+    """How long trips and delays are with one plan, and how many junctions are worse than D, in plain words."""
     delays = total_delay(runs.rows["junctions", *shown].values())
     rows = junctions_of([runs], shown)
     bad = [one for one in rows if one.is_bad]
@@ -93,8 +95,8 @@ def state_verdict(runs: Runs, shown: Interval) -> str:
 
 
 def map_section(runs: Runs, shown: Interval, rows: Sequence[Told] = (), detailed: int = 0) -> str:
-    """The map of a run in an interval, by level of service, with its legend; rows: of junctions, whose marks tell
-    whether they change, the first of them in detail."""
+    """The map of a plan in an interval by level of service, with its legend, as HTML. rows: of junctions, which are
+    marked where they change; the first `detailed` of them are links to their sections."""
     names = runs.names
     approaches = {
         row.key[1]: (row.letter(), f"{row.key[1]} {names.approach(row.key[1])}: {row.delay:.1f} s, {row.letter()}")
@@ -116,12 +118,13 @@ def map_section(runs: Runs, shown: Interval, rows: Sequence[Told] = (), detailed
 
 
 def junction_text(row: Row, names: Names) -> str:
-    """What a junction's mark says of it."""
+    """What a junction's mark on the map says of it: name, delay, letter."""
     return f"{names.junction_told(row.key[0])}: {row.delay:.1f} s, {row.letter()}"
 
 
 def costs(plans: Sequence[Runs], shown: Interval) -> str:
-    """What it costs whom: trips, and the worst movement, as HTML."""
+    """What a plan costs whom, as HTML: the worst movements, and with two plans how trips of the same vehicles
+    change."""
     movements = junctions_of(plans, shown, "movements")
     texts = [*worst_movements(movements, plans[-1])]
     if len(plans) < 2:
@@ -131,7 +134,7 @@ def costs(plans: Sequence[Runs], shown: Interval) -> str:
 
 
 def trips_told(found: Costs) -> list[str]:
-    """How many trips become slower or quicker."""
+    """Sentences on how many trips become slower or quicker, and how many arrive with one plan alone."""
     if not found.changes:
         return ["No trip arrived with both plans."]
     slower, quicker = found.share(True), found.share(False)
@@ -146,7 +149,8 @@ def trips_told(found: Costs) -> list[str]:
 
 
 def groups_table(found: Costs) -> str:
-    """Trips by flow, those that lose most first; where there are many the first and the last."""
+    """A table of trips by flow, as HTML, those that lose most first; where there are more than six flows the first and
+    the last three. Empty where there are none."""
     ranked = sorted(found.groups, key=lambda group: (-found.groups[group][1].change, group))
     half = MOST_GROUPS // 2
     told = ranked if len(ranked) <= MOST_GROUPS else [*ranked[:half], *ranked[-half:]]
@@ -161,7 +165,8 @@ def groups_table(found: Costs) -> str:
 
 
 def worst_movements(movements: Sequence[Told], runs: Runs) -> list[str]:
-    """The movement that waits longest, and the one that loses most."""
+    """Sentences on the movement that waits longest, and with two plans on the one that loses most for sure; movements
+    of fewer than 20 vehicles an hour are passed over, and none is left: empty."""
     names, busy = runs.names, [one for one in movements if one.row.values["vehicles_per_hour"] >= LEAST_HOURLY]
     if not busy:
         return []
@@ -186,7 +191,7 @@ def worst_movements(movements: Sequence[Told], runs: Runs) -> list[str]:
 
 
 def doubted(plans: Sequence[Runs], more: Sequence[str] = ()) -> str:
-    """What is doubted, as HTML; more: what else speaks against the runs."""
+    """What is doubted, as an HTML list; more: what else speaks against the runs, each as plain text."""
     texts = []
     for runs in plans:
         doubts = doubts_of(runs)

@@ -1,4 +1,4 @@
-"""Pictures of a report, as SVG: the map by delay, and queues beside the room that they have."""
+"""Pictures of a page, as SVG: the map by level of service, and queues beside the room that they have."""
 from collections.abc import Callable, Mapping, Sequence
 from html import escape
 from math import hypot
@@ -10,7 +10,7 @@ WIDE, MOST_HIGH, SIDE = 900, 640, 4  # pixels
 
 
 def letter_mark(letter: str) -> str:
-    """A letter on its colour."""
+    """A letter of the level of service on its colour, as HTML."""
     return f'<span class="los los-{letter}">{letter}</span>'
 
 
@@ -21,10 +21,11 @@ def map_picture(
     signs: Mapping[str, float] | None = None,
     works: Sequence[Shape] = (),
 ) -> str:
-    """The streets; approaches by the colour of their level of service, junctions as marks with theirs.
-    approaches: {edge: (letter, text)}, junctions: {name: (letter, text, whether the page tells
-    it in detail)}; signs: by junction the change of its delay,
-    of those that change; works: what is closed."""
+    """The streets of a map; approaches by the colour of their level of service, junctions as marks with theirs.
+
+    approaches: {edge: (letter, text)}; junctions: {name: (letter, text, whether the page tells it in detail)}; signs:
+    {junction: change of its delay in seconds}, of those that change; works: the shapes of what is closed.
+    """
     at, tall = placing(mapping)
     parts = [f'<svg class="map" viewBox="0 0 {WIDE} {tall:.0f}" role="img" aria-label="Map by delay">']
     for link in mapping.links:
@@ -50,7 +51,8 @@ def map_picture(
 
 
 def placing(mapping: Map) -> tuple[Callable[..., str], float]:
-    """Where a point of a map lies in a picture, as text, moved by some pixels; and how high the picture is."""
+    """A function that gives where a point (x, y) of a map lies in a picture, as 'across,down' in pixels, moved by a
+    shift of pixels; and how high the picture is."""
     points = [point for link in mapping.links for point in link.shape]
     (left, right), (low, high) = ((min(values), max(values)) for values in zip(*points, strict=True))
     scale = min((WIDE - 60) / max(1.0, right - left), (MOST_HIGH - 60) / max(1.0, high - low))
@@ -62,7 +64,8 @@ def placing(mapping: Map) -> tuple[Callable[..., str], float]:
 
 
 def lines_picture(mapping: Map, values: Mapping[str, float]) -> str:
-    """The streets by values of some edges, red above 0 and blue below, wider where they are greater."""
+    """The streets; edges with a value red above 0 and blue below, wider where it is farther from 0, others thin and
+    grey."""
     at, tall = placing(mapping)
     most = max([1.0, *(abs(value) for value in values.values())])
     parts = [f'<svg class="map" viewBox="0 0 {WIDE} {tall:.0f}" role="img" aria-label="Map of differences">']
@@ -78,14 +81,15 @@ def lines_picture(mapping: Map, values: Mapping[str, float]) -> str:
 
 
 def aside(shape: Shape) -> tuple[float, float]:
-    """Pixels, across and down the page, to the right of a line, so that the directions of a street lie side by side."""
+    """By how many pixels, across and down the page, a line is moved to its right, so that the directions of a street
+    lie side by side."""
     (x, y), (end_x, end_y) = shape[0], shape[-1]
     size = hypot(end_x - x, end_y - y) or 1.0
     return SIDE * (end_y - y) / size, SIDE * (end_x - x) / size
 
 
 def junction_mark(letter: str, text: str, across: str, down: str) -> str:
-    """A circle with the level of service, at pixels across and down."""
+    """A circle with a letter of the level of service, at pixels across and down; text: what it says when pointed at."""
     colour = "#fff" if letter in LIGHT else "#000"
     circle = f'<circle cx="{across}" cy="{down}" r="11" fill="{COLOURS[letter]}" stroke="#000"/>'
     write = f'<text x="{across}" y="{down}" dy="4" text-anchor="middle" fill="{colour}" class="letter">{letter}</text>'
@@ -93,7 +97,8 @@ def junction_mark(letter: str, text: str, across: str, down: str) -> str:
 
 
 def change_mark(change: float, across: float, down: float) -> str:
-    """A triangle beside a junction, up where it waits more and down where less."""
+    """A triangle beside a junction at pixels across and down, up where it waits more and down where less; change: of
+    its delay, seconds."""
     x, y, tall = across + 14, down, 5 if change < 0 else -5
     points = f"{x:.1f},{y - tall:.1f} {x + 10:.1f},{y - tall:.1f} {x + 5:.1f},{y + tall:.1f}"
     fill = "#b00" if change > 0 else "#06c"
@@ -101,13 +106,13 @@ def change_mark(change: float, across: float, down: float) -> str:
 
 
 def anchor(name: str) -> str:
-    """The name by which the page's links find a junction."""
+    """The id by which links of the page find a junction's section."""
     return "junction-" + "".join(sign if sign.isalnum() else f"-{ord(sign):x}-" for sign in name)
 
 
 def queue_picture(rows: Sequence[tuple[str, float, float, float, float]]) -> str:
-    """A bar for each approach: the room of the edge, the 95 % queue in it, its 50 %, and a line at the greatest.
-    rows: (name, 50 %, 95 %, greatest, room), metres."""
+    """A bar for each approach: the room of the edge, the 95 % queue in it, the 50 % queue, and a line at the greatest.
+    rows, one at least: (name, 50 %, 95 %, greatest, room), in metres."""
     most = max(max(greatest, room) for _, _, _, greatest, room in rows) or 1.0
     scale, parts = 480 / most, []
     for place, (name, half, usual, greatest, room) in enumerate(rows):

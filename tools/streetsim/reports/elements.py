@@ -1,4 +1,4 @@
-"""A page as a list of its words, numbers and pictures, with their places, so that two pages can be compared."""
+"""A page as a list of its tags and texts, with their places, so that two pages can be compared."""
 import re
 from collections.abc import Iterator, Sequence
 from dataclasses import dataclass
@@ -12,7 +12,7 @@ HEADS = ("h1", "h2", "h3")
 
 @dataclass(slots=True, frozen=True)
 class Element:
-    """A tag with its attributes, or a text of the page."""
+    """A tag with its attributes, or a text of the page, as one text."""
 
     text: str
     place: str  # section, row and column where it stands
@@ -20,20 +20,20 @@ class Element:
 
 @dataclass(slots=True, frozen=True)
 class Difference:
-    """What a page says at a place, and what was found."""
+    """What a page says at a place, and what was found there anew."""
 
     place: str
     said: str
     found: str
 
     def told(self) -> str:
-        """In words."""
+        """The difference in words; long texts cut to what is around it."""
         said, found = apart(self.said, self.found)
         return f"{self.place}: said {said!r}, found {found!r}"
 
 
 def apart(said: str, found: str) -> tuple[str, str]:
-    """Two texts, where they are long as their parts around the first difference."""
+    """Two texts; where one is longer than 60 letters, of both the 60 or so around their first difference."""
     if len(said) <= LONG and len(found) <= LONG:
         return said, found
     at = next((at for at, (one, other) in enumerate(zip(said, found)) if one != other), min(len(said), len(found)))
@@ -42,7 +42,7 @@ def apart(said: str, found: str) -> tuple[str, str]:
 
 
 class Reader(HTMLParser):
-    """Reads a page into elements."""
+    """Reads a page's HTML into elements; its handle_ methods are called by HTMLParser."""
 
     def __init__(self) -> None:
         super().__init__(convert_charrefs=True)
@@ -54,7 +54,7 @@ class Reader(HTMLParser):
 
     @property
     def place(self) -> str:
-        """Where the reader is."""
+        """Where the reader is, in words: headings, row and column."""
         heads = [self.heads["h2"] or self.heads["h1"], self.heads["h3"]]
         column = self.columns[self.column] if 0 <= self.column < len(self.columns) else ""
         return ", ".join(filter(None, [*heads, self.row, column])) or "the page's head"
@@ -65,7 +65,7 @@ class Reader(HTMLParser):
         self.found.append(Element(f"<{tag}{told}>", self.place))
 
     def begin(self, tag: str) -> None:
-        """Notes that a heading, a table, a row or a cell begins."""
+        """Notes that a heading, a table, a row or a cell begins, by its tag; 'row' is the cell that heads a row."""
         if tag in HEADS:
             self.open, self.column, self.row = tag, -1, ""
             for name in HEADS[HEADS.index(tag) :]:
@@ -116,13 +116,14 @@ def elements_of(text: str) -> list[Element]:
 
 
 def numbers_in(text: str) -> int:
-    """How many numbers a page has, in words, tables and pictures, without its styles and what is sealed."""
+    """How many numbers a page has, in words, tables and pictures; not in its styles and scripts, what is sealed among
+    them, nor in pictures of points."""
     shown = re.sub(r"<(style|script)\b.*?</\1>|data:image/png;base64,[^\"]*", "", text, flags=re.DOTALL)
     return len(NUMBER.findall(shown))
 
 
 def differences(said: str, found: str) -> list[Difference]:
-    """Where two pages differ; none where they are equal to the byte."""
+    """Where two pages differ, as found anew; empty where they are equal to the byte."""
     if said == found:
         return []
     first, second = elements_of(said), elements_of(found)
@@ -131,7 +132,8 @@ def differences(said: str, found: str) -> list[Difference]:
 
 
 def pairs(first: Sequence[Element], second: Sequence[Element]) -> Iterator[Difference]:
-    """What differs of two lists of elements, one after the other where they have as many."""
+    """What differs of two lists of elements: one by one where they have equally many, else by the parts that were put
+    in, taken out or changed."""
     if len(first) == len(second):
         for one, other in zip(first, second, strict=True):
             if one.text != other.text:

@@ -16,13 +16,13 @@ MOST_MOVEMENTS = 25  # of changes on the page
 
 
 def title_of(name: str, names: Names) -> str:
-    """A junction's title, with its id."""
+    """A junction's title: its name and id, or its id alone."""
     called = names.junction(name)
     return f"{called} (junction {name})" if called else f"Junction {name}"
 
 
 def lines(rows: Sequence[Told], names: Names, detailed: int) -> str:
-    """One line for each junction; those told in detail lead to their sections."""
+    """A table with one line for each junction, as HTML; the first `detailed` of them are links to their sections."""
     two = any(one.before for one in rows)
     made = []
     for place, one in enumerate(rows):
@@ -43,7 +43,8 @@ def lines(rows: Sequence[Told], names: Names, detailed: int) -> str:
 
 
 def movement_changes(rows: Sequence[Told], names: Names) -> str:
-    """The movements that change, or are worse than D, those whose vehicles lose or win most first."""
+    """A table of the movements that change, or are worse than D, as HTML, those whose vehicles lose or win most first;
+    at most 25."""
     those = [one for one in rows if one.change and one.before and (one.changes or one.is_bad)]
     made = []
     for one in those[:MOST_MOVEMENTS]:
@@ -62,7 +63,7 @@ def movement_changes(rows: Sequence[Told], names: Names) -> str:
 
 
 def said_of_changes(seeds: int) -> str:
-    """What is paired, and what is bold."""
+    """A note, as HTML, on how differences are paired and what is bold; seeds: that both plans have."""
     said = "Differences are of the same seeds"
     if seeds < 2:
         said = "One seed alone tells nothing of chance: use --seeds 1-5"
@@ -73,7 +74,8 @@ def said_of_changes(seeds: int) -> str:
 
 
 def detail(runs: Runs, name: str, interval_of: tuple[int, int]) -> str:
-    """A junction's movements and queues."""
+    """The section of a junction, as HTML: its movements and the queues of its approaches in an interval (begin,
+    end)."""
     junction, called = runs.rows["junctions", *interval_of][name,], runs.names
     movements = [row for row in runs.rows["movements", *interval_of].values() if row.key[0] == name]
     approaches = [row for row in runs.rows["approaches", *interval_of].values() if row.key[0] == name]
@@ -99,7 +101,7 @@ def detail(runs: Runs, name: str, interval_of: tuple[int, int]) -> str:
 
 
 def by_time(runs: Runs, name: str) -> str:
-    """The level of service of a junction in each interval, where there are several."""
+    """The level of service of a junction in each interval, as HTML; empty where there is one interval alone."""
     intervals = runs.intervals()
     found = [(begin, runs.rows.get(("junctions", begin, end), {}).get((name,))) for begin, end in intervals]
     if len(intervals) < 2:
@@ -110,7 +112,7 @@ def by_time(runs: Runs, name: str) -> str:
 
 
 def movement_row(row: Row, names: Names) -> list[str]:
-    """The cells of a movement in its junction's table."""
+    """The cells of a movement in its junction's table, as HTML."""
     values = row.values
     stops = f"{values['stops_per_vehicle']:.2f}" if "stops_per_vehicle" in values else ""
     lengths = (f"{values[name]:.0f}" for name in ("queue_50_m", "queue_95_m", "queue_max_m"))

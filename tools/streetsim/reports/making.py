@@ -1,4 +1,4 @@
-"""A report from runs: its first page, and the appendix."""
+"""Makes a page from runs: its first page, and the appendix."""
 from collections.abc import Iterable, Iterator, Sequence
 from dataclasses import dataclass, field
 from html import escape
@@ -24,7 +24,7 @@ class Wishes:
 
 
 def report_of(plans: Sequence[Runs], shown: Interval, wishes: Wishes) -> str:
-    """The page on an interval of one plan, or of two, before and after."""
+    """The whole page, as HTML, of one plan, or of two, before and after, in the interval that is shown."""
     rows = council.junctions_of(plans, shown)
     detailed = 0 if wishes.is_short else min(len(rows), wishes.detailed)
     first = [
@@ -41,7 +41,8 @@ def report_of(plans: Sequence[Runs], shown: Interval, wishes: Wishes) -> str:
 def appendix_of(
     plans: Sequence[Runs], shown: Interval, detailed: Sequence[Told], wishes: Wishes
 ) -> Iterator[Section]:
-    """The sections behind the first page."""
+    """The sections behind the first page, those without content left out; detailed: the junctions that are told with
+    all their movements."""
     last, times = plans[-1], f"{clock(shown[0])} to {clock(shown[1])}"
     rows = council.junctions_of(plans, shown)
     seeds = len(plans[0].folders.keys() & last.folders.keys())
@@ -64,7 +65,7 @@ def appendix_of(
 
 
 def details(runs: Runs, shown: Interval, rows: Iterable[Told], count: int) -> str:
-    """The junctions that are told with all their movements; count: of all."""
+    """The sections of the junctions that are told with all their movements, as HTML; count: of all junctions."""
     names = [one.key[0] for one in rows]
     left = count - len(names)
     more = f" {left:,} other junctions: movements.csv of the runs, or --detail." if left else ""

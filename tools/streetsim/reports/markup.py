@@ -1,4 +1,4 @@
-"""HTML of a report: tables, times, numbers with intervals, the whole page."""
+"""HTML of a page: tables, times, numbers with intervals, the whole page."""
 import base64
 import re
 from collections.abc import Iterable, Sequence
@@ -24,7 +24,7 @@ class Section:
 
 
 def table(head: Sequence[str], rows: Iterable[Sequence[str]], names: int = 1) -> str:
-    """A table; the first columns are names, the others numbers. Cells are HTML."""
+    """A table as HTML; the first `names` columns are names, the others numbers. Cells and head are HTML already."""
 
     def line(tag: str, cells: Sequence[str]) -> str:
         kinds = [' class="name"' if place < names else "" for place in range(len(cells))]
@@ -37,7 +37,7 @@ def table(head: Sequence[str], rows: Iterable[Sequence[str]], names: int = 1) ->
 
 
 def facts(rows: Iterable[tuple[str, str]]) -> str:
-    """A table of what each thing is; HTML on both sides."""
+    """A table of (what, text), as HTML; both are HTML already."""
     lines = "".join(
         f'<tr><th class="name" scope="row">{name}</th><td class="name">{text}</td></tr>' for name, text in rows
     )
@@ -45,18 +45,19 @@ def facts(rows: Iterable[tuple[str, str]]) -> str:
 
 
 def bullets(texts: Iterable[str]) -> str:
-    """A list of plain texts."""
+    """A list of plain texts, as HTML."""
     return f"<ul>{''.join(f'<li>{escape(text)}</li>' for text in texts)}</ul>"
 
 
 def clock(second: int) -> str:
-    """A second of the day as hours and minutes, with seconds where there are some."""
+    """Seconds since midnight as hours and minutes, 7:30, with seconds where these are not 0; hours may be above 23."""
     told = f"{second // 3600:d}:{second // 60 % 60:02d}"
     return f"{told}:{second % 60:02d}" if second % 60 else told
 
 
 def mean_told(values: Iterable[float]) -> str:
-    """The mean of values with its 95 % interval, in words."""
+    """The mean of values with one decimal, and the half of its 95 % interval where there are several; 'none' for no
+    value."""
     values = list(values)
     if not values:
         return "none"
@@ -65,12 +66,12 @@ def mean_told(values: Iterable[float]) -> str:
 
 
 def change_told(one: Difference) -> str:
-    """A change, bold where its sign is sure."""
+    """A change as text, bold (HTML) where its sign is sure."""
     return f'<span class="sure">{one.told()}</span>' if one.is_sure() else one.told()
 
 
 def image(content: bytes, text: str) -> str:
-    """A PNG, of its bytes, in the page itself; text: what it shows."""
+    """An <img> that holds a PNG, of its bytes, in the page itself; text: what it shows."""
     return f'<img alt="{escape(text)}" src="data:image/png;base64,{base64.b64encode(content).decode()}">'
 
 
@@ -83,19 +84,19 @@ def level_styles() -> str:
 
 
 def shown(section: Section) -> str:
-    """A section with its heading."""
+    """A section with its heading, as HTML."""
     head = f'<h2 id="{section.name}">{escape(section.title)}</h2>'
     return f'<section aria-labelledby="{section.name}">{head}{section.content}</section>'
 
 
 def contents(sections: Iterable[Section]) -> str:
-    """The table of contents of an appendix."""
+    """The items of an appendix's table of contents, as HTML."""
     return "".join(f'<li><a href="#{one.name}">{escape(one.title)}</a></li>' for one in sections)
 
 
 def page(title: str, lead: str, first: Sequence[Section], appendix: Sequence[Section], last: str = "") -> str:
-    """The whole page: a first page of sections, an appendix with its contents, and what stands at the end (HTML): how
-    the page is checked."""
+    """The whole page, of page.html: lead (HTML) at its head, the sections of the first page, those of the appendix
+    after their contents, and `last` (HTML) at the end."""
     text = (Path(__file__).parent / "page.html").read_text(encoding="utf-8")
     links = f'<nav aria-label="Appendix"><h2>Appendix</h2><ol>{contents(appendix)}</ol></nav>' if appendix else ""
     after = "\n".join(shown(one) for one in appendix)

@@ -5,22 +5,22 @@ NUMBERS = ("no", "one", "two", "three", "four", "five", "six", "seven", "eight",
 
 
 def number(count: int) -> str:
-    """A count in words up to twelve."""
+    """A count in words up to twelve, 0 as 'no'; else in digits."""
     return NUMBERS[count] if count < len(NUMBERS) else f"{count:,}"
 
 
 def several(count: int, one: str, many: str = "") -> str:
-    """'one run', 'five runs'."""
+    """A count with its noun: 'one run', 'five runs'; many: the plural where it is not the noun with an s."""
     return f"{number(count)} {one if count == 1 else many or one + 's'}"
 
 
 def less_or_more(change: float, unit: str = "s") -> str:
-    """'17.9 s less'."""
+    """A change with its size and direction: '17.9 s less'; 0 is 'more'."""
     return f"{abs(change):.1f} {unit} {'less' if change < 0 else 'more'}"
 
 
 def between(one: Difference) -> str:
-    """The 95 % interval of a change: '17.7 to 18.1 s less'; empty of one seed."""
+    """The 95 % interval of a change in seconds: '17.7 to 18.1 s less'; empty for one seed."""
     if one.half is None:
         return ""
     low, high = one.change - one.half, one.change + one.half
@@ -32,7 +32,7 @@ def between(one: Difference) -> str:
 
 
 def change_in_words(one: Difference) -> str:
-    """What a change is, how sure it is, and whether it is shown at all."""
+    """How great a change in seconds is and how sure, or that it is not shown to differ."""
     if one.half is None:
         return f"{less_or_more(one.change)} (of one run, which says nothing of chance)"
     if one.is_sure():

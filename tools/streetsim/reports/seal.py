@@ -1,4 +1,5 @@
-"""What made a page, sealed into it: run files, maps, words, sums of all; packed as text, or in a file beside it."""
+"""The seal of a page: what made it (run files, maps, words, sums of all), packed as text of the page, or in a file
+beside it."""
 import base64
 import hashlib
 import json
@@ -30,18 +31,19 @@ SHOWS = (
 
 @dataclass(slots=True)
 class Seal:
-    """What made a page. content: {"words", "plans", "tools", ..}; texts: packed files of the page, by name."""
+    """What made a page. content: {"words", "plans", "tools", "files": {name: SHA-256}, ..}; texts: the files that are
+    packed in the page itself."""
 
     content: Json
-    texts: dict[str, str] = field(default_factory=dict)
+    texts: dict[str, str] = field(default_factory=dict)  # by name, as `packed` makes them
     beside: str = ""  # the name of the file beside the page, where some are too large
 
     def written(self) -> Json:
-        """What the page says of it, with the sums of the packed files in it."""
+        """What the page holds of it as JSON: its content, and the SHA-256 of each packed text."""
         return {**self.content, "packs": {name: sum_of(text.encode()) for name, text in self.texts.items()}}
 
     def html(self) -> str:
-        """The section at the page's end."""
+        """The section at the page's end, with the packed files, as HTML."""
         told = canonical(self.written())
         rows = [("how to check", escape(HOW)), ("what that shows", escape(SHOWS))]
         for plan in self.content["plans"]:
@@ -65,7 +67,7 @@ class Seal:
 
 
 def canonical(value: Json) -> str:
-    """JSON that is equal for equal values."""
+    """JSON text that is equal for equal values, whatever the order of their keys."""
     return json.dumps(value, separators=(",", ":"), sort_keys=True)
 
 
@@ -75,12 +77,12 @@ def sum_of(content: bytes) -> str:
 
 
 def packed(content: bytes) -> str:
-    """Bytes as text of a page."""
+    """Bytes as text that may stand in a page."""
     return base64.b64encode(zlib.compress(content, 9)).decode()
 
 
 def unpacked(text: str) -> bytes:
-    """The bytes of a page's text; ValueError where it is not what `packed` makes."""
+    """The bytes of a text that `packed` made; ValueError where it is none."""
     try:
         return zlib.decompress(base64.b64decode(text, validate=True))
     except (ValueError, zlib.error) as fault:
@@ -88,7 +90,8 @@ def unpacked(text: str) -> bytes:
 
 
 def sealed(content: Json, files: Mapping[str, bytes], page: str) -> tuple[Seal, dict[str, bytes]]:
-    """The seal of a page of this name with some files, and those of them that are for the file beside it."""
+    """The seal of a page (its path), and the files that are too large for it and go to the file beside it. content:
+    what it says but for the files; files: content by name."""
     texts = {name: packed(one) for name, one in files.items()}
     large = {name: files[name] for name, text in texts.items() if len(text) > LARGEST}
     content = {**content, "files": {name: sum_of(one) for name, one in files.items()}, "beside": sorted(large)}
@@ -102,7 +105,7 @@ def beside_of(page: str) -> str:
 
 
 def write_beside(page: str, large: Mapping[str, bytes]) -> None:
-    """Writes the file beside a page, equal for equal content; none where there is nothing for it."""
+    """Writes the file beside a page, equal for equal content; nothing where there is nothing for it."""
     if not large:
         return
     with whole_path(Path(page).parent / beside_of(page)) as half, zipfile.ZipFile(half, "w") as made:
@@ -111,7 +114,7 @@ def write_beside(page: str, large: Mapping[str, bytes]) -> None:
 
 
 def seal_of(page: str, text: str) -> Seal:
-    """The seal of a page's text; Fault where it has none, or one that cannot be read."""
+    """The seal in a page's text; page: its path, for faults. Fault where it has none, or one that cannot be read."""
     found = DATA.search(text)
     if not found:
         raise Fault(f"{page}: not sealed: streetsim-report --sealed makes a page that can be checked")
@@ -126,7 +129,8 @@ def seal_of(page: str, text: str) -> Seal:
 
 
 def files_of(seal: Seal, page: str) -> Iterator[tuple[str, bytes]]:
-    """Each sealed file, (name, content); Fault where one is not there, or not what the page says."""
+    """Each sealed file, (name, content), of a page at a path; Fault where one is missing, or is not what the seal
+    says."""
     large = read_beside(seal, page)
     for name, known in seal.content["files"].items():
         try:
@@ -139,7 +143,7 @@ def files_of(seal: Seal, page: str) -> Iterator[tuple[str, bytes]]:
 
 
 def read_beside(seal: Seal, page: str) -> dict[str, bytes]:
-    """The files in the file beside a page, by name; Fault where that is not there."""
+    """The files in the file beside a page, by name; empty where the seal needs none, Fault where it cannot be read."""
     if not seal.beside:
         return {}
     path = Path(page).parent / seal.beside

@@ -1,4 +1,4 @@
-"""Seals a page: gathers the run files, maps, words and sums of its runs."""
+"""Makes the seal of a page: gathers the run files, maps, words and sums of its runs."""
 import gzip
 import hashlib
 import os
@@ -20,8 +20,9 @@ PACKAGE = Path(__file__).parents[1]
 def seal_for(
     plans: Sequence[Runs], words: Sequence[str], page: str, others: Mapping[str, str]
 ) -> tuple[Seal, dict[str, bytes]]:
-    """The seal of a page of some plans, made by words, and the files that are for the one beside it. others: further
-    files, {name: path}. Fault where a plan's folder does not keep what made it."""
+    """The seal of a page of some plans, and the files that go to the one beside it. words: of streetsim-report that
+    were given; page: its path; others: further files, {name: path}. Fault where a plan's folder does not keep what made
+    it."""
     files: dict[str, bytes] = {}
     made = []
     for place, runs in enumerate(plans, 1):
@@ -36,7 +37,8 @@ def seal_for(
 
 
 def plan_of(runs: Runs, place: int) -> tuple[Json, dict[str, bytes]]:
-    """What the seal says of a plan, and its files; place: from 1."""
+    """What the seal says of a plan, and its files by name; place: of the plan, from 1. Fault where its folder does not
+    keep what made it, or its seeds are of several runs."""
     folder, made = runs.first, runs.first.made
     lines = kept_lines(runs)
     if len({canonical(how(one)) for one in runs.folders.values()}) > 1:
@@ -54,18 +56,19 @@ def plan_of(runs: Runs, place: int) -> tuple[Json, dict[str, bytes]]:
 
 
 def how(folder: Folder) -> Json:
-    """By what a folder's run was made, but for its seed."""
+    """What a folder's setting says of how its run was made; equal for the seeds of one run."""
     return {name: folder.made.get(name) for name in ("run", "words", "again", "lines", "program")}
 
 
 def map_of(folder: Folder) -> Json:
-    """The map as the run has kept it, without names that were given to it later."""
+    """The map as the run's setting keeps it, without names that were given to it later."""
     value: Json = read_json(f"{folder.path}/{NAME}", ("map",))["map"]
     return value
 
 
 def kept_lines(runs: Runs) -> bytes:
-    """The lines of the run; Fault where its folder does not keep them, or other ones than its setting says."""
+    """The lines of a plan's run as bytes; Fault where its folder does not keep them, or other ones than its setting
+    says."""
     folder = runs.first
     places = [f"{folder.path}/{KEPT}", f"{os.path.dirname(os.path.normpath(folder.path))}/{KEPT}"]
     path = next(filter(os.path.exists, places), None)
@@ -80,7 +83,7 @@ def kept_lines(runs: Runs) -> bytes:
 
 
 def tools_sum() -> str:
-    """The SHA-256 of the tools' own files."""
+    """The SHA-256 of all files of the tools: Python, HTML and JavaScript."""
     found = hashlib.sha256()
     for path in sorted(PACKAGE.rglob("*")):
         if path.suffix in (".py", ".html", ".js"):
@@ -89,7 +92,7 @@ def tools_sum() -> str:
 
 
 def drawn_by() -> str:
-    """The version of what draws pictures of points; empty where there is none."""
+    """The version of matplotlib, which draws pictures of points; empty where it is not installed."""
     if find_spec("matplotlib") is None:
         return ""
     from importlib.metadata import version

@@ -18,13 +18,14 @@ Timings = Mapping[str, Timing]  # by light
 
 
 def sheets(plans: Sequence[tuple[str, Timings]], lights: Sequence[str], names: Names) -> str:
-    """A sheet for each of some lights, as HTML; plans: name and programs, one or before and after."""
+    """A sheet for each of some lights, as HTML; plans: (name, programs by light) of one, or of two, before and
+    after."""
     key = f'<p class="small">{escape(LEGEND)}</p>'
     return key + "".join(sheet([(name, one.get(light)) for name, one in plans], light, names) for light in lights)
 
 
 def sheet(plans: Sequence[tuple[str, Timing | None]], light: str, names: Names) -> str:
-    """The sheet of a light."""
+    """The sheet of a light, as HTML; plans: (name, its program or none). Empty where no plan has a program of it."""
     known = [(name, timing) for name, timing in plans if timing]
     if not known:
         return ""
@@ -43,12 +44,12 @@ def sheet(plans: Sequence[tuple[str, Timing | None]], light: str, names: Names) 
 
 
 def changed(before: Timings, after: Timings) -> list[str]:
-    """The lights that show something else with the second plan."""
+    """The lights, sorted, that both plans have and that show something else, or at other times, with the second."""
     return [light for light in sorted(after) if light in before and not same(before[light], after[light])]
 
 
 def clashes(timings: Timings, runs: Runs) -> list[str]:
-    """The lights that show main green to movements that conflict, as doubts."""
+    """For each two movements of a light that conflict and have main green together, a doubt in plain words."""
     names = runs.names
     return [
         f"Fault of light {light}: {movement(one, names)} and {movement(other, names)} conflict and have main green "
@@ -59,13 +60,13 @@ def clashes(timings: Timings, runs: Runs) -> list[str]:
 
 
 def same(one: Timing, other: Timing) -> bool:
-    """Whether two programs show the same at the same time."""
+    """Whether two programs have equal phases and offsets."""
     return (one.offset, list(one.phases)) == (other.offset, list(other.phases))
 
 
 def program(name: str, timing: Timing, names: Names, is_last: bool) -> str:
-    """A light's program with one plan: what it is, bars, phases, greens, faults; of the last plan also times between
-    greens."""
+    """A light's program with one plan (its name), as HTML: what it is, bars, phases, greens, faults; is_last: whether
+    times between greens are added."""
     cycle = len(timing.states())
     kind = "" if timing.kind == "static" else f", {timing.kind}: listed durations"
     told = f"{name}: cycle {cycle} s, offset {timing.offset:g} s, {len(timing.phases)} phases{kind}"
@@ -80,12 +81,12 @@ def program(name: str, timing: Timing, names: Names, is_last: bool) -> str:
 
 
 def movement(one: Movement, names: Names) -> str:
-    """A movement's name."""
+    """What a movement is called: by streets, else by directions."""
     return names.movement(one.edge, one.to)
 
 
 def bars(timing: Timing, names: Names) -> str:
-    """A bar for each movement over the cycle."""
+    """A picture (SVG) with a bar for each movement over the cycle."""
     cycle, parts = len(timing.states()), []
     scale = (WIDE - LEFT - 10) / cycle
     for place, one in enumerate(timing.movements):
@@ -109,20 +110,20 @@ def bars(timing: Timing, names: Names) -> str:
 
 
 def unfolded(begin: int, seconds: int, cycle: int) -> list[tuple[int, int]]:
-    """A run over the end of a cycle as two, (begin, seconds)."""
+    """A run of seconds that may go over the end of a cycle, as one or two (begin, seconds) within it."""
     if begin + seconds <= cycle:
         return [(begin, seconds)]
     return [(begin, cycle - begin), (0, begin + seconds - cycle)]
 
 
 def ticks(cycle: int) -> range:
-    """The seconds that the axis names."""
+    """The seconds of a cycle that the axis names, 0 among them; 21 at most."""
     step = next(step for step in (5, 10, 20, 50, 100, 500, 5000, 50_000) if cycle / step <= 20)
     return range(0, cycle + 1, step)
 
 
 def phases_table(timing: Timing) -> str:
-    """The phases, with what they show."""
+    """A table of the phases, with what they show and when, as HTML."""
     rows, clock = [], 0.0
     for number, (seconds, state) in enumerate(timing.phases, 1):
         what = "green" if set(state) & set(MAIN + PERMISSIVE) else "red"
@@ -133,7 +134,7 @@ def phases_table(timing: Timing) -> str:
 
 
 def greens_table(timing: Timing, names: Names) -> str:
-    """The greens, yellow and red of each movement."""
+    """A table of the seconds of green, yellow and red of each movement, as HTML."""
     rows = []
     for one in timing.movements:
         signs = timing.signs(one)
@@ -150,7 +151,8 @@ def greens_table(timing: Timing, names: Names) -> str:
 
 
 def intergreens(timing: Timing, names: Names) -> str:
-    """The seconds between greens of movements that conflict, the shortest first."""
+    """The least time between conflicting greens, and a table of the pairs of movements that have it or a second more,
+    as HTML; empty where there is none."""
     rows = []
     for pair in timing.pairs():
         for one, other in (pair, pair[::-1]):

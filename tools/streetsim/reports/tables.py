@@ -12,7 +12,8 @@ CHANGES = (
 
 
 def change_rows(plans: Sequence[Runs], shown: Interval) -> Iterator[Entry]:
-    """Each junction and movement of the last plan, beside the one before it where there is one."""
+    """The rows of --csv, as CHANGES has the columns: each junction and movement of the last plan, beside the first
+    where there are two; empty texts where a value is not known."""
     names = plans[-1].names
     for kind in ("junctions", "movements"):
         for one in junctions_of(plans, shown, kind):

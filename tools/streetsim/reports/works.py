@@ -1,4 +1,4 @@
-"""Road works on a page: where and when, what passes them, the queue over time, and who goes another way."""
+"""Road works on a page: where and when, what passes them, the queue over time, and which streets get the traffic."""
 import os
 from collections import defaultdict
 from collections.abc import Iterable, Sequence
@@ -26,7 +26,8 @@ Place = tuple[str, str, str, str]  # edge, lane, from and to in metres, as works
 
 @dataclass(slots=True)
 class Seen:
-    """Works at one place: rows of works.csv by period, and queues by clock, of all seeds."""
+    """Works at one place, over all seeds of a plan: rows of works.csv by (begin, end), and metres of queues by
+    clock."""
 
     place: Place
     rows: dict[tuple[int, int], list[dict[str, str]]]
@@ -34,7 +35,7 @@ class Seen:
 
 
 def seen_in(runs: Runs) -> list[Seen]:
-    """The works of runs, in the order of their table; none where there were none."""
+    """The works of a plan, in the order of works.csv; empty where it had none."""
     found: dict[Place, Seen] = {}
     for folder in runs.folders.values():
         rows = rows_of(folder)
@@ -48,12 +49,12 @@ def seen_in(runs: Runs) -> list[Seen]:
 
 
 def rows_of(folder: Folder) -> list[dict[str, str]]:
-    """The rows of a run's works.csv; none where it has none."""
+    """The rows of a run's works.csv; empty where it has none."""
     return folder.works() if os.path.exists(f"{folder.path}/{tables.WORKS_FILE}") else []
 
 
 def note_queues(folder: Folder, places: Sequence[Seen]) -> None:
-    """Notes the queues before works at each poll of a run."""
+    """Adds the queue before each place of works at each poll of a run; 0 where none is listed."""
     queues = {(row["edge"], row["lane"], int(row["time"])): float(row["metres"]) for row in before_works(folder)}
     for seen in places:
         edge, lane, *_ = seen.place
@@ -63,24 +64,24 @@ def note_queues(folder: Folder, places: Sequence[Seen]) -> None:
 
 
 def before_works(folder: Folder) -> Iterable[dict[str, str]]:
-    """The rows of queues.csv of queues before works."""
+    """The rows of queues.csv that are of queues before works."""
     return (row for row in folder.queues() if row["before"] == tables.BEFORE_WORKS)
 
 
 def polls(folder: Folder, first: int, last: int) -> range:
-    """The clocks at which lanes were polled from a first to a last second."""
+    """The clocks at which lanes were polled, from a first to a last second; empty where nothing was polled."""
     every = folder.every
     return range((first // every + 1) * every, last + 1, every) if every else range(0)
 
 
 def stretches(runs: Runs) -> list[Shape]:
-    """The shapes of what is closed, for a map."""
+    """The shapes, points (x, y), of what is closed in a plan, for a map."""
     mapping = runs.first.mapping
     return [part_of(mapping, seen.place) for seen in seen_in(runs)]
 
 
 def part_of(mapping: Map, place: Place) -> Shape:
-    """The piece of an edge's line from one place to another."""
+    """The closed piece of an edge's line as three points: begin, middle and end of a place."""
     edge, lane, begin, end = place
     links = mapping.links_of[edge]
     link = mapping.links[next((one for one in links if int(lane) in mapping.links[one].lanes), links[0])]
@@ -89,7 +90,7 @@ def part_of(mapping: Map, place: Place) -> Shape:
 
 
 def along(shape: Shape, share: float) -> tuple[float, float]:
-    """The point at a share of a line, 0 to 1."""
+    """The point (x, y) at a share, 0 to 1, of a line's length."""
     lengths = [hypot(x - begin_x, y - begin_y) for (begin_x, begin_y), (x, y) in zip(shape, shape[1:])]
     left = share * sum(lengths)
     for (begin, end), length in zip(zip(shape, shape[1:]), lengths, strict=True):
@@ -100,7 +101,8 @@ def along(shape: Shape, share: float) -> tuple[float, float]:
 
 
 def section(plans: Sequence[Runs], shown: tuple[int, int]) -> str:
-    """The road works of plans, as HTML; empty where none had any."""
+    """The road works of one plan or two, as HTML, with two also the streets that more or fewer vehicles use; empty
+    where none had any."""
     parts = []
     for runs in plans:
         parts += [place_told(runs, seen) for seen in seen_in(runs)]
@@ -110,7 +112,7 @@ def section(plans: Sequence[Runs], shown: tuple[int, int]) -> str:
 
 
 def place_told(runs: Runs, seen: Seen) -> str:
-    """Works at one place: where, when, a table by period, and the queue over time."""
+    """Works at one place, as HTML: where, when, a table by period, and the queue over time."""
     edge, lane, begin, end = seen.place
     first, last = min(start for start, _ in seen.rows), max(stop for _, stop in seen.rows)
     street = f"{runs.names.street(edge)} ({edge})" if runs.names.street(edge) else edge
@@ -128,19 +130,19 @@ def place_told(runs: Runs, seen: Seen) -> str:
 
 
 def mean_of(rows: Iterable[dict[str, str]], name: str) -> str:
-    """The mean of a column over seeds; empty where none has it."""
+    """The mean of a column over seeds, with one decimal or none; empty where no row has it."""
     values = [float(row[name]) for row in rows if row[name]]
     return f"{fmean(values):.1f}".removesuffix(".0") if values else ""
 
 
 def most_of(rows: Iterable[dict[str, str]], name: str) -> str:
-    """The greatest of a column over seeds; empty where none has it."""
+    """The greatest of a column over seeds, in whole numbers; empty where no row has it."""
     values = [float(row[name]) for row in rows if row[name]]
     return f"{max(values):.0f}" if values else ""
 
 
 def queues_picture(seen: Seen) -> str:
-    """The queue before works over time: the mean over seeds, and the greatest."""
+    """A picture (SVG) of the queue before works over time: the mean over seeds, and the greatest."""
     times = sorted(seen.queues)
     most = max(1.0, *(max(own) for own in seen.queues.values()))
     across, down = (WIDE - LEFT - 10) / max(1, times[-1] - times[0]), (HIGH - 40) / most
@@ -167,7 +169,7 @@ def queues_picture(seen: Seen) -> str:
 
 
 def other_ways(plans: Sequence[Runs], shown: tuple[int, int]) -> str:
-    """The edges that more and fewer vehicles use with the second plan, for sure."""
+    """A table of the edges that, for sure, 20 vehicles an hour or more win or lose with the second plan, as HTML."""
     names, found = plans[1].names, []
     for edge, change in flow_changes(plans, shown).items():
         if abs(change.change) >= LEAST and (change.is_sure() or change.half is None):
@@ -185,7 +187,7 @@ def other_ways(plans: Sequence[Runs], shown: tuple[int, int]) -> str:
 
 
 def flow_changes(plans: Sequence[Runs], shown: tuple[int, int]) -> dict[str, Difference]:
-    """The change of vehicles an hour on each edge, paired by seed."""
+    """By edge the change of vehicles an hour in the interval (begin, end) that is shown, paired by seed."""
     sides = []
     for runs in plans:
         flows: defaultdict[str, dict[int, float]] = defaultdict(dict)
