@@ -28,8 +28,8 @@ LIGHTS = ("light", "phase", "least_before", "least_after", "most_before", "most_
 
 @dataclass(frozen=True, slots=True)
 class Asked:
-    """How long is searched and with what: simulations, seeds (none: as many as runs of the bounds given say), and the
-    lowest seconds of a least green."""
+    """How long is searched and with what: budget: simulations at most; seeds (empty: as many of the tried ones as their
+    runs of the given bounds say); least: the lowest seconds that a search may give to a least green."""
 
     budget: int
     seeds: Sequence[int]
@@ -38,7 +38,8 @@ class Asked:
 
 @dataclass(slots=True)
 class Ground:
-    """What a search for bounds stands on: the town, its lights that detectors drive, and the bounds given."""
+    """What a search for bounds stands on: the town, its lights that detectors drive, the bounds given, and the
+    sessions."""
 
     town: Town  # all its lights as of seconds
     lights: Lights
@@ -47,7 +48,8 @@ class Ground:
 
 
 def ground_of(reading: Reading, town: Town) -> Ground:
-    """Fault where detectors drive no light whose bounds may be changed; those of others that are driven stay."""
+    """The ground of a search for bounds. Names on standard error the lights that detectors drive and whose bounds stay
+    as they are; Fault where no light has bounds that may be changed."""
     lights = driven_lights(town.run, town.mapping)
     given = given_bounds(lights, reading.keep)
     print(*lights.notes(), sep="\n", end="\n" if lights.listed else "", file=sys.stderr)
@@ -65,7 +67,8 @@ def ground_of(reading: Reading, town: Town) -> Ground:
 def outcomes(
     workers: Machines, tried: Sequence[Bounded], seeds: Sequence[int], place: int = EXACT
 ) -> Iterator[Outcome]:
-    """What runs of some bounds gave, for each with each seed."""
+    """What runs under some bounds gave: the outcomes of the first bounds with each seed, then of the second, and so on.
+    place: of the session that runs them, EXACT or CAREFUL."""
     tasks = [(f"the run with seed {seed}", bounded_outcome, place, one, seed) for one in tried for seed in seeds]
     return workers.ordered(tasks)
 
@@ -73,7 +76,8 @@ def outcomes(
 def searched_bounds(
     asked: Asked, workers: Machines, ground: Ground, tried: Sequence[int]
 ) -> tuple[Search, bool]:
-    """The search when it has ended, and whether the user ended it."""
+    """Searches for bounds; gives the search when it has ended, and whether the user ended it. tried: seeds whose runs
+    of the given bounds say how many of them the search uses, where none are asked for."""
     cars, meanwhile = len(ground.town.session.departs), Meanwhile("simulations", asked.budget)
     seeds = asked.seeds
     if not seeds:
@@ -97,7 +101,8 @@ def searched_bounds(
 
 
 def verified_bounds(in_sumo: InSumo, ground: Ground, found: Bounded, seeds: Sequence[int], jobs: int) -> Verified:
-    """What SUMO says of the bounds given and of those found."""
+    """What SUMO says of the bounds given and of those found, by runs with each seed; jobs: how many run side by
+    side."""
     with tempfile.TemporaryDirectory() as folder:
         paths = [f"{folder}/{name}.add.xml" for name in ("given", "found")]
         for path, bounded in zip(paths, (ground.given, found), strict=True):
@@ -107,7 +112,8 @@ def verified_bounds(in_sumo: InSumo, ground: Ground, found: Bounded, seeds: Sequ
 
 @dataclass(slots=True)
 class Found:
-    """What a search for bounds gave, beside the best plan of seconds; outcomes by seed."""
+    """What a search for bounds gave, and the runs by seeds that it did not see: under the bounds given (before), under
+    those found (after), and under the best plan of seconds (fixed). sumo: None where SUMO was not run."""
 
     search: Search
     stopped: bool
@@ -117,8 +123,8 @@ class Found:
     sumo: Verified | None
 
     def rows(self, cars: int) -> list[Compared]:
-        """The rows of before-after.csv: trips as given and as found, and those under the best plan of seconds beside
-        these."""
+        """The rows of before-after.csv: mean trips (s) as given and as found, under the best plan of seconds and as
+        found, and those of SUMO where it was run. cars: vehicles that depart before the end."""
         named = {"mean_trip_s": (self.before, self.after), "mean_trip_of_best_fixed_s": (self.fixed, self.after)}
         made: list[Compared] = []
         for name, pair in named.items():
@@ -132,7 +138,7 @@ class Found:
         return made
 
     def doubts(self, ground: Ground) -> Iterator[str]:
-        """Why it is not to be trusted."""
+        """Why the bounds found are not to be trusted, a text each; nothing where they are."""
         town, named = ground.town, {"as given": self.before, "as found": self.after}
         until = town.session.clocks[-1]
         arrived = {name: fmean(one.arrived for one in runs) for name, runs in named.items()}
@@ -143,8 +149,8 @@ class Found:
 
 
 def write_found_bounds(output: str, out: str, ground: Ground, found: Found) -> int:
-    """Writes bounds and tables, all or none, and says what was found; gives the status, 1 where it is not shown to be
-    better wherever it was run."""
+    """Writes bounds (to the file output) and tables (into the folder out), all or none, and prints what was found.
+    Gives the exit status: 0 where the bounds are shown to be better wherever they were run, else 1."""
     best, rows, doubts = found.search.best[1], found.rows(len(ground.town.session.departs)), [*found.doubts(ground)]
     with whole_folder(out, LAST, ()) as folder:
         told = [(name, *(f"{value:.3f}" for value in values), runs) for name, *values, runs in rows]
@@ -158,13 +164,16 @@ def write_found_bounds(output: str, out: str, ground: Ground, found: Found) -> i
 
 
 def bound_rows(before: Bounded, after: Bounded) -> Iterator[Entry]:
-    """The rows of lights.csv: each green that detectors extend, before and after."""
+    """The rows of lights.csv, one for each green that detectors extend: its bounds and the gap of its light, seconds,
+    as given and as found."""
     for name, own in sorted(before.items()):
         for (phase, least, most), (_, low, high) in zip(own.greens, after[name].greens, strict=True):
             yield name, phase, least, low, most, high, f"{own.gap:g}", f"{after[name].gap:g}"
 
 
 def tell_bounds(found: Found, rows: Sequence[Compared], doubts: Sequence[str]) -> int:
+    """Prints what was found, of the rows of before-after.csv; gives the exit status: 0 where the bounds are shown to be
+    better wherever they were run, else 1."""
     (_, before, after, difference, half, runs), (_, fixed, _, less, width, _) = rows[:2]
     if found.stopped:
         print("stopped: the best bounds found so far are written")

@@ -18,26 +18,27 @@ from streetsim.sessions.prepared import Outcome, Session
 from streetsim.signals.search import Ended, Search, climb
 
 GAPS = (1.5, 2.0, 2.5, 3.5, 4.0, 5.0)  # seconds that are tried for all lights
-SHORTER, LONGER = 0.7, 1.4  # of their most, the same
-STEPS = ((1.0, 10, 4), (0.5, 5, 2))  # of a gap, a most and a least, in seconds: of each light alone
+SHORTER, LONGER = 0.7, 1.4  # times each most, tried for all lights
+STEPS = ((1.0, 10, 4), (0.5, 5, 2))  # seconds by which a gap, a most and a least of one light are changed
 GAP_RANGE = (0.5, 8.0)  # seconds
 MAX_GAP = "max-gap"
 
 
 @dataclass(frozen=True, slots=True)
 class Bounds:
-    """Of one light: (least, most) of each green that detectors extend, by its place, and the gap."""
+    """The bounds of one light, seconds: (place of the phase, least, most) of each green that detectors extend, and the
+    gap that ends a green."""
 
     greens: tuple[tuple[int, int, int], ...]  # phase, least, most
     gap: float
 
     def with_gap(self, gap: float) -> Bounds | None:
-        """With another gap; none outside the range."""
+        """These bounds with another gap, seconds; None where it is outside GAP_RANGE."""
         return replace(self, gap=gap) if GAP_RANGE[0] <= gap <= GAP_RANGE[1] else None
 
     def with_green(self, at: int, least: int, most: int, lowest: int) -> Bounds | None:
-        """With other bounds of one green; none where they cross, or its least is below the lowest and lower than it
-        was."""
+        """These bounds with another least and most, seconds, of the green at a place of greens. None where the least is
+        not below the most, the most is above 600 s, or the least is below both lowest and what it is now."""
         phase, before, _ = self.greens[at]
         if not min(lowest, before) <= least < most <= limits.PHASE_STEPS:
             return None
@@ -48,7 +49,8 @@ Bounded = dict[str, Bounds]  # by light
 
 
 def given_bounds(lights: Lights, keep: Collection[str]) -> Bounded:
-    """Those of the lights that a search may change: the actuated ones that it was not told to keep."""
+    """The bounds of the lights that a search may change, by light: of the actuated ones that are not in keep. Greens
+    whose most is above 600 s are left out, and so is a light that has no other."""
     found = {}
     for one in lights.driven:
         if isinstance(one, Driven) and one.name not in keep:
@@ -60,7 +62,7 @@ def given_bounds(lights: Lights, keep: Collection[str]) -> Bounded:
 
 
 def kept_with(kept: Json, bounds: Bounds) -> Json:
-    """What a map keeps of a program, with other bounds."""
+    """A program as a map keeps it, with other bounds; the one given stays as it is."""
     phases = [list(phase) for phase in kept["phases"]]
     for at, least, most in bounds.greens:
         phases[at][2:4] = [least, most]
@@ -69,7 +71,8 @@ def kept_with(kept: Json, bounds: Bounds) -> Json:
 
 
 def with_bounds(lights: Lights, mapping: Map, bounded: Mapping[str, Bounds]) -> Lights:
-    """The lights with other bounds; their detectors lie as SUMO puts them then."""
+    """The lights with other bounds, by name; lights without a name there stay. Their detectors lie where SUMO puts them
+    for the new gap."""
     kept = in_force(mapping.programs)
     driven = (
         driven_of(kept_with(kept[one.name], bounded[one.name]), mapping) if one.name in bounded else one
@@ -79,7 +82,7 @@ def with_bounds(lights: Lights, mapping: Map, bounded: Mapping[str, Bounds]) -> 
 
 
 def bounded_outcome(session: Session, bounded: Bounded, seed: int) -> Outcome:
-    """What a run with some bounds and a seed gave; a task of a worker."""
+    """What a run under some bounds gave with a seed; a task of a worker. session.giving must not be None."""
     giving = session.giving
     assert giving is not None
     lights = with_bounds(giving.lights, giving.mapping, bounded)
@@ -87,11 +90,13 @@ def bounded_outcome(session: Session, bounded: Bounded, seed: int) -> Outcome:
 
 
 def key_of(bounded: Bounded) -> tuple[Any, ...]:
+    """What names bounds of lights in a search: equal bounds have equal keys."""
     return tuple(sorted(bounded.items(), key=lambda item: item[0]))
 
 
 def search_bounds(search: Search, given: Bounded, lowest: int) -> None:
-    """Searches from given bounds; the search then has the best. lowest: seconds of a least green."""
+    """Searches from given bounds until nothing helps or the search has ended; search.best is then the best. lowest:
+    seconds below which no least green is brought."""
     try:
         search.cost("given", given)
         best = given
@@ -109,7 +114,8 @@ def search_bounds(search: Search, given: Bounded, lowest: int) -> None:
 
 
 def for_all(given: Bounded, lowest: int) -> Iterator[tuple[str, Bounded]]:
-    """Bounds that are tried for all lights: (what, bounds)."""
+    """Bounds that are tried for all lights at once, (name of the step, bounds): each gap of GAPS, then all mosts
+    shorter and longer."""
     for gap in GAPS:
         yield f"gaps of {gap:g} s", {name: replace(own, gap=gap) for name, own in given.items()}
     for share in (SHORTER, LONGER):
@@ -125,7 +131,8 @@ Change = Callable[[Bounds, int], Bounds | None]
 
 
 def change_of(name: str, change: Change) -> Callable[[Bounded, int], Bounded | None]:
-    """A change of one light's bounds, as of all."""
+    """A change of one light's bounds, as one of the bounds of all lights; it gives None where the light's change
+    does."""
 
     def changed(bounded: Bounded, sign: int) -> Bounded | None:
         made = change(bounded[name], sign)
@@ -135,10 +142,13 @@ def change_of(name: str, change: Change) -> Callable[[Bounded, int], Bounded | N
 
 
 def gap_by(seconds: float) -> Change:
+    """A change that makes the gap so many seconds longer (sign 1) or shorter (sign -1)."""
     return lambda own, sign: own.with_gap(own.gap + sign * seconds)
 
 
 def most_by(at: int, seconds: int, lowest: int) -> Change:
+    """A change that makes the most of the green at a place of greens so many seconds longer (sign 1) or shorter (sign
+    -1). lowest: as of Bounds.with_green."""
     def change(own: Bounds, sign: int) -> Bounds | None:
         _, least, most = own.greens[at]
         return own.with_green(at, least, most + sign * seconds, lowest)
@@ -147,6 +157,8 @@ def most_by(at: int, seconds: int, lowest: int) -> Change:
 
 
 def least_by(at: int, seconds: int, lowest: int) -> Change:
+    """A change that makes the least of the green at a place of greens so many seconds longer (sign 1) or shorter (sign
+    -1). lowest: as of Bounds.with_green."""
     def change(own: Bounds, sign: int) -> Bounds | None:
         _, least, most = own.greens[at]
         return own.with_green(at, least + sign * seconds, most, lowest)
@@ -155,7 +167,8 @@ def least_by(at: int, seconds: int, lowest: int) -> Change:
 
 
 def write_bounds(path: str, mapping: Map, bounded: Mapping[str, Bounds], program: str = "streetsim") -> None:
-    """Writes actuated programs as SUMO and streetsim-import take them."""
+    """Writes the actuated programs of a map with other bounds, as SUMO and streetsim-import take them, whole or not at
+    all. program: the programID of each."""
     kept = in_force(mapping.programs)
     with whole_file(path) as file:
         file.write("<additional>\n")
@@ -174,7 +187,8 @@ def write_bounds(path: str, mapping: Map, bounded: Mapping[str, Bounds], program
 def phase_words(
     seconds: float, state: str, least: float | None, most: float | None, following: Sequence[int]
 ) -> list[str]:
-    """The attributes of a phase, of what a map keeps of it."""
+    """The attributes of a <phase>, of what a map keeps of it: seconds; least and most: of minDur and maxDur, seconds,
+    None where not written; following: places of the phases that may come next, empty: the next one."""
     words = [f'duration="{seconds:g}" state="{state}"']
     words += [f'{name}="{value:g}"' for name, value in (("minDur", least), ("maxDur", most)) if value is not None]
     return words + ([f'next="{" ".join(map(str, following))}"'] if following else [])

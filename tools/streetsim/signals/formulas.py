@@ -15,7 +15,7 @@ SATURATION = 1800  # vehicles an hour and lane that pass in green
 
 @dataclass(frozen=True, slots=True)
 class Hop:
-    """From one light to the next along the heaviest way between them."""
+    """From one light, the parent, to the next along the heaviest way between them."""
 
     parent: str
     seconds: float  # of travel from the parent; below 0 where the way goes to it
@@ -54,8 +54,9 @@ def streets_of(run: Run, mapping: Map, lights: Mapping[str, Light]) -> Streets:
 
 
 def ways_between(plans: Iterable[Sequence[int]], light_of: Sequence[str | None]) -> Ways:
-    """How many vehicles go straight from one light to another, by their way: {(light, other): {links: vehicles}}. A way
-    is from the link that ends at the one to that after the other."""
+    """How many vehicles go from one light to another with none between, by their way: {(light, other): {links:
+    vehicles}}. A way is from the link that ends at the first light to the one after the other. light_of: by link the
+    light at its end, None: without one."""
     ways: Ways = defaultdict(Counter)
     for plan in plans:
         met = [(at, light) for at in range(len(plan) - 1) if (light := light_of[plan[at]])]
@@ -66,8 +67,8 @@ def ways_between(plans: Iterable[Sequence[int]], light_of: Sequence[str | None])
 
 
 def tree(order: Sequence[str], ways: Ways) -> tuple[dict[str, str], dict[str, list[str]]]:
-    """The tree of the heaviest flows between lights, rooted at the heaviest light of each part: the parent of each
-    other light, and for each light itself and all behind it, parents before children."""
+    """The tree of the heaviest flows between lights, rooted in each part at its first light of order: {light: parent}
+    for each light but the roots, and {light: itself and all lights behind it, parents before children}."""
     both: Counter[tuple[str, str]] = Counter()
     for (light, other), found in ways.items():
         both[min(light, other), max(light, other)] += found.total()
@@ -92,7 +93,8 @@ def tree(order: Sequence[str], ways: Ways) -> tuple[dict[str, str], dict[str, li
 
 
 def walk(root: str, joined: Mapping[str, set[str]], parents: dict[str, str], reached: dict[str, bool]) -> None:
-    """Notes the parents of all that hang together with a root, parents first."""
+    """Adds to parents and reached all lights that hang together with a root, parents first. joined: the neighbours of
+    each light in the tree."""
     waiting = [root]
     while waiting:
         light = waiting.pop(0)
@@ -105,7 +107,8 @@ def walk(root: str, joined: Mapping[str, set[str]], parents: dict[str, str], rea
 def hop_of(
     light: str, parent: str, ways: Ways, mapping: Map, lights: Mapping[str, Light], free_flow: FreeFlow
 ) -> Hop | None:
-    """The heaviest way between a light and its parent; none where a phase that lets it pass is not found."""
+    """The heaviest way between a light and its parent, either way round; None where nobody drives between them, or one
+    of its two turns is at no phase with green of its light."""
     found = [
         (count, direction, way)
         for direction, pair in ((1, (parent, light)), (-1, (light, parent)))
@@ -125,13 +128,13 @@ def hop_of(
 
 
 def green_phases(light: Light, index: int) -> list[int]:
-    """The phases in which an index of a light's state has green."""
+    """The places of the phases in which an index of a light's state has green, or is off (o, O)."""
     return [at for at, state in enumerate(light.states) if state[index] in "GgsOo"]
 
 
 def loads_of(run: Run, mapping: Map, lights: Mapping[str, Light]) -> dict[str, list[float]]:
-    """For each light and phase the heaviest flow, vehicles an hour and lane, of a link that is green in it; 0 where
-    none is."""
+    """For each light, by phase, the heaviest flow (vehicles an hour and lane) over any link that has green in it; 0
+    where nobody passes. Flows are those of the whole run, whose time counts as 900 s at least."""
     departs = [line.command["depart"] for line in run.enters]
     hours = max(900, max(departs) - min(departs)) / 3600 if departs else 1.0
     flow = Counter(pair for line in run.enters for pair in zip(line.command["plan"], line.command["plan"][1:]))
@@ -150,13 +153,13 @@ def loads_of(run: Run, mapping: Map, lights: Mapping[str, Light]) -> dict[str, l
 
 
 def webster_cycle(lost: float, flow_ratio: float) -> float | None:
-    """Webster's cycle of the least delay, in seconds, for the lost seconds of a cycle and the sum over its phases of
-    the flow by the saturation flow; none at capacity."""
+    """Webster's cycle of the least delay, in seconds; None at capacity. lost: the seconds of a cycle without green;
+    flow_ratio: the sum over its phases of flow by saturation flow."""
     return (1.5 * lost + 5) / (1 - flow_ratio) if flow_ratio < 1 else None
 
 
 def critical_cycle(lights: Mapping[str, Light], plan: Plan, streets: Streets) -> int | None:
-    """The longest of the lights' cycles after Webster, in seconds; none where one is at capacity, or no light has
+    """The longest of the lights' cycles after Webster, in seconds; None where a light is at capacity, or none has
     phases that may be stretched."""
     cycles = [
         webster_cycle(light.lost(plan[name]), sum(streets.loads[name][at] for at in light.free) / SATURATION)
@@ -170,8 +173,9 @@ def critical_cycle(lights: Mapping[str, Light], plan: Plan, streets: Streets) ->
 def at_cycle(
     lights: Mapping[str, Light], plan: Plan, cycle: int | None, loads: Mapping[str, Sequence[float]] | None = None
 ) -> Plan:
-    """The plan at a cycle (none: each light's own), as far as the lights can keep it: greens in proportion to the given
-    ones, or to loads."""
+    """The plan at a cycle in seconds (None: each light keeps its own): greens in proportion to the loads of their
+    phases (None: to the given greens). A light whose bounds do not allow the loads is scaled by its given greens; one
+    that cannot have the cycle keeps its timing."""
     made = {}
     for name, timing in plan.items():
         shares = [max(1.0, load) for load in loads[name]] if loads else None
@@ -181,7 +185,8 @@ def at_cycle(
 
 
 def waved(plan: Plan, streets: Streets) -> Plan:
-    """The plan with offsets along the tree: green comes when the platoon does."""
+    """The plan with other offsets, along the tree: green comes when the platoon does. Lights without a hop keep
+    theirs."""
     made = dict(plan)
     for root in streets.order:
         if root in streets.hops:
@@ -199,8 +204,9 @@ def waved(plan: Plan, streets: Streets) -> Plan:
 def proposals(
     plan: Plan, lights: Mapping[str, Light], streets: Streets, changed: Collection[str], cycles: Iterable[int]
 ) -> Iterator[tuple[str, Plan]]:
-    """Plans by formula, (name, plan): each cycle with the given splits and with Webster's, with the given offsets and
-    with a wave; of what may be changed."""
+    """Plans by formula, (name, plan), made only of what may be changed (changed, of CHANGES): each cycle of cycles in
+    seconds, and the given one, with the given splits and with splits by flow, with the given offsets and with a
+    wave."""
     for cycle in (None, *cycles):
         for loads in (None, streets.loads) if "splits" in changed else (None,):
             if cycle is None and loads is None:

@@ -33,8 +33,8 @@ TRIALS = ("simulations", "step", "mean_trip_s", "best_s")
 def compared(
     town: Town, before: Sequence[Outcome], after: Sequence[Outcome], sumo: Verified | None = None
 ) -> list[Compared]:
-    """The rows of before-after.csv, of runs with equal seeds: means over all vehicles; one that has not arrived counts
-    until the end. The last is of SUMO, where it was run."""
+    """The rows of before-after.csv, of runs of the plan given and the plan found with equal seeds: means over all
+    vehicles; one that has not arrived counts until the end. The last row is of SUMO's mean trips; none without sumo."""
     cars, free = len(town.session.departs), free_trip(town)
     figures: dict[str, Callable[[Outcome], float]] = {
         "mean_trip_s": lambda one: one.seconds / cars,
@@ -54,14 +54,14 @@ def compared(
 
 
 def free_trip(town: Town) -> float:
-    """The mean trip were nobody in the way."""
+    """The mean trip, in seconds, of all who depart before the end, were nobody in the way."""
     free_flow, until = FreeFlow(town.mapping, town.run.load.command["dawdle"] / 1000), town.session.clocks[-1]
     return fmean(free_flow(line.command["plan"]) for line in town.run.enters if line.command["depart"] < until)
 
 
 @dataclass(frozen=True, slots=True)
 class Target:
-    """Where what was found goes, and what is drawn of it."""
+    """Where what was found goes, and what is drawn of it: the corridor (None: nothing), by runs until a clock."""
 
     plan: str  # a file
     folder: str
@@ -71,7 +71,8 @@ class Target:
 
 
 def write_found(target: Target, town: Town, search: Search, rows: Sequence[Compared], doubts: Sequence[str]) -> None:
-    """Writes the plan, the tables and the pictures, all or none."""
+    """Writes the plan, the tables and the pictures, all or none. rows: of before-after.csv; doubts: why the result is
+    not to be trusted, empty where it is."""
     plan = search.best[1]
     with whole_folder(target.folder, LAST, ("before.png", "after.png")) as folder:
         told = [(name, *(f"{value:.3f}" for value in values), runs) for name, *values, runs in rows]
@@ -86,7 +87,8 @@ def write_found(target: Target, town: Town, search: Search, rows: Sequence[Compa
 
 
 def light_rows(town: Town, plan: Plan) -> Iterator[Entry]:
-    """The rows of lights.csv: each light before and after."""
+    """The rows of lights.csv: each light's cycle, offset and greens that may be stretched, seconds, as given and as
+    found."""
     for name, light in sorted(town.lights.items()):
         pair = town.plan[name], plan[name]
         greens = (" ".join(str(one.durations[at]) for at in light.free) for one in pair)
@@ -94,7 +96,8 @@ def light_rows(town: Town, plan: Plan) -> Iterator[Entry]:
 
 
 def draw(target: Target, town: Town, plan: Plan, path: str) -> None:
-    """The ways of the vehicles along the corridor under a plan, with the signals."""
+    """Runs a plan and draws the ways of the vehicles along the target's corridor, with the signals, as a picture at
+    path."""
     run, shown = replace(town.run, first=town.first_lines(plan)), target.corridor
     assert shown is not None
     settings = Settings(until=min(shown.last + 1, target.until), every=1, rescue=0, edges=tuple(shown.edges))
@@ -111,7 +114,8 @@ def tell(
     doubts: Sequence[str],
     sumo: Verified | None = None,
 ) -> int:
-    """Says what was found; gives the status, 1 where it is not shown to be better wherever it was run."""
+    """Prints what was found, of the rows of before-after.csv. stopped: the user ended the search; sumo: None where SUMO
+    was not run. Gives the exit status: 0 where the plan is shown to be better wherever it was run, else 1."""
     _, before, after, difference, half, runs = rows[0]
     for text in warnings_of(town, search.best[1]):
         print(f"warning: {text}", file=sys.stderr)
@@ -138,8 +142,9 @@ def budget_ended(search: Search) -> str:
 
 
 def verdict(found: Mapping[str, tuple[float, float]], worse: Sequence[str], search: Search) -> str:
-    """The last line: whether a plan is shown to be better, and where both were run by what; found: difference and half
-    width by where; worse: where it is not. Nothing where there is nothing to say."""
+    """The last line: whether what was found is shown to be better, and by how much where it was run in SUMO too. found:
+    (difference, half width of its 95 % interval), seconds, by where it was run; worse: where it is not shown to be
+    better. An empty text where there is nothing to say."""
     figures = ", ".join(f"{difference:+.1f} s ± {half:.1f} {where}" for where, (difference, half) in found.items())
     if len(found) == 1:
         return f"not shown to be better{budget_ended(search)}" if worse else ""
@@ -165,7 +170,8 @@ def doubts_of(town: Town, before: Sequence[Outcome], after: Sequence[Outcome], s
 
 
 def warnings_of(town: Town, plan: Plan) -> Iterator[str]:
-    """What is to be said of a found plan: where it is not all shown here, and where offsets mean nothing."""
+    """What is to be said of a found plan, a text each: where the simulator cannot show it whole, and where cycles are
+    unequal, so that offsets mean nothing."""
     lines = LightLines(town.lines.net, town.run, town.mapping)
     lines.of(plan, town.lights)
     yield from lines.report.warnings

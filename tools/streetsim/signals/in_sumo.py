@@ -23,7 +23,8 @@ PROGRAM_ID = "streetsim-verified"  # of the lights: no program of the files give
 
 @dataclass(slots=True)
 class Verified:
-    """Mean trips in SUMO of the plan given and the plan found, seed by seed, and who was taken out of the way."""
+    """Mean trips in SUMO, seconds, of what was given (before) and what was found (after), one for each seed, and the
+    teleports of all runs of each."""
 
     before: list[float]
     after: list[float]
@@ -36,7 +37,7 @@ class Verified:
         return mean, half
 
     def told(self) -> str:
-        """Both means, in one line."""
+        """Both means and their difference, as one line for the user."""
         difference, half = self.difference()
         moved = f", {self.teleports[0]:,} and {self.teleports[1]:,} teleports" if any(self.teleports) else ""
         return (
@@ -47,7 +48,8 @@ class Verified:
 
 @dataclass(slots=True)
 class InSumo:
-    """SUMO, and the files of a run that it is given."""
+    """SUMO, and what its runs are given: the path of the program, the files of the import, and the first and last
+    second."""
 
     program: str
     sources: Sources
@@ -55,7 +57,8 @@ class InSumo:
     until: int
 
     def words(self, plan: str, seed: int, trips: str, statistic: str) -> list[str]:
-        """The command of a run; plan, trips, statistic: paths."""
+        """The words of the command of one run. plan: a file of signal programs that is read last; trips, statistic:
+        files that SUMO writes."""
         words = [self.program, "-n", self.sources.net, "-a", ",".join([*self.sources.additional, plan])]
         words += [
             "-r", ",".join(self.sources.routes), "--seed", str(seed), "--begin", str(self.start),
@@ -64,8 +67,8 @@ class InSumo:
         return [*words, "--tripinfo-output", trips, "--statistic-output", statistic, "--no-step-log", "--no-warnings"]
 
     def trips(self, plan: str, seed: int) -> tuple[dict, int]:
-        """The trips that a plan, in a file, gives, {vehicle: (wished departure, arrival)}, and the teleports; Fault
-        where SUMO fails."""
+        """Runs SUMO with a plan, a file of signal programs, and a seed; gives {vehicle: (wished departure, arrival)} in
+        seconds, of those who arrived, and the number of teleports. Fault where SUMO fails."""
         with tempfile.TemporaryDirectory() as folder:
             trips, statistic = f"{folder}/trips.xml", f"{folder}/statistic.xml"
             words = self.words(plan, seed, trips, statistic)
@@ -76,13 +79,14 @@ class InSumo:
 
 
 def environment() -> dict[str, str]:
-    """SUMO's own place, where it is Debian's and nobody says otherwise: with it SUMO checks
+    """The environment for SUMO: SUMO_HOME is where Debian has it unless the user's says otherwise. With it SUMO checks
     files without the network."""
     return {"SUMO_HOME": "/usr/share/sumo", **os.environ}
 
 
 def first_error(text: str) -> str:
-    """The first line of SUMO's that begins with Error, else the first."""
+    """The first line of SUMO's standard error that begins with Error, else the first that is not blank; other words
+    where there is none."""
     lines = [line for line in text.splitlines() if line.strip()]
     return next(
         (line for line in lines if line.startswith("Error")), lines[0] if lines else "nothing on standard error"
@@ -90,12 +94,13 @@ def first_error(text: str) -> str:
 
 
 def teleports_of(path: str) -> int:
-    """The teleports of a statistic output."""
+    """The number of teleports in a statistic output of SUMO."""
     return sum(attribute(path, one, "total", int) for one in elements(path, ["statistics"]) if one.tag == "teleports")
 
 
 def sumo_for(reading: Reading, mapping: Map, run: Run) -> InSumo:
-    """SUMO with the files of the import; refused where it is not installed, or where these are not what they were."""
+    """SUMO with the files of the import. Fault where SUMO is not installed, where the files are not those that were
+    imported, or where the first of --plans is another network."""
     program = shutil.which("sumo")
     if program is None:
         raise Fault("--verify-sumo: SUMO is not installed here (Debian: apt install sumo)")
@@ -111,7 +116,7 @@ def sumo_for(reading: Reading, mapping: Map, run: Run) -> InSumo:
 
 
 def verified(in_sumo: InSumo, town: Town, plan: Plan, seeds: Sequence[int], jobs: int) -> Verified:
-    """What SUMO says of the plan given and of a plan found, for each seed."""
+    """What SUMO says of the plan given and of a plan found, by runs with each seed; jobs: how many run side by side."""
     with tempfile.TemporaryDirectory() as folder:
         paths = [f"{folder}/{name}.add.xml" for name in ("given", "found")]
         for path, lights in zip(paths, (town.plan, plan), strict=True):
@@ -120,7 +125,7 @@ def verified(in_sumo: InSumo, town: Town, plan: Plan, seeds: Sequence[int], jobs
 
 
 def verified_files(in_sumo: InSumo, town: Town, paths: Sequence[str], seeds: Sequence[int], jobs: int) -> Verified:
-    """The same of two files, of what is given and of what was found."""
+    """The same of two files of signal programs: paths has the one given and the one found."""
     enters = zip(town.mapping.cars, (line.command["depart"] for line in town.run.enters), strict=True)
     departs = {name: depart for name, depart in enters if depart < in_sumo.until}
 
@@ -141,14 +146,14 @@ def verified_files(in_sumo: InSumo, town: Town, paths: Sequence[str], seeds: Seq
 
 
 def add(done: set, place: int) -> int:
-    """Notes what is done; gives how many are."""
+    """Adds a place to those that are done; gives how many are."""
     done.add(place)
     return len(done)
 
 
 def mean_trip(trips: dict, departs: dict, until: int) -> float:
-    """The mean trip, in seconds, over the vehicles that the run has too, by their departs; one that has not arrived
-    counts until the end, as here."""
+    """The mean trip, in seconds, over the vehicles of departs, {vehicle: wished departure}; one without an arrival in
+    trips counts until the end, as in streetsim."""
     return fmean(
         trips[name][1] - trips[name][0] if name in trips else until - depart for name, depart in departs.items()
     )

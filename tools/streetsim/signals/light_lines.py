@@ -24,7 +24,7 @@ class Driven:
 
 
 def read_plans(paths: Sequence[str], mapping: Map) -> SumoNet:
-    """The network of the first file, with the signal programs of it and of the others, of which the last counts; edges
+    """The network of the first file, with the signal programs of all files, of which the last of a light counts; edges
     are in parts as in the map."""
     report = Report()
     net = read_net(paths[0], tuple(mapping.options["classes"]), report)
@@ -35,7 +35,8 @@ def read_plans(paths: Sequence[str], mapping: Map) -> SumoNet:
 
 
 class LightLines:
-    """The signal lines of plans in a network, for the vehicles of a run."""
+    """Makes the signal lines of plans in a network, for the vehicles of a run; phases are kept, so that a light is made
+    anew only where its greens change."""
 
     def __init__(self, net: SumoNet, run: Run, mapping: Map) -> None:
         self.net, self.mapping = replace(net, programs=dict(net.programs)), mapping
@@ -54,7 +55,8 @@ class LightLines:
         self.report = Report()  # of what was made, where a light needs more phases than there may be
 
     def of(self, plan: Mapping[str, Timing], lights: Mapping[str, Light]) -> bytes:
-        """The signal lines of a plan, as bytes."""
+        """The signal lines of a plan as bytes, one for each node of each of its lights; lights: the states of each by
+        name. Notes lights with permissive turns in self.permissive."""
         lines = []
         for name, timing in plan.items():
             key = name, timing.durations
@@ -66,7 +68,7 @@ class LightLines:
         return b"".join(lines)
 
     def phases(self, name: str, node: int, timing: Timing, light: Light) -> bytes:
-        """The phases at a node of a light, as JSON."""
+        """The phases of a light at one of its nodes, as the JSON of a signal line's "phases"."""
         program = Program(0.0, list(zip(timing.durations, light.states, strict=True)), "static")
         self.net.programs[name] = program
         junction, permissive = self.mapping.nodes[node][0], self.mapping.options["permissive"]

@@ -16,13 +16,14 @@ def tried_seeds(check: range) -> list[int]:
 
 
 def lengths(cycles: range, town: Town, streets: Streets) -> list[int]:
-    """The cycles that are proposed, in seconds: each ten of the range and its end, and Webster's where it lies
-    within."""
+    """The cycles that are proposed, in seconds, rising: each STEP of the range and its end, and Webster's where it lies
+    within. cycles: a range of seconds, one each."""
     made, critical = {*cycles[::STEP], *cycles[-1:]}, critical_cycle(town.lights, town.plan, streets)
     return sorted(made | ({critical} if critical is not None and critical in cycles else set()))
 
 
 def best_line(search: Search) -> str:
-    """The best plan so far and how much less than the given one it takes; nothing where nobody drives."""
+    """The mean trip of the best plan so far and how much it is above or below that of the given one, for the line of
+    progress; empty where nobody drives."""
     best, given = search.best[0], search.trials[0].value
     return f"best {best:.1f} s ({100 * (best / given - 1):+.1f} %)" if given else ""

@@ -20,18 +20,18 @@ LEAST = 5  # seconds of a green that may be stretched
 
 @dataclass(frozen=True, slots=True)
 class Timing:
-    """When a light's phases are shown, in whole seconds; the offset is SUMO's."""
+    """When a light's phases are shown, in whole seconds: how long each is, and SUMO's offset of the cycle."""
 
     offset: int
     durations: tuple[int, ...]
 
     @property
     def cycle(self) -> int:
-        """Its seconds."""
+        """The seconds of all phases together."""
         return sum(self.durations)
 
     def shifted(self, seconds: int) -> Timing:
-        """The timing with its offset so many seconds later."""
+        """This timing with an offset so many seconds later (below 0: earlier), kept from 0 to below the cycle."""
         return Timing((self.offset + seconds) % self.cycle, self.durations)
 
 
@@ -49,12 +49,13 @@ class Light:
         return [at for at, (least, most) in enumerate(self.bounds) if least < most]
 
     def lost(self, timing: Timing) -> int:
-        """The seconds of a cycle that no phase shows that may be stretched."""
+        """The seconds of a cycle in phases that may not be stretched."""
         return timing.cycle - sum(timing.durations[at] for at in self.free)
 
     def scaled(self, timing: Timing, cycle: int, shares: Sequence[float] | None = None) -> Timing | None:
-        """The timing at another cycle; its greens share what is left in proportion to some shares, by phase (none: to
-        themselves), and its offset keeps its part of the cycle. None where that does not fit."""
+        """The timing at another cycle, in seconds. Phases that may be stretched share what the others leave, in
+        proportion to shares, one for each phase (None: to their present seconds); the offset keeps its part of the
+        cycle. None where the bounds do not allow it."""
         free = self.free
         shares = [(shares or timing.durations)[at] for at in free]
         greens = spread(shares, cycle - self.lost(timing), [self.bounds[at] for at in free])
@@ -66,7 +67,8 @@ class Light:
         return Timing(round(timing.offset * cycle / timing.cycle) % cycle, tuple(durations))
 
     def moved(self, timing: Timing, source: int, target: int, seconds: int) -> Timing | None:
-        """The timing with seconds of green moved from one phase to another; none where a bound forbids that."""
+        """The timing with so many seconds moved from the phase at source to that at target; None where a bound forbids
+        that."""
         durations = list(timing.durations)
         durations[source] -= seconds
         durations[target] += seconds
@@ -78,7 +80,8 @@ Plan = dict[str, Timing]  # by light
 
 
 def whole(durations: Iterable[float]) -> tuple[int, ...]:
-    """Durations rounded by running sum, so that the cycle stays."""
+    """Durations (s) as whole seconds, rounded by their running sum, so that the cycle differs by no more than its own
+    rounding."""
     made, exact, before = [], 0.0, 0
     for duration in durations:
         exact += duration
@@ -88,8 +91,8 @@ def whole(durations: Iterable[float]) -> tuple[int, ...]:
 
 
 def spread(shares: Sequence[float], total: int, bounds: Sequence[tuple[int, int]]) -> list[int] | None:
-    """Whole seconds in proportion to shares and within bounds whose sum is the total;
-    none where there are none such."""
+    """Whole seconds whose sum is total, one for each share: in proportion to the shares, within bounds of (least, most)
+    seconds. None where no seconds fit, or there are no shares."""
     if not shares or not sum(least for least, _ in bounds) <= total <= sum(most for _, most in bounds):
         return None
     low, high = 0.0, 1000.0 * total / max(1, sum(shares))
@@ -107,12 +110,13 @@ def spread(shares: Sequence[float], total: int, bounds: Sequence[tuple[int, int]
 
 
 def bounded(value: Seconds, bound: tuple[int, int]) -> Seconds | int:
-    """The value, or the nearest one within (least, most)."""
+    """The value, or the nearest one within a bound (least, most)."""
     return min(bound[1], max(bound[0], value))
 
 
 def light_of(name: str, program: Program, least: int = LEAST) -> tuple[Light, Timing]:
-    """The light of a SUMO program, and its timing; least: seconds of a green that may be stretched."""
+    """The light of a SUMO program and its timing in whole seconds; least: a green of so many seconds or more may be
+    stretched."""
     durations = whole(duration for duration, _ in program.phases)
     given = program.bounds or [(None, None)] * len(durations)
     phases = zip(program.phases, durations, given, strict=True)
@@ -122,8 +126,9 @@ def light_of(name: str, program: Program, least: int = LEAST) -> tuple[Light, Ti
 
 
 def bounds_of(state: str, given: int, bound: tuple[float | None, float | None], least: int) -> tuple[int, int]:
-    """The (least, most) seconds of a phase: one with green and no yellow may be stretched, as far as its minDur and
-    maxDur allow where they are written; each other keeps its length."""
+    """The (least, most) seconds of a phase of given seconds. One with green and no yellow that lasts least seconds or
+    more may be stretched, as far as bound (minDur, maxDur; None: not written) and 600 s allow; each other keeps its
+    length."""
     low = least if bound[0] is None else round(bound[0])
     high = limits.PHASE_STEPS if bound[1] is None else round(bound[1])
     if not is_green(state) or given < least:
@@ -132,12 +137,12 @@ def bounds_of(state: str, given: int, bound: tuple[float | None, float | None], 
 
 
 def is_green(state: str) -> bool:
-    """Whether somebody has green in a phase and nobody yellow."""
+    """Whether somebody has green in a phase (or its light is off) and nobody yellow; state: SUMO's letters."""
     return bool(set(state) & set("GgsOo")) and not set(state) & set("yYu")
 
 
 def why_kept(name: str, program: Program, asked: Collection[str], timed: Collection[str]) -> str | None:
-    """Why a light's plan is left as it is; none where it is searched. asked: lights of --keep; timed: lights whose plan
+    """Why a light's plan is left as it is; None where it is searched. asked: lights of --keep; timed: lights whose plan
     changes by time of day."""
     if name in asked:
         return "as --keep says"
@@ -153,7 +158,8 @@ def why_kept(name: str, program: Program, asked: Collection[str], timed: Collect
 def write_additional(
     path: str, lights: Mapping[str, Light], plan: Mapping[str, Timing], program: str = "streetsim"
 ) -> None:
-    """Writes a plan as SUMO and streetsim-import take it: a whole program for each light."""
+    """Writes a plan as SUMO and streetsim-import take it, a whole program for each of its lights, or nothing. program:
+    the programID of each."""
     with whole_file(path) as file:
         file.write("<additional>\n")
         for name, timing in sorted(plan.items()):

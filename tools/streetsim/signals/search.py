@@ -25,7 +25,7 @@ class Ended(Exception):
 
 @dataclass(slots=True)
 class Trial:
-    """A plan that was tried."""
+    """A plan or bounds that were tried, one line of search.csv."""
 
     simulations: int  # so far
     step: str  # what was tried
@@ -35,7 +35,8 @@ class Trial:
 
 @dataclass
 class Search:
-    """Plans by their values, each asked for once; the best of them, and what was tried."""
+    """The values of plans (or of bounds), mean trips in seconds: each plan is run once, and its value kept; the best of
+    them, and what was tried."""
 
     value: Callable[[Sequence[Any]], Generator[float, None, None]]  # of plans: gives their values in order
     budget: int  # simulations
@@ -51,11 +52,13 @@ class Search:
 
     @property
     def simulations(self) -> int:
-        """How many were made so far."""
+        """How many simulations were made so far."""
         return self.trials[-1].simulations if self.trials else 0
 
     def values(self, steps: Sequence[tuple[str, Any]]) -> list[float]:
-        """The values of plans, (what was tried, plan), as far as the budget goes; Ended where it goes no further."""
+        """The values of plans, in their order; steps: (what was tried, plan). A plan that was seen before costs
+        nothing. Raises Ended where the budget does not reach for all of them, after those that it does reach for, or
+        where the user ends it."""
         new: dict[Any, tuple[str, Any]] = {}
         for step, plan in steps:
             if self.key_of(plan) not in self.seen:
@@ -75,14 +78,15 @@ class Search:
         return [self.seen[self.key_of(plan)] for _, plan in steps]
 
     def note(self, key: Any, step: str, plan: Any, value: float) -> None:
-        """Notes the value of a plan, and whether it is the best."""
+        """Keeps the value of a plan, adds its trial, and makes it the best where it is."""
         self.seen[key] = value
         if value < self.best[0]:
             self.best = value, plan
         self.trials.append(Trial(self.simulations + self.seeds, step, value, self.best[0]))
 
     def cost(self, step: str, plan: Any) -> float:
-        """The value of one plan, of a step's name."""
+        """The value of one plan, seconds of a mean trip; step: what is tried, for search.csv. Raises Ended as values
+        does."""
         return self.values([(step, plan)])[0]
 
 
@@ -99,8 +103,8 @@ def search_plan(
     changed: Collection[str],
     cycles: Iterable[int],
 ) -> None:
-    """Searches from a given plan; the search then has the best. changed: of CHANGES; cycles: seconds, to be
-    proposed."""
+    """Searches from a given plan until nothing helps or the search has ended; search.best is then the best. changed:
+    what may change, of CHANGES; cycles: those that are proposed, in seconds."""
     try:
         search.cost("given", plan)
         proposed = list(proposals(plan, lights, streets, changed, cycles))
@@ -114,7 +118,8 @@ def search_plan(
 def climb_all(
     search: Search, plan: Plan, lights: Mapping[str, Light], streets: Streets, changed: Collection[str]
 ) -> None:
-    """Climbs from a plan: each light alone by four steps, then again with what hangs behind it, without the first."""
+    """Climbs from a plan: each light alone, by the four steps of SHARES and SECONDS, then by the last three again with
+    its group too: all lights behind it in the tree."""
     passes = [(share, seconds, False) for share, seconds in zip(SHARES, SECONDS, strict=True)]
     passes += [(share, seconds, True) for share, seconds in zip(SHARES[1:], SECONDS[1:], strict=True)]
     for share, seconds, with_groups in passes:
@@ -125,8 +130,8 @@ def climb_all(
 
 
 def climb_offsets(search: Search, plan: Plan, streets: Streets, share: float, with_groups: bool) -> Plan:
-    """Moves the offset of each light by a share of its cycle, the heaviest first: with all that hang behind it
-    (with_groups), and alone."""
+    """Tries other offsets, later and earlier by a share (0 to 1) of the cycle, of each light, the heaviest flow first;
+    where with_groups, first of the light with all that hang behind it, and then of it alone. Gives the best plan."""
     for light in streets.order:
         seconds = max(1, round(share * plan[light].cycle))
         if with_groups and len(streets.behind[light]) > 1:
@@ -136,7 +141,8 @@ def climb_offsets(search: Search, plan: Plan, streets: Streets, share: float, wi
 
 
 def climb_splits(search: Search, plan: Plan, lights: Mapping[str, Light], order: Iterable[str], seconds: int) -> Plan:
-    """Moves green, so many seconds, between any two phases of each light; the cycle stays."""
+    """Tries to move so many seconds of green between any two phases of each light, either way; the cycle stays. Gives
+    the best plan."""
     for name in order:
         free = lights[name].free
         for place, source in enumerate(free):
@@ -147,8 +153,8 @@ def climb_splits(search: Search, plan: Plan, lights: Mapping[str, Light], order:
 
 
 def climb(search: Search, plan: Tried, step: str, change: Callable[[Tried, int], Tried | None]) -> Tried:
-    """Repeats a change as long as it helps, and where the first does not help its contrary; gives the plan. step: its
-    name."""
+    """Makes a change (sign 1) again and again as long as the value falls; where the first does not help, its contrary
+    (sign -1). Gives the best plan. step: its name in search.csv; change: gives None where it cannot be made."""
     best = search.cost(step, plan)
     for sign in (1, -1):
         went = False
@@ -160,12 +166,13 @@ def climb(search: Search, plan: Tried, step: str, change: Callable[[Tried, int],
 
 
 def shift_of(names: Sequence[str], seconds: int) -> Callable[[Plan, int], Plan | None]:
-    """A change: the offsets of some lights by some seconds."""
+    """A change for climb: the offsets of some lights later by some seconds (sign 1), or earlier (sign -1)."""
     return lambda plan, sign: {**plan, **{name: plan[name].shifted(sign * seconds) for name in names}}
 
 
 def move_of(light: Light, source: int, target: int, seconds: int) -> Callable[[Plan, int], Plan | None]:
-    """A change: some seconds of green from one phase of a light to another."""
+    """A change for climb: some seconds of green from the phase at source to that at target of a light (sign 1), or back
+    (sign -1); None where a bound forbids it."""
 
     def change(plan: Plan, sign: int) -> Plan | None:
         first, second = (source, target) if sign > 0 else (target, source)

@@ -24,7 +24,7 @@ EXACT, CAREFUL = 0, 1  # places of sessions: that of the report, that of the sea
 
 
 class Reading(NamedTuple):
-    """What the user says of a town."""
+    """What the user says of a town: paths of its run, map and signal plans, and how it is searched."""
 
     run: str
     map: str
@@ -40,7 +40,8 @@ class Reading(NamedTuple):
 
 @dataclass(slots=True)
 class Town:
-    """What a search for plans stands on."""
+    """What a search for plans stands on: a run and its map, its lights, the plan given, and the sessions that workers
+    run."""
 
     run: Run
     mapping: Map
@@ -53,23 +54,24 @@ class Town:
     giving: dict[int, int] = field(default_factory=dict)
 
     def signals(self, plan: Plan) -> bytes:
-        """The signal lines of a plan."""
+        """The signal lines of a plan, as bytes."""
         return self.lines.of(plan, self.lights)
 
     def first_lines(self, plan: Plan) -> list[Line]:
-        """The first lines of the run with the signals of a plan."""
+        """The first lines of the run with the signals of a plan in place of the run's own at the same nodes."""
         made = [Line(0, text, json.loads(text)) for text in self.signals(plan).decode().splitlines()]
         nodes = {line.command["node"] for line in made}
         return [line for line in self.run.first if signal_node(line) not in nodes] + made
 
 
 def signal_node(line: Line) -> int | None:
-    """The node of a signal line, or none."""
+    """The node of a signal line; None where the line is of another command."""
     return line.command["node"] if line.command["cmd"] == "signal" else None
 
 
 def read_pair(run_path: str, map_path: str, until: int | None = None) -> tuple[Run, Map]:
-    """A run and its map, with something to run until a clock, or without one; Fault where there is nothing."""
+    """A run and its map. Fault where nothing departs: at all, or with until (a clock in seconds) before that, and where
+    the run starts no earlier than until."""
     run, mapping = read_with_map(run_path, map_path)
     if until is None and not run.enters:
         raise Fault(f"{run_path}: no vehicle in it")
@@ -83,7 +85,8 @@ def read_pair(run_path: str, map_path: str, until: int | None = None) -> tuple[R
 
 
 def read_town(reading: Reading) -> Town:
-    """The town of a search."""
+    """Reads the town of a search, and warns on standard error of what is not as its run has it. Fault where a file is
+    wrong or no light may be changed."""
     run, mapping = read_pair(reading.run, reading.map, reading.until)
     net = read_plans(reading.plans, mapping)
     lights, plan = searched_lights(reading, run, mapping, net)
@@ -100,7 +103,8 @@ def read_town(reading: Reading) -> Town:
 
 
 def searched_lights(reading: Reading, run: Run, mapping: Map, net: SumoNet) -> tuple[dict[str, Light], Plan]:
-    """The lights that are searched, and the plan given; what is left as it is, is told; Fault where none is left."""
+    """The lights that are searched, and their plan as given; which lights are left as they are, and why, is written to
+    standard error. Fault where --keep names no light of the map, or no light may be changed."""
     names, asked = lights_of(reading, mapping, net), set(reading.keep)
     if unknown := sorted(asked - set(names)):
         raise Fault(f"--keep: the map has no light {unknown[0]!r}")
@@ -124,7 +128,7 @@ def searched_lights(reading: Reading, run: Run, mapping: Map, net: SumoNet) -> t
 
 
 def lights_of(reading: Reading, mapping: Map, net: SumoNet) -> list[str]:
-    """The names of the map's lights; Fault where one has no program in the plans."""
+    """The names of all lights of the map, sorted; Fault where one has no program in the plans."""
     names = sorted({light for light, _ in mapping.signals})
     lacking = [name for name in names if name not in net.programs or not net.programs[name].phases]
     if lacking:
@@ -133,7 +137,8 @@ def lights_of(reading: Reading, mapping: Map, net: SumoNet) -> list[str]:
 
 
 def warn_of_others(reading: Reading, town: Town) -> None:
-    """Says where the run's own signals are others than those of the plans given, and that nobody stops."""
+    """Warns on standard error where signals of the run differ from those of the plans given, which count, and where
+    stops of vehicles are not made."""
     if unmade := why_unmade(len(town.mapping.visits)):
         print(f"warning: {unmade}", file=sys.stderr)
     ours = [line.command for line in town.run.first if signal_node(line) is not None]
@@ -154,17 +159,18 @@ class Runner:
         self.workers, self.town, self.cars = workers, town, len(town.session.departs)
 
     def means(self, plans: Iterable[Plan], seeds: Sequence[int]) -> Iterator[float]:
-        """For each plan and seed, in order, the mean trip of the search in seconds; minor streets have the gaps that
-        were found for the given plan."""
+        """For each plan with each seed, in this order, the mean trip in seconds by the session of the search; where
+        vehicles give way without a light, by the gaps that were found under the given plan."""
         for seconds in self.ordered(vehicle_seconds, plans, seeds, self.town.giving, CAREFUL):
             yield seconds / self.cars
 
     def outcomes(self, plan: Plan, seeds: Sequence[int]) -> list[Outcome]:
-        """For each seed, what the plan gives exactly, with gaps of its own."""
+        """For each seed, what a plan gives by the session of the report, with gaps found under this plan."""
         return list(self.ordered(outcome_giving_way, [plan], seeds))
 
     def gaps(self, seeds: Sequence[int]) -> list[Any]:
-        """For each seed, the signal lines of minor streets under the given plan, and what they are."""
+        """For each seed, the signal lines by which vehicles without a light give way under the given plan, and how many
+        junctions and lines these are."""
         return list(self.ordered(gaps, [self.town.plan], seeds))
 
     def ordered(
@@ -175,8 +181,8 @@ class Runner:
         places: Mapping[int, int] = MappingProxyType({}),
         place: int = EXACT,
     ) -> Iterator[Any]:
-        """What a function gives for each plan and seed; each seed's session stands at a place of its
-        own, or at the usual one."""
+        """What a function of a worker gives for each plan with each seed, in this order. A seed is run by the session
+        at its place in places, and where it has none there at place."""
         made = ((self.town.signals(plan), seed) for plan in plans for seed in seeds)
         tasks = [
             (f"the run with seed {seed}", function, places.get(seed, place), signals, seed) for signals, seed in made
@@ -185,8 +191,8 @@ class Runner:
 
 
 def sessions_of(town: Town, seeds: Sequence[int], runner: Runner) -> list[Session]:
-    """The sessions of a search: that of the report and that of the search, which make their own gaps;
-    further ones of the search have those of some seeds."""
+    """The sessions that workers get: that of the report, that of the search, and where vehicles give way without a
+    light one for each seed, with the gaps of the given plan, whose place is noted in town.giving."""
     sessions = [town.session, town.careful]
     if town.session.giving is None:
         return sessions
