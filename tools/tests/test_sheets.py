@@ -134,7 +134,10 @@ class Sheets(Case):
         self.assertIn("the offset is 0 s before and 24 s after", text)
         self.assertEqual((text.count("<svg"), clashes(after, runs)), (1, []))
         after["J2"].phases = [[phase[0] + 1, phase[1]] for phase in after["J2"].phases]
-        self.assertEqual(sheets([("a", before), ("b", after)], ["J2"], runs.names).count("<svg"), 2)
+        text = sheets([("a", before), ("b", after)], ["J2"], runs.names)
+        self.assertEqual(text.count("<svg"), 2)
+        # By hand: phases of 37, 3, 37, 3 s, each a second longer after.
+        self.assertIn("<td>0 to 37</td><td>0 to 38</td><td>38</td>", text)
 
 
 if __name__ == "__main__":

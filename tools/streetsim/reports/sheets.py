@@ -9,7 +9,8 @@ from streetsim.reports.markup import table
 from streetsim.results.reading import Runs
 
 COLOURS = ((MAIN, "#1b7837"), (PERMISSIVE, "#a6dba0"), (YELLOW, "#fdd835"), ("s", "#d9f0d3"), ("uoO", "#fdae61"))
-LEFT, WIDE, ROW = 300, 900, 20  # pixels
+LEFT, WIDE, ROW = 300, 900, 16  # pixels
+MOST_PAIRS = 5  # of conflicting movements on a sheet
 LEGEND = (
     "Dark: green. Light: green, but gives way. Yellow: yellow. Grey: red. The seconds are those of the cycle, which "
     "begins at the offset."
@@ -39,7 +40,10 @@ def sheet(plans: Sequence[tuple[str, Timing | None]], light: str, names: Names) 
         parts.append(f"<p>{told}</p>")
         known = known[1:]
     for name, timing in known:
-        parts.append(program(name, timing, names, timing is known[-1][1]))
+        parts.append(program(name, timing, names))
+    last = known[-1][1]
+    parts += [phases_table(last), greens_table(last, names, known[0][1] if len(known) == 2 else None)]
+    parts.append(intergreens(last, names))
     return f'<section class="sheet">{"".join(parts)}</section>'
 
 
@@ -64,9 +68,8 @@ def same(one: Timing, other: Timing) -> bool:
     return (one.offset, list(one.phases)) == (other.offset, list(other.phases))
 
 
-def program(name: str, timing: Timing, names: Names, is_last: bool) -> str:
-    """A light's program with one plan (its name), as HTML: what it is, bars, phases, greens, faults; is_last: whether
-    times between greens are added."""
+def program(name: str, timing: Timing, names: Names) -> str:
+    """A light's program with one plan (its name), as HTML: what it is, bars, faults."""
     cycle = len(timing.states())
     kind = "" if timing.kind == "static" else f", {timing.kind}: listed durations"
     told = f"{name}: cycle {cycle} s, offset {timing.offset:g} s, {len(timing.phases)} phases{kind}"
@@ -75,9 +78,7 @@ def program(name: str, timing: Timing, names: Names, is_last: bool) -> str:
         for one, other, seconds in timing.clashes()
     ]
     marks = "".join(f'<p class="doubt">Fault: {escape(fault)}.</p>' for fault in faults)
-    parts = [bars(timing, names), phases_table(timing), greens_table(timing, names)]
-    parts += [intergreens(timing, names)] if is_last else []
-    return f'<h4>{escape(told)}</h4>{marks}<div class="picture">{parts[0]}</div>{"".join(parts[1:])}'
+    return f'<h4>{escape(told)}</h4>{marks}<div class="picture">{bars(timing, names)}</div>'
 
 
 def movement(one: Movement, names: Names) -> str:
@@ -90,17 +91,17 @@ def bars(timing: Timing, names: Names) -> str:
     cycle, parts = len(timing.states()), []
     scale = (WIDE - LEFT - 10) / cycle
     for place, one in enumerate(timing.movements):
-        y = 4 + ROW * place
-        parts.append(f'<text x="{LEFT - 6}" y="{y + 12}" text-anchor="end">{escape(movement(one, names)[:52])}</text>')
-        parts.append(f'<rect x="{LEFT}" y="{y + 6}" width="{cycle * scale:.1f}" height="3" fill="#999"/>')
+        y = 2 + ROW * place
+        parts.append(f'<text x="{LEFT - 6}" y="{y + 10}" text-anchor="end">{escape(movement(one, names)[:52])}</text>')
+        parts.append(f'<rect x="{LEFT}" y="{y + 5}" width="{cycle * scale:.1f}" height="3" fill="#999"/>')
         signs = timing.signs(one)
         for letters, colour in COLOURS:
             for begin, seconds in runs_of(signs, letters):
                 for start, length in unfolded(begin, seconds, cycle):
                     title = f"{begin} to {(begin + seconds) % cycle or cycle} s"
-                    box = f'x="{LEFT + start * scale:.1f}" y="{y}" width="{length * scale:.1f}" height="14"'
+                    box = f'x="{LEFT + start * scale:.1f}" y="{y}" width="{length * scale:.1f}" height="12"'
                     parts.append(f'<rect {box} fill="{colour}" stroke="#333"><title>{title}</title></rect>')
-    low = 4 + ROW * len(timing.movements)
+    low = 2 + ROW * len(timing.movements)
     for second in ticks(cycle):
         x = LEFT + second * scale
         parts.append(f'<line x1="{x:.1f}" x2="{x:.1f}" y1="0" y2="{low}" stroke="#0003"/>')
@@ -133,21 +134,32 @@ def phases_table(timing: Timing) -> str:
     return table(["phase of", "state", "phase", "from, s", "until, s", "seconds"], rows, names=2)
 
 
-def greens_table(timing: Timing, names: Names) -> str:
-    """A table of the seconds of green, yellow and red of each movement, as HTML."""
-    rows = []
+def greens_table(timing: Timing, names: Names, before: Timing | None) -> str:
+    """A table of the seconds of green, yellow and red of each movement, as HTML; before: of the plan before, whose greens
+    stand beside."""
+    rows, first = [], {(one.edge, one.to): one for one in before.movements} if before else {}
     for one in timing.movements:
         signs = timing.signs(one)
         cycle = len(signs)
         greens = runs_of(signs, MAIN + PERMISSIVE)
-        told = ", ".join(f"{begin} to {(begin + seconds) % cycle or cycle}" for begin, seconds in greens)
+        told = [greens_told(signs)]
+        if before:
+            other = first.get((one.edge, one.to))
+            told.insert(0, greens_told(before.signs(other)) if other else "")
         gives_way = sum(sign == PERMISSIVE for sign in signs)
         numbers = [sum(seconds for _, seconds in greens), gives_way, sum(sign in YELLOW for sign in signs)]
         red = cycle - numbers[0] - numbers[2]
         ids = f'<span class="ids">{escape(f"{one.edge} to {one.to}")}</span>'
-        rows.append([escape(movement(one, names)), ids, told or "never", *map(str, (*numbers, red))])
-    head = ["movement", "from and to edge", "green in the cycle, s", "green, s", "gives way, s", "yellow, s", "red, s"]
-    return table(head, rows, names=2)
+        rows.append([escape(movement(one, names)), ids, *told, *map(str, (*numbers, red))])
+    heads = ["before: green", "after: green"] if before else ["green in the cycle"]
+    heads += ["green, s", "gives way, s", "yellow, s", "red, s"]
+    return table(["movement", "from and to edge", *heads], rows, names=2)
+
+
+def greens_told(signs: str) -> str:
+    """When a movement has green in a cycle."""
+    cycle, greens = len(signs), runs_of(signs, MAIN + PERMISSIVE)
+    return ", ".join(f"{begin} to {(begin + seconds) % cycle or cycle}" for begin, seconds in greens) or "never"
 
 
 def intergreens(timing: Timing, names: Names) -> str:
@@ -162,7 +174,7 @@ def intergreens(timing: Timing, names: Names) -> str:
     if not rows:
         return ""
     least = min(rows)[0]
-    first = [row for row in sorted(rows) if row[0] <= least + 1][:8]
+    first = [row for row in sorted(rows) if row[0] <= least + 1][:MOST_PAIRS]
     told = table(
         ["green ends", "conflicting green begins", "seconds between"],
         [[escape(one), escape(other), str(gap)] for gap, one, other in first],
