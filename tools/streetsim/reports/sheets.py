@@ -135,8 +135,8 @@ def phases_table(timing: Timing) -> str:
 
 
 def greens_table(timing: Timing, names: Names, before: Timing | None) -> str:
-    """A table of the seconds of green, yellow and red of each movement, as HTML; before: of the plan before, whose greens
-    stand beside."""
+    """A table of the seconds of green, yellow and red of each movement, as HTML; before: of the plan before, whose
+    greens stand beside."""
     rows, first = [], {(one.edge, one.to): one for one in before.movements} if before else {}
     for one in timing.movements:
         signs = timing.signs(one)
