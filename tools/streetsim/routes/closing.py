@@ -1,4 +1,4 @@
-"""Road works as a router sees them: when edges are shut, who knows of it, and where the others turn off."""
+"""Road works as a router sees them: when edges are shut, who knows of it, and where those who do not know turn off."""
 import random
 from collections.abc import Collection, Iterable, Sequence
 from dataclasses import dataclass
@@ -20,8 +20,8 @@ Times = tuple[float, float]  # first and last second
 
 @dataclass(frozen=True, slots=True)
 class Shutting:
-    """Works as they are asked for. sign: edges on which those who do not know of them are told; lost: what those do who
-    lose their only lane, of works.movements.LOST."""
+    """Works as they are asked for. close: as streetsim-run --close takes them; sign: names of edges on which those who
+    do not know of the works are told of them; lost: what those do who lose their only lane, of works.movements.LOST."""
 
     close: Sequence[str]
     sign: Sequence[str]
@@ -30,8 +30,9 @@ class Shutting:
 
 @dataclass(frozen=True, slots=True)
 class Closing:
-    """Works as the router sees them. shut: times by edge, and by movement where these are barred; signs: edges on which
-    those who do not know of the works are told of them; free: seconds of movements without traffic."""
+    """Works as the router sees them. shut: (first, last) seconds by edge, and by movement where these are barred;
+    signs: edges on which those who do not know of the works are told of them; free: seconds of each movement without
+    traffic."""
 
     shut: Shut
     signs: frozenset[int]
@@ -42,8 +43,9 @@ class Closing:
 def shut_edges(
     works: Iterable[Works], graph: Graph, mapping: Map, dawdle: float
 ) -> dict[int, list[tuple[float, float]]]:
-    """By edge's number the times in which it is not to be entered: while all its lanes are closed, and so shortly
-    before that one would not come past the works; dawdle: a chance, 0 to 1."""
+    """By the number of an edge in the graph, the (first, last) seconds in which it is not to be entered: while all its
+    lanes are closed, and so shortly before that one would not come past the works. dawdle: the chance, 0 to 1, to go on
+    by a cell less."""
     driving, links = FreeFlow(mapping, dawdle).driving, shut_links(sites_of(works, mapping), mapping)
     found = {}
     for edge in dict.fromkeys(mapping.links[link].edge for link in links):
@@ -57,26 +59,28 @@ def shut_edges(
 
 
 def barred_ways(works: Iterable[Works], graph: Graph, mapping: Map) -> dict[tuple[int, int], list[Times]]:
-    """By the numbers of both edges the times in which works have closed the only lanes of a movement."""
+    """The (first, last) seconds in which works have closed the only lanes of a movement, by its two edges' numbers in
+    the graph."""
     lost = lost_ways(closed_ends(closures_at(sites_of(works, mapping)), mapping), mapping)
     return {(graph.number[edge], graph.number[after]): list(times) for (edge, after), times in lost.items()}
 
 
 def common(one: Iterable[Times], other: Collection[Times]) -> list[Times]:
-    """The times that are in both."""
+    """The (first, last) seconds that are in both lists; a list of none where they share nothing."""
     both = [(max(first, begin), min(last, end)) for first, last in one for begin, end in other]
     return [(first, last) for first, last in both if first < last]
 
 
 def knows(name: str, share: float, seed: int) -> bool:
-    """Whether the driver of a trip knows of the works, as a share (0 to 1) of all do; whoever does with a share does
-    with each greater one."""
+    """Whether the driver of a trip knows of the works, where a share (0 to 1) of all drivers do. The same seed and name
+    give the same answer; who knows at a share knows at each greater one."""
     return random.Random(f"knowing {seed} {name}").random() < share
 
 
 def turn_off(trips: Iterable[Trip], closing: Closing, graph: Graph, costs: Costs, strict: bool) -> int:
-    """Those who would come to a shut edge turn off before it, and go on by the way that is shortest without traffic;
-    gives how many have other ways than before. strict: where there is no way that is a Fault, and else they wait."""
+    """Gives other ways to trips that would come to something shut: they turn off before it and go on by the way that is
+    shortest without traffic. Gives how many trips have other ways now. strict: Fault where a trip has no such way;
+    without it the trip keeps its way and waits."""
     router, without, turned = Router(graph, costs, closing.shut), flat_costs(graph, closing.free), 0
     free = {what: Router(graph, without, {**closing.shut, what: [(-FAR, FAR)]}) for what in closing.shut}
     for trip in trips:
@@ -94,9 +98,9 @@ def turn_off(trips: Iterable[Trip], closing: Closing, graph: Graph, costs: Costs
 
 
 def way_round(trip: Trip, shut: int, signs: Collection[int], router: Router, free: Router) -> Path:
-    """The way of a trip that turns off on its first edge with a sign, or at the last crossing before what is shut: the
-    edge at a place of its path, or the movement to it; empty where there is none. free: without this at any time, as
-    who comes later than without traffic would come to it again."""
+    """The way of a trip that turns off on its first edge with a sign, or else at the last crossing before what is shut:
+    the edge at place shut of its path, or the movement to it. Empty where there is no way. free: a router for which
+    this is shut at all times, since who takes a detour may come to it later than planned."""
     clocks = router.clocks(trip.path[:shut], trip.entry)
     signed = (at for at in range(shut) if trip.path[at] in signs)
     for at in (*signed, *reversed(range(shut))):
@@ -107,7 +111,7 @@ def way_round(trip: Trip, shut: int, signs: Collection[int], router: Router, fre
 
 
 def why_not(path: Path, place: int, graph: Graph) -> str:
-    """Why a trip can not drive whose path has a shut edge at a place."""
+    """Why a trip cannot drive whose path has a shut edge at a place: the end of a sentence."""
     edge = graph.edges[path[place]]
     if place == 0 or place == len(path) - 1:
         return (
@@ -118,7 +122,8 @@ def why_not(path: Path, place: int, graph: Graph) -> str:
 
 
 def no_other(path: Path, place: int, graph: Graph) -> str:
-    """Why a trip can not drive that has no way but over a barred movement, to the edge at a place of its path."""
+    """Why a trip cannot drive that has no way but over a barred movement, to the edge at a place of its path: the end
+    of a sentence."""
     edge, after = (graph.edges[path[at]] for at in (place - 1, place))
     return (
         f"has no way but to turn from edge {edge!r} to {after!r}, whose lane is closed: take it out, or have --lost "

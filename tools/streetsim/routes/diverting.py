@@ -35,7 +35,8 @@ SHARES = (
 
 @dataclass(frozen=True, slots=True)
 class Diverted:
-    """What a share of drivers who know of the works gave; without works: no share."""
+    """What a search with a share (0 to 1) of drivers who know of the works gave; share is None for the ways without
+    works."""
 
     share: float | None
     trips: Sequence[Trip]
@@ -44,7 +45,7 @@ class Diverted:
 
     @property
     def label(self) -> str:
-        """What tables and lines call it."""
+        """Its name in tables and lines: "before" without works, else "knowing" and its share."""
         return "before" if self.share is None else f"knowing {self.share:g}"
 
     def means(self) -> list[float]:
@@ -52,7 +53,7 @@ class Diverted:
         return [one.mean for one in self.judged.outcomes]
 
     def doubts(self) -> Iterator[str]:
-        """What speaks against the runs by which it is judged."""
+        """What speaks against the runs by which it is judged, a text each; nothing where they are to be trusted."""
         outcomes, count, until = self.judged.outcomes, len(self.trips), self.search.ground.until
         run, mapping = self.judged.loaded.run, self.judged.loaded.mapping
         arrived, rescues = min(one.arrived for one in outcomes), max(one.rescues for one in outcomes)
@@ -71,12 +72,13 @@ class Diverted:
             yield from trust.of_works([(one.lane, one.first) for one in works], ends)
 
     def named_doubts(self) -> list[str]:
-        """What speaks against its runs, with its label where there are works."""
+        """The texts of doubts, each after the label where there are works."""
         return [f"{self.label}: {text}" if self.search.town.works else text for text in self.doubts()]
 
 
 def placed(path: str, share: float | None, many: bool) -> str:
-    """The path of an output of a share: where there are several shares, their number stands before the ending."""
+    """The path of an output for a share: where there are many shares, "-SHARE" stands before the first dot of its name;
+    else the path as it is."""
     if not many:
         return path
     folder, name = os.path.split(path)
@@ -85,8 +87,8 @@ def placed(path: str, share: float | None, many: bool) -> str:
 
 
 def give_ways(trips: Sequence[Trip], before: Trips, graph: Graph, where: str) -> None:
-    """Gives trips the ways that they have, by name, in another file; Fault where one has none there, or another begin
-    or end. where: that file."""
+    """Gives each trip the path that the trip of its name has in before, read from the file where. Fault where it has
+    none there, one with another first or last edge, or one with two edges between which there is no connection."""
     ways = {trip.name: trip for trip in before.all}
     for trip in trips:
         found = ways.get(trip.name)
@@ -102,8 +104,9 @@ def give_ways(trips: Sequence[Trip], before: Trips, graph: Graph, where: str) ->
 
 
 def check_works(texts: Sequence[str], signs: Sequence[str], trips: Sequence[Trip], town: Town, until: int) -> None:
-    """Refuses works that can not be, before anything runs; who ends on a closed edge is known after
-    the runs without works."""
+    """Refuses by a Fault, before anything runs, works that end by the start or begin after until (clocks, seconds),
+    signs on unknown edges, and trips that begin on a closed edge. Who ends on a closed edge is known only after the
+    runs without works."""
     mapping = map_without_routes(town.net, town.options)
     works = [works_of(text, mapping) for text in texts]
     if over := [one.text for one in works if one.last <= town.options.begin]:
@@ -119,7 +122,8 @@ def check_works(texts: Sequence[str], signs: Sequence[str], trips: Sequence[Trip
 
 
 def closing_of(asked: Shutting, graph: Graph, before: Search, judged: Judged) -> Closing:
-    """Works as a router sees them, by the run of ways without works that was judged."""
+    """Works as a router sees them; before and judged are the search and the runs without works, from which free times
+    come."""
     mapping = judged.loaded.mapping
     works = [works_of(text, mapping) for text in asked.close]
     shut: dict[int | Way, Sequence[Times]] = {}
@@ -130,7 +134,7 @@ def closing_of(asked: Shutting, graph: Graph, before: Search, judged: Judged) ->
 
 
 def town_with_works(town: Town, asked: Shutting) -> Town:
-    """The same town with works."""
+    """A copy of a town that has works; the town itself stays without."""
     made = copy.copy(town)
     made.works, made.lost = tuple(asked.close), asked.lost
     return made
@@ -144,7 +148,9 @@ def diverted(
     shares: Sequence[float],
     told: Callable[[str, Iteration], bool],
 ) -> Iterator[Diverted]:
-    """What each share of drivers who know of the works gives; all begin with the ways before."""
+    """For each share (0 to 1) of drivers who know of the works, what a search of its own gives; each begins with the
+    ways before and is judged by the check seeds. told: gets a label and an iteration, and gives whether the user asks
+    for an end."""
     first = before.search
     town = town_with_works(first.town, closing.asked)
     for share in shares:
@@ -160,8 +166,8 @@ def diverted(
 
 
 def within_gap(one: Diverted, before: Diverted) -> str | None:
-    """Says where works add less to the mean trip than what all could gain by other ways, without them or with them;
-    none where they add more."""
+    """A warning where the works add less to the mean trip than what all could gain by other ways, without the works or
+    with them; None where they add more."""
     apart = fmean(one.means()) - fmean(before.means())
     seconds = {where: each.judged.gap * fmean(each.means()) for where, each in (("without", before), ("with", one))}
     where = max(seconds, key=lambda where: seconds[where])
@@ -174,7 +180,8 @@ def within_gap(one: Diverted, before: Diverted) -> str | None:
 
 
 def share_rows(all_: Sequence[Diverted]) -> Iterator[tuple]:
-    """A row for the ways without works, and one for each share, with its difference to these by equal seeds."""
+    """The rows of knowing.csv: the ways without works first, then each share, with its mean difference (s) to the first
+    by equal seeds and half the width of its 95 % interval."""
     before = all_[0]
     for one in all_:
         apart = [there - here for here, there in zip(before.means(), one.means(), strict=True)]

@@ -18,7 +18,8 @@ NEAR = 250.0  # metres around what differs, at least
 
 
 def draw(folder: str, before: Diverted, one: Diverted) -> None:
-    """Draws a search into a folder; without matplotlib nothing, which is said."""
+    """Draws gap.png, and with works flows.png, into a folder; where matplotlib is not installed it draws nothing and
+    says so. one: the search with works, or before itself."""
     pyplot = drawing_if_there()
     if pyplot is None:
         return
@@ -28,7 +29,7 @@ def draw(folder: str, before: Diverted, one: Diverted) -> None:
 
 
 def gaps(pyplot: Pyplot, searches: Sequence[Diverted]) -> Figure:
-    """The picture of the gap over iterations, a line for each search."""
+    """The picture of the relative gap (%) over iterations, a line for each search, with a dot for the routes kept."""
     figure, axes = pyplot.subplots(figsize=(6.5, 3.5))
     for style, one in zip(STYLES, searches):
         numbers = [iteration.number for iteration in one.search.iterations]
@@ -50,7 +51,8 @@ def gaps(pyplot: Pyplot, searches: Sequence[Diverted]) -> Figure:
 
 
 def flows(pyplot: Pyplot, before: Diverted, one: Diverted) -> Figure:
-    """The picture of trips on edges: before, with the works, and the difference, as near as it reaches."""
+    """The picture of how many trips have each edge on their way: before, with the works, and the difference, zoomed to
+    where there is one."""
     links, graph = before.judged.loaded.mapping.links, before.search.town.graph
     there, here = (Counter(edge for trip in case.trips for edge in set(trip.path)) for case in (before, one))
     number = [graph.number[link.edge] for link in links]
@@ -76,7 +78,8 @@ def flows(pyplot: Pyplot, before: Diverted, one: Diverted) -> Figure:
 
 
 class Scale(NamedTuple):
-    """Colours by classes: where each begins and ends, and the value of the widest line."""
+    """Colours for the values of links: the colours, the limits of their classes, and the value that gets the widest
+    line."""
 
     colours: Colours
     norm: Colours
@@ -84,7 +87,7 @@ class Scale(NamedTuple):
 
 
 def shades(most: int) -> Scale:
-    """Colours for values from 0 to the most, darker for more."""
+    """Colours for counts from 0 to the most, in at most CLASSES classes, darker for more."""
     from matplotlib import colormaps
     from matplotlib.colors import BoundaryNorm, ListedColormap
     from matplotlib.ticker import MaxNLocator
@@ -99,7 +102,8 @@ def shades(most: int) -> Scale:
 
 
 def differences(most: int) -> Scale:
-    """Colours for values from -most to most: orange for more and blue for fewer, grey for what is about equal."""
+    """Colours for differences from -most to most: orange for more and blue for fewer, grey for less than SMALL of the
+    most."""
     from matplotlib.colors import BoundaryNorm, ListedColormap
 
     steps: list[float] = [round(most * share) for share in (-1.0, -0.6, -0.3, -0.1, 0.1, 0.3, 0.6, 1.0)]
@@ -108,8 +112,8 @@ def differences(most: int) -> Scale:
 
 
 def draw_flows(axes: Axes, links: Sequence[MapLink], values: Sequence[int], scale: Scale, title: str) -> Lines:
-    """Draws links on a map, wider and of another colour by their values, one each; those below 0 are broken lines.
-    Gives the lines, for a legend of colours."""
+    """Draws all links on a map in grey, and those whose value is not 0 in colour, wider for more; values has one for
+    each link, and those below 0 are broken lines. Gives the coloured lines, for a colour bar."""
     from matplotlib.collections import LineCollection
 
     axes.add_collection(LineCollection([link.shape for link in links], colors="#d8d8d8", linewidths=0.8))
@@ -129,7 +133,8 @@ def draw_flows(axes: Axes, links: Sequence[MapLink], values: Sequence[int], scal
 
 
 def zoom(axes: Axes, links: Sequence[MapLink], values: Sequence[int]) -> None:
-    """Shows the part of a map where values are not about 0, with some of the streets around."""
+    """Narrows the map to the links whose value is above SMALL of the greatest, with NEAR metres around; the whole map
+    stays where there are none."""
     least = SMALL * max(abs(value) for value in values)
     points = [point for link, value in zip(links, values, strict=True) if abs(value) > least for point in link.shape]
     if not points:
@@ -141,6 +146,7 @@ def zoom(axes: Axes, links: Sequence[MapLink], values: Sequence[int]) -> None:
 
 
 def middle(shape: Sequence[Sequence[float]]) -> tuple[float, float]:
-    """A place (x, y) in a street: its middle corner, or halfway between the two in the middle."""
+    """A point (x, y) in metres at a street: the middle corner of its shape, or halfway between the two in the
+    middle."""
     (x, y), (next_x, next_y) = shape[(len(shape) - 1) // 2], shape[len(shape) // 2]
     return (x + next_x) / 2, (y + next_y) / 2

@@ -1,4 +1,4 @@
-"""Giving way without a light in the runs of a search: those who wait find the gaps that the run before showed."""
+"""Giving way without a light in the runs of a search: those who give way get the gaps that the run before showed."""
 from collections import defaultdict
 from collections.abc import Mapping, Sequence
 
@@ -10,7 +10,8 @@ Passed = dict[tuple[str, int], list[tuple[float, str]]]  # by edge and lane, as 
 
 
 def named(found: Mapping[tuple[int, int], Sequence[tuple[float, int]]], mapping: Map) -> Passed:
-    """When vehicles passed which stop line, by names: another import may number links otherwise."""
+    """When vehicles passed which stop line, with names in place of the map's numbers, as another import may number
+    links otherwise. found: {(link, lane): [(second, next link)]}."""
     links = mapping.links
     return {
         (links[link].edge, links[link].lanes[lane]): [(second, links[following].edge) for second, following in each]
@@ -19,8 +20,8 @@ def named(found: Mapping[tuple[int, int], Sequence[tuple[float, int]]], mapping:
 
 
 def waiting_lines(passed: Passed, mapping: Map, start: int) -> list[tuple[int, Line]]:
-    """The signal lines, (clock, line), by which vehicles wait for those who passed first in another run; start: of the
-    run."""
+    """The signal lines, (clock, line), by which vehicles without a light wait for those who go first, as these passed
+    in another run. Passings on ways that this map does not have are left out; start: the run's first clock."""
     places = {
         (mapping.links[link].edge, mapping.links[link].lanes[lane]): (link, lane) for link, lane in mapping.lanes()
     }

@@ -31,7 +31,8 @@ AT_WISH = (
 
 @dataclass(frozen=True, slots=True)
 class Closed(Shutting):
-    """Road works as they are asked for, and who knows of them."""
+    """Road works as they are asked for, with the shares (0 to 1) of drivers who know of them, one search each. before:
+    the path of a file of ways without the works; None: they are searched."""
 
     knowing: Sequence[float] = (1.0,)  # shares of drivers who do
     before: str | None = None  # a file of ways without the works
@@ -39,7 +40,8 @@ class Closed(Shutting):
 
 @dataclass(frozen=True, slots=True)
 class Target:
-    """Where what was found goes."""
+    """The paths of what is written: the routes, the run and its map (None: neither is written), and the folder of
+    tables."""
 
     routes: str
     run: str | None
@@ -49,7 +51,7 @@ class Target:
 
 @dataclass(frozen=True, slots=True)
 class Job:
-    """What a command is about, read and checked."""
+    """What a command of streetsim-route asks for, read and checked."""
 
     town: Town
     trips: Trips
@@ -62,8 +64,8 @@ class Job:
 
 
 def found_routes(job: Job, workers: Team, stopping: Stopping) -> list[Diverted]:
-    """What was found, judged by the check seeds: without works, and with them for each share of drivers who know of
-    them."""
+    """Searches, and judges what was found by the check seeds; gives the ways without works, and after them one result
+    for each share of drivers who know of the works. Without works there is the first alone."""
     works, count = job.works, len(job.trips.all)
 
     def told(label: str, iteration: Iteration) -> bool:
@@ -88,7 +90,7 @@ def found_routes(job: Job, workers: Team, stopping: Stopping) -> list[Diverted]:
 
 
 def write(job: Job, all_: Sequence[Diverted]) -> None:
-    """Writes all files of what was found."""
+    """Writes all files of what was found; the folder of tables is written whole or not at all."""
     target, many = job.target, len(all_) > 2
     for one in all_[len(all_) > 1 :]:
         write_routes(placed(target.routes, one.share, many), Trips(list(one.trips), job.trips.types), job.town.graph)
@@ -111,12 +113,13 @@ def write(job: Job, all_: Sequence[Diverted]) -> None:
 
 
 def write_run_of(one: Diverted, run_path: str, map_path: str) -> None:
-    """The run of found routes, as streetsim-import makes it, and with works their lines."""
+    """Writes the run of found routes and its map, as streetsim-import makes them, with the lines of the works."""
     write_loaded(one.search.town.loaded(one.trips), run_path, map_path)
 
 
 def setting_of(job: Job, one: Diverted, before: Diverted) -> dict:
-    """What a search was asked for and came to, for setting.json."""
+    """What setting.json has: what was asked for, what the search came to, and why it is not to be trusted. before: the
+    result without works."""
     works, setting = job.works, job.words | {"import": asdict(job.town.options)}
     setting |= {"until": job.ground.until, "iteration": one.search.best.number, "not_trusted": list(one.doubts())}
     if works.close:
@@ -127,8 +130,8 @@ def setting_of(job: Job, one: Diverted, before: Diverted) -> dict:
 
 
 def tell(job: Job, one: Diverted, before: Diverted) -> int:
-    """Says what was found and what speaks against it; gives the status, 1 where the gap that was asked for is not
-    reached."""
+    """Prints what was found, and warnings to standard error; gives the exit status: 0 where the gap that was asked for
+    is reached, else 1. before: the result without works, or one itself."""
     label = f"{one.label}: " * (one.share is not None)
     if is_still(one.search) and one.judged.gap > job.asked.gap:
         print(
@@ -148,8 +151,8 @@ def tell(job: Job, one: Diverted, before: Diverted) -> int:
 
 
 def missing(job: Job, one: Diverted, before: Diverted) -> str | None:
-    """Where the gap that was asked for is not reached, in words that may be empty; none where it is. Ways without works
-    that were given are not judged."""
+    """The words that say where the gap that was asked for is not reached: empty where only one itself misses it. None
+    where it is reached. Ways without works that were given in a file are not judged."""
     without = before.judged.gap if before.search.iterations and one is not before else 0.0
     if max(one.judged.gap, without) <= job.asked.gap:
         return None

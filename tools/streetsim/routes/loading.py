@@ -1,4 +1,5 @@
-"""The run of the ways that trips have at present, as streetsim-import makes it of a file of them."""
+"""The run and map of trips with the ways that they have at present, made as streetsim-import makes them of a file of
+routes."""
 import json
 from array import array
 from collections.abc import Sequence
@@ -23,7 +24,8 @@ from streetsim.works.sites import closed, lanes_to_join, lanes_to_lead
 
 @dataclass(slots=True)
 class Loaded:
-    """A run of present ways and its map. free: seconds of each movement where nobody is in the way."""
+    """A run of trips with their present ways, and its map. free: seconds of each movement of the graph where nobody is
+    in the way."""
 
     run: Run
     mapping: Map
@@ -31,7 +33,7 @@ class Loaded:
 
 
 class Town:
-    """A network and its vehicle types, read once."""
+    """A network and its vehicle types, read once, with the works that its runs have."""
 
     def __init__(self, net: SumoNet, types: Types, options: Options) -> None:
         self.net, self.types, self.options = net, types, options
@@ -42,12 +44,12 @@ class Town:
 
     @property
     def dawdle(self) -> float:
-        """The chance to go on by a cell less, 0 to 1."""
+        """The chance, 0 to 1, that a vehicle goes on by a cell less in a step."""
         return self.options.dawdle / 1000
 
     def loaded(self, trips: Sequence[Trip]) -> Loaded:
         """The run of trips that have ways, with the town's works. Permissive greens and the choice of lanes follow the
-        routes, so it is imported anew; Fault where a trip cannot drive."""
+        routes, so it is imported anew each time; Fault where a trip cannot drive."""
         run, mapping = self.imported(trips, ())
         if self.works:
             run, mapping, _ = self.with_works(trips, run, mapping)
@@ -55,7 +57,9 @@ class Town:
         return Loaded(run, mapping, free)
 
     def imported(self, trips: Sequence[Trip], joint: Sequence[str], led: Sequence[str] = ()) -> tuple[Run, Map]:
-        """The run and its map, with some further lanes joint; led: lanes whose turns the links beside get."""
+        """The run and its map without works. joint, led: names of lanes, beside those of the options: joint lanes end
+        in one queue, and the turns of led lanes are given to the links beside. Fault where a trip is skipped, or a
+        limit of the program is passed."""
         report = Report()
         options = replace(self.options, joint=(*self.options.joint, *joint), led=(*self.options.led, *led))
         network, lights, commands, names = converted(
@@ -71,7 +75,7 @@ class Town:
 
     def with_works(self, trips: Sequence[Trip], run: Run, mapping: Map) -> tuple[Run, Map, list[str]]:
         """The run and its map with the town's works, imported anew where lanes must be joint or led from beside, and
-        what is said of those who lose their only lane."""
+        the texts on those who lose their only lane."""
         works = [works_of(text, mapping) for text in self.works]
         led = lanes_to_lead(works, mapping) if self.lost == "lead" else []
         if (names := lanes_to_join(works, mapping)) or led:
@@ -79,12 +83,13 @@ class Town:
         return closed(run, mapping, works, self.lost, searched=True)
 
     def told_of_lost(self, trips: Sequence[Trip]) -> list[str]:
-        """What is said of those of some trips with ways who lose their only lane by the town's works."""
+        """The texts on those of some trips who lose their only lane by the town's works; empty where nobody does."""
         return self.with_works(trips, *self.imported(trips, ()))[2]
 
 
 def read_town(net_path: str, additional: Sequence[str], options: Options, report: Report) -> Town:
-    """The network of a file, with the programs and types of additional ones; Fault where edges of it are in parts."""
+    """The network of a file, with the signal programs and vehicle types of additional files. Fault where the options
+    cut edges in parts (--slow), since ways are searched on whole edges."""
     if options.slow:
         raise Fault("ways are searched on whole edges: import the run without --slow")
     net, types = read_net(net_path, options.classes, report), Types(options.seed, report)
@@ -94,7 +99,7 @@ def read_town(net_path: str, additional: Sequence[str], options: Options, report
 
 
 def write_loaded(loaded: Loaded, run_path: str, map_path: str) -> None:
-    """Writes a run and its map, as streetsim-import makes them, with the lines of its works."""
+    """Writes a run and its map to files, as streetsim-import makes them, with the lines of its works."""
     run = loaded.run
     timed = [json.dumps({"at": clock, **line.command}, separators=(",", ":")) for clock, line in run.timed]
     texts = [run.load.text, *(line.text for line in run.first), *timed, *(line.text for line in run.enters)]
@@ -104,5 +109,5 @@ def write_loaded(loaded: Loaded, run_path: str, map_path: str) -> None:
 
 
 def lines_of(commands: Sequence[dict]) -> list[Line]:
-    """Commands as lines of no file."""
+    """Commands as lines of a run that stand in no file; their number is 0."""
     return [Line(0, json.dumps(command, separators=(",", ":")), command) for command in commands]

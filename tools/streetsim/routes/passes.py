@@ -1,4 +1,4 @@
-"""When vehicles came on the links of their plans, from where they were seen now and then."""
+"""When vehicles came to the links of their plans, reckoned from looks at them every minute or so."""
 from collections.abc import Sequence
 from typing import NamedTuple
 
@@ -12,8 +12,8 @@ LEAST_DELAY = 0.1  # seconds that are expected of any movement, so that what is 
 
 
 class Sight(NamedTuple):
-    """Where a vehicle was seen: the clock, the link, the seconds of free driving from its begin,
-    the speed in cells a step."""
+    """Where a vehicle was seen at a look: the clock, the link, the seconds of free driving from the link's begin to
+    there, the speed in cells a step."""
 
     clock: int
     link: int
@@ -22,7 +22,7 @@ class Sight(NamedTuple):
 
 
 class Point(NamedTuple):
-    """A sight of a vehicle at a place of its plan."""
+    """A sight of a vehicle at a place of its plan; stands: whether its speed was 0."""
 
     clock: float
     place: int
@@ -31,11 +31,12 @@ class Point(NamedTuple):
 
 
 class Passes:
-    """What was lost between two sights of a vehicle is dealt to the movements between them by the delays
-    that are expected there."""
+    """Reckons when a vehicle came to each link: time lost between two sights is dealt out to the movements between them
+    in proportion to the delays that are expected there."""
 
     def __init__(self, graph: Graph, mapping: Map, costs: Costs, dawdle: float) -> None:
-        """costs: what is expected; dawdle: a chance, 0 to 1."""
+        """costs: the seconds that movements are expected to take; dawdle: the chance, 0 to 1, to go on by a cell
+        less."""
         self.graph = graph
         self.edges = [graph.number[link.edge] for link in mapping.links]
         free = FreeFlow(mapping, dawdle)
@@ -43,18 +44,21 @@ class Passes:
         self.table = Table(costs)
 
     def movement(self, plan: Sequence[int], place: int) -> int:
-        """The graph's movement at a place of a plan; at the last one that of ending there."""
+        """The number in the graph of the movement from the link at a place of a plan to the next one; at the last
+        place, of the movement that ends there."""
         following = self.edges[plan[place + 1]] if place + 1 < len(plan) else END
         return self.graph.movement_of[self.edges[plan[place]], following]
 
     def expected(self, plan: Sequence[int], place: int, clock: float) -> float:
-        """The seconds that are lost by and large at a place of a plan, by one that comes at a clock."""
+        """The seconds beyond free driving that the movement at a place of a plan is expected to take for one who comes
+        at a clock; LEAST_DELAY at least."""
         seconds, link = self.table.at(self.movement(plan, place), clock), plan[place]
         return max(LEAST_DELAY, seconds - self.driving[link] - self.crossing[link])
 
     def clocks(self, plan: Sequence[int], depart: int, seen: Sequence[Sight], arrival: int | None) -> list[float]:
-        """When each link of a plan was reached, as far as that is known: the last one is the first that was not left.
-        Empty where the vehicle was never on the road."""
+        """The clocks at which a vehicle reached the links of its plan, from the first on: all of them where it arrived,
+        else up to the link where it was seen last. Empty where it never came on the road. arrival: None where it did
+        not arrive."""
         if not seen and arrival is None:
             return []
         clocks = [self.entry(plan, depart, seen)]
@@ -69,14 +73,16 @@ class Passes:
         return clocks
 
     def entry(self, plan: Sequence[int], depart: int, seen: Sequence[Sight]) -> float:
-        """The clock at which a vehicle came on the road: its wished departure, or later as it was not seen before."""
+        """The clock at which a vehicle came on the road: its wished departure depart, or later where a look between did
+        not see it."""
         if not seen or seen[0].link != plan[0]:
             return float(depart)
         before = (seen[0].clock - 1) // MINUTE * MINUTE
         return float(depart) if depart >= before else max(float(before), seen[0].clock - seen[0].driven)
 
     def between(self, plan: Sequence[int], sooner: Point, later: Point) -> list[float]:
-        """The clocks at which the links after one point and up to another were reached."""
+        """The clocks at which the links after the place of one point, up to that of a later one, were reached; empty
+        where both are on the same link."""
         places = range(sooner.place, later.place)
         if not places:
             return []

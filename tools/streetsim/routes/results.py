@@ -31,7 +31,7 @@ TRIPS = ("id", "depart", "edges", "may_change", "mean_trip_s", "way_s", "shortes
 def write_results(
     folder: str, town: Town, trips: Sequence[Trip], iterations: Sequence[Iteration], judged: Judged, setting: dict
 ) -> None:
-    """Writes the tables and the setting of a search into a folder."""
+    """Writes iterations.csv, check.csv, movements.csv, trips.csv and setting.json of a search into a folder."""
     write_table(f"{folder}/iterations.csv", ITERATIONS, iteration_rows(iterations))
     write_table(f"{folder}/check.csv", CHECK, check_rows(judged))
     write_table(f"{folder}/movements.csv", MOVEMENTS, movement_rows(town, judged, setting["slice"]))
@@ -60,8 +60,8 @@ def check_rows(judged: Judged) -> Iterator[tuple]:
 
 
 def movement_rows(town: Town, judged: Judged, width: int) -> Iterator[tuple]:
-    """For each slice, of so many seconds, and movement that was seen in the check runs vehicles and mean seconds, of
-    one run by the mean."""
+    """The rows of movements.csv: for each slice of width seconds and each movement that was seen in the check runs,
+    vehicles in one run by the mean, their mean seconds, and seconds without traffic."""
     graph, observed = town.graph, mean_of([one.observed for one in judged.outcomes])
     for slice_ in range(observed.slices):
         for movement, (edge, following) in enumerate(graph.movements):
@@ -78,8 +78,9 @@ def movement_rows(town: Town, judged: Judged, width: int) -> Iterator[tuple]:
 
 
 def trip_rows(trips: Sequence[Trip], judged: Judged) -> Iterator[tuple]:
-    """For each trip its mean seconds of the check runs where it arrived in all,
-    and of its way and the shortest by their costs."""
+    """The rows of trips.csv: each trip's mean seconds over the check runs (empty where it did not arrive in all of
+    them), and the seconds of its way and of the shortest way by the costs of these runs (empty where its way was not
+    searched)."""
     searched = {one.trip: one for one in judged.found}
     for at, trip in enumerate(trips):
         ends = [end for one in judged.outcomes if (end := one.ends[at]) is not None]
@@ -90,8 +91,8 @@ def trip_rows(trips: Sequence[Trip], judged: Judged) -> Iterator[tuple]:
 
 
 def flow_rows(graph: Graph, all_: Sequence[Diverted]) -> Iterator[tuple]:
-    """For each edge how many trips have it on their ways, before and with each share of drivers
-    who know of the works."""
+    """The rows of flows.csv: for each edge how many trips have it on their ways, before and with each share of drivers
+    who know of the works, and how many more than before."""
     flows = [Counter(edge for trip in one.trips for edge in set(trip.path)) for one in all_]
     for edge, name in enumerate(graph.edges):
         for one, flow in zip(all_, flows, strict=True):
@@ -99,7 +100,8 @@ def flow_rows(graph: Graph, all_: Sequence[Diverted]) -> Iterator[tuple]:
 
 
 def figures(judged: Judged) -> dict:
-    """What the check gave: the mean trip with half the width of its 95 % interval, and the gap."""
+    """What the check runs gave, for setting.json: the mean trip (s) with half the width of its 95 % interval, the gap,
+    the fewest arrivals, and the rescues of each run."""
     mean, half = interval([one.mean for one in judged.outcomes])
     return {
         "mean_trip_s": round(mean, 3),

@@ -1,4 +1,5 @@
-"""The search for routes from which nobody gains much by leaving them: router, run, router, .."""
+"""The search for routes from which nobody gains much by leaving them: router and runs in turn, iteration after
+iteration."""
 from collections.abc import Callable, Sequence
 from dataclasses import dataclass, field, replace
 from statistics import fmean
@@ -25,8 +26,9 @@ STILL = 5  # iterations without a smaller gap, of which is warned
 
 @dataclass(frozen=True, slots=True)
 class Asked:
-    """What a search is to do. gap: a share of the seconds on shortest ways; share: of trips,
-    that change at the start."""
+    """How a search goes. iterations: at most; gap: the relative gap at which it may end, a share of the seconds on
+    shortest ways; share: of the trips that may change, at most so many (0 to 1) change in the first iteration; seeds:
+    of its runs."""
 
     iterations: int
     gap: float
@@ -37,7 +39,8 @@ class Asked:
 
 @dataclass(frozen=True, slots=True)
 class Seen:
-    """What runs showed of some ways, and the best ways by that. passed: by seed, when those passed who go first."""
+    """What runs of some ways showed, and the best ways by the costs that they showed. passed: for each seed, when those
+    who go first passed their stop lines."""
 
     ways: list[tuple[Path, float]]  # of all trips, with their entries
     outcomes: list[Outcome]
@@ -50,8 +53,8 @@ class Seen:
 
 @dataclass(frozen=True, slots=True)
 class Iteration:
-    """What was seen in an iteration. cost: mean seconds of the ways of those who may change,
-    by the costs of that iteration."""
+    """What was seen in an iteration. cost: mean seconds of the ways of those who may change, by the costs of this
+    iteration; calls: of the longest run."""
 
     number: int
     mean: float  # seconds of a trip
@@ -66,7 +69,7 @@ class Iteration:
     processor: float  # seconds, of the simulator
 
     def line(self, trips: int) -> str:
-        """What is told of it, of so many trips in all."""
+        """The line that tells of this iteration; trips: how many there are in all."""
         back = ", taken back" if self.taken_back else ""
         return (
             f"{self.number}: mean trip {self.mean:.1f} s, gap {100 * self.gap:.2f} %{back}, "
@@ -76,8 +79,8 @@ class Iteration:
 
 @dataclass(slots=True)
 class Best:
-    """The best iteration so far: the ways and entries of its trips. An iteration is better where more trips arrive,
-    and of those where as many do, where the gap is less: a gap says nothing of trips that stand for ever."""
+    """The best iteration so far: the ways and entries of its trips. An iteration is better where more trips arrive, and
+    among those in which as many arrive, where the gap is less: a gap says nothing of trips that stand for ever."""
 
     lacking: int = limits.VEHICLES  # trips that did not arrive
     gap: float = FAR
@@ -86,13 +89,14 @@ class Best:
     passed: list[Passed] = field(default_factory=list)
 
     def is_below(self, lacking: int, gap: float, trust: float = 1.0) -> bool:
-        """Whether it is better than an iteration, whose gap may be so many times its own."""
+        """Whether it is better than an iteration with so many trips that did not arrive and such a gap, even with its
+        own gap taken trust times."""
         return (self.lacking, trust * self.gap) < (lacking, gap)
 
 
 @dataclass(frozen=True, slots=True)
 class Judged:
-    """Routes and the runs by which they are judged, of seeds that no search saw."""
+    """Routes, and the runs by which they are judged, with seeds that no search saw."""
 
     loaded: Loaded
     seeds: Sequence[int]
@@ -103,8 +107,8 @@ class Judged:
 
 
 class Search:
-    """A search for the ways of some trips in a town. told: hears of each iteration,
-    and says whether the user asks for an end."""
+    """A search for the ways of some trips in a town; the trips carry their present ways. told: gets each iteration, and
+    gives whether the user asks for an end."""
 
     def __init__(
         self,
@@ -115,7 +119,7 @@ class Search:
         told: Callable[[Iteration], bool],
         closing: Closing | None = None,
     ) -> None:
-        """closing: the works of the town, if it has any."""
+        """closing: the works of the town; None where it has none."""
         self.town, self.ground, self.trips = town, ground, trips
         self.team, self.told, self.closing = team, told, closing
         self.iterations: list[Iteration] = []
@@ -124,14 +128,15 @@ class Search:
         self.passed: list[Passed] = []  # by seed, when those passed who go first, in the last run
 
     def start(self, seed: int) -> None:
-        """Gives first ways to the trips that have none; Fault where one has no way."""
+        """Gives first ways to all trips where any has none; Fault where a trip has no way. seed: of the choices among
+        them."""
         if any(not trip.path for trip in self.trips):
             free, capacity = times_without_routes(self.town.net, self.town.graph, self.town.options)
             if lost := first_ways(self.town.graph, self.trips, free, capacity, seed, self.team.search):
                 raise no_way(self.town.graph, lost[0])
 
     def improve(self, asked: Asked) -> None:
-        """Searches; the trips then have the ways of the iteration with the least gap."""
+        """Searches; the trips then have the ways of the best iteration."""
         share = asked.share
         steps: list[list[Found]] = [[]]
         for number in range(asked.iterations + 1):
@@ -158,9 +163,9 @@ class Search:
         give(self.trips, self.best.ways)
 
     def best_of(self, seeds: Sequence[int], steps: Sequence[Sequence[Found]]) -> tuple[Seen, int]:
-        """Runs the present ways with each of some steps, side by side; gives what the best showed, and its place. The
-        trips then have its ways. Who gives way without a light waits for those who passed in the iteration before, and
-        at first in a run in which nobody waits."""
+        """Runs the present ways with each of some steps (lists of trips that change), side by side; gives what the best
+        step showed, and its place. The trips then have its ways. Who gives way without a light waits for those who
+        passed in the iteration before; in the first iteration for those who passed in a run in which nobody waits."""
         ways = [paths_after(self.trips, step) for step in steps]
         loads = [self.loaded(paths) for paths in ways]
         expected = self.expected or flat_costs(self.town.graph, loads[0].free)
@@ -176,11 +181,11 @@ class Search:
         return seen, place
 
     def loaded(self, paths: Sequence[Path]) -> Loaded:
-        """The run of some ways."""
+        """The run of the trips with some ways, one path for each trip."""
         return self.town.loaded([replace(trip, path=path) for trip, path in zip(self.trips, paths, strict=True)])
 
     def seen(self, paths: Sequence[Path], loaded: Loaded, outcomes: list[Outcome]) -> Seen:
-        """What runs of some ways showed, which the trips then have."""
+        """What runs of some ways showed; the trips then have these ways. outcomes: of the runs, one for each seed."""
         give(self.trips, [(path, trip.entry) for path, trip in zip(paths, self.trips, strict=True)])
         costs = self.noted(loaded, outcomes)
         found, lacking = self.searched(costs), len(self.trips) - min(one.arrived for one in outcomes)
@@ -188,14 +193,14 @@ class Search:
         return Seen(ways, outcomes, costs, found, [one.passed for one in outcomes], gap_of(found), lacking)
 
     def noted(self, loaded: Loaded, outcomes: Sequence[Outcome]) -> Costs:
-        """The costs that runs showed; notes each trip's mean entry in them."""
+        """The costs that runs showed; gives each trip its mean entry in them, a clock."""
         for at, trip in enumerate(self.trips):
             trip.entry = fmean(one.entries[at] for one in outcomes)
         observed = mean_of([one.observed for one in outcomes])
         return costs_of(self.town.graph, loaded.free, observed, self.ground.width, self.town.minor)
 
     def searched(self, costs: Costs) -> list[Found]:
-        """The best ways of the trips that may change."""
+        """The best ways of the trips that may change, by some costs; the trips keep theirs."""
         wishes = [
             Wish(at, trip.origin, trip.target, trip.entry, trip.path)
             for at, trip in enumerate(self.trips)
@@ -204,15 +209,17 @@ class Search:
         return self.team.search(wishes, costs, self.closing.shut if self.closing else None)
 
     def turn_off(self, costs: Costs, strict: bool = False) -> int:
-        """Those who would wait before works turn off before them, and of those who may change a search finds better
-        ways yet; gives how many have other ways. strict: all trips, and a Fault where one has no way round."""
+        """Gives ways round the works to trips that would wait before them: with strict to all such trips, and a Fault
+        where one has no way round; else only to those who may not change, as the search finds ways for the others.
+        Gives how many have other ways now; 0 without works."""
         if self.closing is None:
             return 0
         trips = self.trips if strict else [trip for trip in self.trips if not trip.changes]
         return turn_off(trips, self.closing, self.town.graph, costs, strict)
 
     def judged(self, seeds: Sequence[int]) -> Judged:
-        """What the present ways are worth, by seeds of which the search knows nothing, each by rounds of its own."""
+        """What the present ways are worth, by runs with seeds that the search did not see; each run finds its own gaps
+        for those who give way."""
         loaded = self.town.loaded(self.trips)
         outcomes = self.team.checks(loaded, self.expected or flat_costs(self.town.graph, loaded.free), seeds)
         costs = self.noted(loaded, outcomes)
@@ -221,18 +228,18 @@ class Search:
 
 
 def is_still(search: Search) -> bool:
-    """Whether the gap has not fallen for some iterations."""
+    """Whether the gap has not fallen for STILL iterations or more."""
     return bool(search.iterations) and search.iterations[-1].number - search.best.number >= STILL
 
 
 def give(trips: Sequence[Trip], ways: Sequence[tuple[Path, float]]) -> None:
-    """Gives trips their ways and entries."""
+    """Gives each trip its way and entry, of ways in the order of the trips."""
     for trip, (path, entry) in zip(trips, ways, strict=True):
         trip.path, trip.entry = path, entry
 
 
 def paths_after(trips: Sequence[Trip], step: Sequence[Found]) -> list[Path]:
-    """The ways of trips, of whom those of a step change."""
+    """The ways of all trips once those of a step have changed to the ways found; the trips themselves stay."""
     paths = [trip.path for trip in trips]
     for one in step:
         paths[one.trip] = one.path
@@ -245,14 +252,15 @@ def gain(found: Found) -> float:
 
 
 def gap_of(found: Sequence[Found]) -> float:
-    """The relative gap: what all could gain, over the seconds of their shortest ways. 0 where nobody may change."""
+    """The relative gap: what all could gain together, over the seconds of their shortest ways. 0 where nobody may
+    change."""
     least = sum(one.least for one in found if one.path)
     return sum(map(gain, found)) / least if least else 0.0
 
 
 def changes(found: Sequence[Found], share: float) -> list[Found]:
-    """Those who change: of those who gain at all the ones with the greatest relative loss, a share (0 to 1) of all at
-    most, or one."""
+    """The trips that change: of those who gain more than LEAST_GAIN seconds the ones with the greatest relative loss,
+    at most a share (0 to 1) of all found, but one at least; none where nobody gains. In order of trips."""
     worth = sorted(
         (one for one in found if gain(one) > LEAST_GAIN), key=lambda one: (-gain(one) / max(1.0, one.least), one.trip)
     )
@@ -260,7 +268,8 @@ def changes(found: Sequence[Found], share: float) -> list[Found]:
 
 
 def steps_of(found: Sequence[Found], share: float, tried: int) -> list[list[Found]]:
-    """Those who change by a share, by half of it, and so on; one step where there are so few."""
+    """The trips that change by a share, by half of it, and so on, tried times; a step that is no smaller than the one
+    before it is left out."""
     steps = [changes(found, share / 2**at) for at in range(tried)]
     return [step for at, step in enumerate(steps) if at == 0 or len(step) < len(steps[at - 1])]
 
@@ -268,8 +277,8 @@ def steps_of(found: Sequence[Found], share: float, tried: int) -> list[list[Foun
 def iteration_of(
     number: int, outcomes: Sequence[Outcome], found: Sequence[Found], gap: float, changed: int, back: bool
 ) -> Iteration:
-    """What is kept of an iteration: of its runs, searches and how many change; back: whether its routes were taken
-    back."""
+    """What is kept of an iteration: of its runs, of its searches, and how many trips change next; back: whether its
+    routes were taken back."""
     return Iteration(
         number=number,
         mean=fmean(one.mean for one in outcomes),

@@ -24,7 +24,7 @@ SLICE = 300
 
 @dataclass(frozen=True, slots=True)
 class Wished:
-    """What a variant of a study asks of its ways, and how its runs are made."""
+    """What a variant of a study asks of the ways of its vehicles, and how its runs are made."""
 
     close: Sequence[str]  # works, which a share of drivers know of
     knowing: float
@@ -38,8 +38,9 @@ class Wished:
 
 
 def routed(run: Run, mapping: Map, map_path: str, wished: Wished, where: str) -> tuple[Run, Map, list[str]]:
-    """The run and its map with ways by feedback for the vehicles of its import, and what speaks against them; with
-    works, round these. where: the variant, for what is told."""
+    """The run and its map with ways that a search of ten iterations finds for the vehicles of its import, round the
+    works of the variant where it has any; and the texts that speak against these ways. where: the variant, named in
+    what is told."""
     sources = sources_of(mapping.sources, map_path, run.path)
     options = options_again(mapping, joint=wished.joint)
     town = read_town(sources.net, sources.additional, options, Report())
@@ -68,7 +69,8 @@ def routed(run: Run, mapping: Map, map_path: str, wished: Wished, where: str) ->
 
 
 def doubts(search: Search, seeds: Sequence[int]) -> Iterator[str]:
-    """What speaks against ways that a search found, for runs with some seeds."""
+    """What speaks against ways that a search found, for runs with the seeds of a study, a text each: a gap above the
+    one asked for, or seeds that the search used too."""
     if search.best.gap > ASKED.gap:
         yield (
             f"its ways have a gap of {100 * search.best.gap:.1f} % by the search's own seed, of {100 * ASKED.gap:g} "

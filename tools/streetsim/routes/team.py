@@ -13,13 +13,15 @@ CLUSTER_PARTS = 16  # of a search
 
 
 class Team:
-    """Whatever the number of its workers, it gives the same."""
+    """The workers of a search; whatever their number, the results are the same."""
 
     def __init__(self, workers: Machines, parts: int) -> None:
+        """parts: into how many tasks a routing is cut."""
         self.workers, self.parts = workers, parts
 
     def search(self, wishes: Sequence[Wish], costs: Costs, shut: Shut | None = None) -> list[Found]:
-        """What the router finds for wishes, by trip; shut: times by edge."""
+        """What the router finds for wishes, in the order of trips; shut: (first, last) seconds by edge or movement,
+        None: nothing is shut."""
         parts = parts_of(wishes, self.parts)
         tasks = [(f"part {at} of a search", search_part, 0, part, costs, shut) for at, part in enumerate(parts, 1)]
         return sorted((found for part in self.workers.ordered(tasks) for found in part), key=lambda found: found.trip)
@@ -27,8 +29,8 @@ class Team:
     def runs(
         self, cases: Sequence[Loaded], expected: Costs, seeds: Sequence[int], passed: Sequence[Passed | None]
     ) -> list[list[Outcome]]:
-        """What runs of some cases with some seeds show, by case and seed; passed: of each seed, when those passed who
-        go first, none where nobody waits."""
+        """What runs of some cases with each seed show, by case and then by seed. passed: for each seed, when those who
+        go first passed in the run before; None where nobody waits for them."""
         pairs = list(zip(seeds, passed, strict=True))
         tasks = [
             (f"the run with seed {seed}", watched, 0, loaded.run, loaded.mapping, expected, seed, before)
@@ -38,7 +40,8 @@ class Team:
         return [[next(outcomes) for _ in seeds] for _ in cases]
 
     def checks(self, loaded: Loaded, expected: Costs, seeds: Sequence[int]) -> list[Outcome]:
-        """The same of runs with rounds of their own."""
+        """The outcomes of runs with each seed, each of which first finds its own gaps for those who give way without a
+        light."""
         tasks = [
             (f"the run with seed {seed}", checked, 0, loaded.run, loaded.mapping, expected, seed) for seed in seeds
         ]
@@ -47,7 +50,7 @@ class Team:
 
 @contextlib.contextmanager
 def team(ground: Ground, jobs: int, cluster: str | None) -> Iterator[Team]:
-    """So many processes of this machine, or the workers of a cluster (HOST:PORT)."""
+    """A team of so many processes of this machine (jobs), or of the workers of a cluster (HOST:PORT, or None)."""
     with machines(jobs, cluster, [ground]) as workers:
         yield Team(workers, CLUSTER_PARTS if cluster else jobs)
 

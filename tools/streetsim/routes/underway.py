@@ -14,7 +14,8 @@ from streetsim.ways.trips import Trip
 
 @dataclass(frozen=True, slots=True)
 class Waiting:
-    """A vehicle that has not departed, or one on the road, which departs now. plan: links, from the one where it is."""
+    """A vehicle that gets another way: one that has not departed, or one on the road, whose depart is now. plan: links,
+    from the one where it is."""
 
     name: str
     depart: int
@@ -23,31 +24,33 @@ class Waiting:
 
 @dataclass(slots=True)
 class Turning:
-    """Another way of a vehicle on the road. ahead: links up to the one behind which it begins;
-    rest: the links from there on; due: the clock before which nobody can be there."""
+    """Another way of a vehicle on the road. ahead: the links that it drives first; rest: the links after them; due: the
+    clock before which it need not be looked at."""
 
     ahead: Path
     rest: Path
     due: int
 
     def soonest(self, links: Sequence[MapLink], link: int, cell: int | None) -> int:
-        """Steps, at least, until a vehicle on a link is behind the links ahead. cell: none at the end of its link."""
+        """The least steps until a vehicle, at a cell of a link, is behind the links ahead. cell: None where it is at
+        the link's end."""
         left = self.ahead[self.ahead.index(link) :]
         cells = sum(links[at].cells for at in left) - (links[link].cells if cell is None else cell + 1)
         return max(1, int(cells / max(links[at].limit for at in left)))
 
 
 def turning(plan: Path, way: Path, clock: int) -> Turning:
-    """How a vehicle leaves its plan at a clock for a way from the same link on, or from one beside it."""
+    """How a vehicle leaves its plan for another way, which begins on the same link or on one beside it; clock: its
+    due."""
     both = enumerate(zip(plan, way))
     common = max(1, next((at for at, (one, other) in both if one != other), min(len(plan), len(way))))
     return Turning(plan[:common], way[common:], clock)
 
 
 class WaysRound:
-    """Shortest ways over the links of a run's map, by free speed, the waits at signals, and the delays that the
-    volumes of all whose plans are given would make. Links and not edges are searched, as turns between parallel links
-    cannot be added under way."""
+    """Shortest ways over the links of a run's map, with the delays that the volumes of all given plans would make at
+    free speed and the present signals. Links, not edges, are searched, as turns between parallel links cannot be added
+    under way."""
 
     def __init__(self, mapping: Map, dawdle: float) -> None:
         """dawdle: the chance to go on by a cell less, 0 to 1."""
@@ -63,8 +66,9 @@ class WaysRound:
         times: tuple[float, float],
         seed: int,
     ) -> dict[str, Path]:
-        """The other plans of those who would come to shut edges from one second to another, by name;
-        none for who begins or ends there, or has no way round. signals: commands as they hold now."""
+        """The new plans, by name, of those who would come to shut edges within times (first and last second). Vehicles
+        that begin or end there, drive a round, or have no way round are left out. vehicles: all that count for the
+        volumes; signals: the signal commands in force."""
         free = free_seconds(self.graph, self.by_link, signals, self.dawdle)
         closed = self.shut(shut, times)
         trips = sorted((trip_of(one) for one in vehicles), key=lambda trip: trip.depart)
@@ -83,12 +87,12 @@ class WaysRound:
         return {trip.name: trip.path for trip in coming if trip.path and trip.path != plans[trip.name]}
 
     def is_round(self, trip: Trip) -> bool:
-        """Whether a trip ends on the edge where it begins, so that its way is what it is for."""
+        """Whether a trip ends on the edge where it begins: its way is then its purpose, and stays."""
         return self.mapping.links[trip.origin].edge == self.mapping.links[trip.target].edge
 
     def shut(self, edges: Collection[str], times: tuple[float, float]) -> Shut:
-        """The times in which links of edges are not to be entered: also so shortly before that one would not come past
-        the works."""
+        """The seconds in which the links of edges are not to be entered, {link: [(first, last)]}: also so shortly
+        before times that one would not come past the works."""
         begin, end = times
         driving = FreeFlow(self.mapping, self.dawdle).driving
         return {
@@ -96,7 +100,8 @@ class WaysRound:
         }
 
     def search(self, wishes: Sequence[Wish], costs: Costs, shut: Mapping) -> list[Found]:
-        """The best ways over the parallel links of the edges where trips begin and end."""
+        """The best way of each wish, over all parallel links of the edges where it begins and ends; its path is empty
+        where there is none."""
         router, best = Router(self.graph, costs, shut), {wish.trip: Found(wish.trip, (), FAR, FAR) for wish in wishes}
         for last, wish in sorted((last, wish) for wish in wishes for last in self.beside(wish.target)):
             for first in self.beside(wish.origin):
@@ -106,12 +111,12 @@ class WaysRound:
         return list(best.values())
 
     def beside(self, link: int) -> list[int]:
-        """The links of the edge of a link, itself with them."""
+        """All links of the edge of a link, this link among them."""
         return self.mapping.links_of[self.mapping.links[link].edge]
 
 
 def trip_of(vehicle: Waiting) -> Trip:
-    """A vehicle as a router's trip, over links."""
+    """A vehicle as a trip of a router that works on links."""
     plan = tuple(vehicle.plan)
     return Trip(vehicle.name, float(vehicle.depart), plan[0], plan[-1], "", plan, float(vehicle.depart))
 
@@ -119,8 +124,8 @@ def trip_of(vehicle: Waiting) -> Trip:
 def shut_edges(
     mapping: Map, edges: Iterable[str], closed: Mapping[tuple[int, int], Sequence[tuple[int, int]]]
 ) -> list[str]:
-    """Of some edges those that nobody can pass, as all lanes of each link are closed at one place.
-    closed: of (link, lane), cells."""
+    """Those of some edges that nobody can pass, as all lanes of each of their links are closed at one place. closed:
+    the closed cells, (first, last), by (link, lane)."""
     return [
         edge
         for edge in edges
@@ -129,8 +134,8 @@ def shut_edges(
 
 
 def is_shut(link: int, lanes: int, closed: Mapping[tuple[int, int], Sequence[tuple[int, int]]]) -> bool:
-    """Whether all lanes of a link are closed side by side, or so that nobody changes from one to the
-    other between the works."""
+    """Whether nobody gets past the closed cells of a link of so many lanes: all lanes are closed side by side, or
+    without room to change lanes between. closed: as of shut_edges."""
     places = [(0, 10**9)]
     for lane in range(lanes):
         places = [

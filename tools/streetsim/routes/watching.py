@@ -1,5 +1,5 @@
-"""A run that is watched: where its vehicles are seen now and then,
-what movements took by that, and who passed first."""
+"""A run that is watched: where its vehicles are seen at looks, what movements took by that, and when those passed who
+go first."""
 import resource
 from collections.abc import Mapping, Sequence
 from dataclasses import dataclass, replace
@@ -29,9 +29,9 @@ from streetsim.works.watched import doubts_of
 
 @dataclass(frozen=True, slots=True)
 class Ground:
-    """What all runs and searches of a network stand on. program: its path; digest: of its file; width: seconds of a
-    slice; rounds: by which vehicles give way without a light in a run that counts, 0 where nobody does; driven: whether
-    detectors drive lights."""
+    """What all runs and searches of a network stand on. program: its path; digest: of that file, None: not checked;
+    width: seconds of a slice; until: the last clock; rounds: by which vehicles give way without a light in check runs,
+    0: nobody gives way; driven: whether detectors drive lights."""
 
     program: str
     digest: str | None
@@ -42,18 +42,18 @@ class Ground:
     driven: bool = True
 
     def lights(self, run: Run, mapping: Map) -> Lights:
-        """The lights of a run that detectors drive."""
+        """The lights of a run that detectors drive; none where they are not to."""
         return driven_lights(run, mapping) if self.driven and mapping.actuated else LISTED
 
     @property
     def slices(self) -> int:
-        """How many slices runs may have."""
+        """How many slices of width seconds a run may have."""
         return self.until // self.width + 1
 
 
 @dataclass(slots=True)
 class Outcome:
-    """What a run gave, trip by trip. A trip that has not arrived counts until the end of the run."""
+    """What a run gave, trip by trip. A trip that has not arrived counts in the mean until the end of the run."""
 
     observed: Observed
     entries: list[float]  # when each came on the road, or its wished departure
@@ -73,11 +73,11 @@ class Outcome:
 
 
 class Watcher(Recorder):
-    """Runs with rescues until all have arrived, and notes where each vehicle was seen, and when those passed who go
-    first; makes no tables."""
+    """Makes a run with rescues until all have arrived or its last clock has come; notes where each vehicle was seen,
+    and when those passed who go first. It makes no tables."""
 
     def __init__(self, sim: Client, run: Run, mapping: Map, settings: Settings, giving: bool) -> None:
-        """giving: whether vehicles give way without a light."""
+        """giving: whether vehicles give way without a light, so that those who go first are looked at more often."""
         super().__init__(sim, run, mapping, settings, None, lambda *_: None)
         dawdle = run.load.command["dawdle"]
         driving = FreeFlow(mapping, dawdle / 1000).driving
@@ -88,11 +88,11 @@ class Watcher(Recorder):
         self.seen: list[list[Sight]] = [[] for _ in run.enters]
 
     def asking(self) -> Asking:
-        """A look at all lanes each minute, and more often at those of who goes first."""
+        """What is asked: all lanes each minute, and each EVERY seconds where there are lanes of those who go first."""
         return Asking(EVERY if self.first else MINUTE, [], 0)
 
     def record(self) -> Records:
-        """Makes the whole run."""
+        """Makes the whole run; gives its records."""
         records = super().record()
         if self.first:
             for owner, end in enumerate(records.ends):
@@ -101,7 +101,7 @@ class Watcher(Recorder):
         return records
 
     def look(self, clock: int) -> None:
-        """All that is asked at a clock; ends the run where all have ended."""
+        """Asks what is due at a clock; ends the run where all vehicles have ended."""
         if self.first:
             self.polled = self.places if clock % MINUTE == 0 else self.first
         super().look(clock)
@@ -111,14 +111,14 @@ class Watcher(Recorder):
                 self.end_at(clock)
 
     def note_lanes(self, clock: int, lanes: Mapping[Place, Lane]) -> None:
-        """Notes who is seen by a look at lanes, each minute or of those who go first."""
+        """Notes who is seen on lanes: at a full minute everybody, and those who go first at each look."""
         if clock % MINUTE == 0:
             self.note_all(clock, lanes)
         if self.first:
             self.note_passings(clock, lanes)
 
     def note_all(self, clock: int, lanes: Mapping[Place, Lane]) -> None:
-        """Notes where all vehicles on some lanes are."""
+        """Notes where each vehicle on some lanes is, in a cell or past the stop line."""
         for (link, _), reply in lanes.items():
             for car, cell, speed, *_ in reply.cells:
                 self.note(self.owners[car], clock, link, cell, speed)
@@ -126,7 +126,7 @@ class Watcher(Recorder):
                 self.note_at_end(self.owners[car], clock, link)
 
     def note_passings(self, clock: int, lanes: Mapping[Place, Lane]) -> None:
-        """Notes who is seen on the lanes of those who go first."""
+        """Notes the vehicles on some lanes for the passing of stop lines."""
         for (link, lane), reply in lanes.items():
             for car, cell, *_ in reply.cells:
                 self.passings.note(self.owners[car], clock, link, lane, cell)
@@ -134,23 +134,24 @@ class Watcher(Recorder):
                 self.passings.note(self.owners[car], clock, link, lane, self.mapping.links[link].cells, True)
 
     def note(self, owner: int, clock: int, link: int, cell: int, speed: int) -> None:
-        """Notes a vehicle of the file in a cell; speed: cells a step."""
+        """Notes that a vehicle, by its number in the file, is in a cell of a link; speed: cells a step."""
         self.seen[owner].append(Sight(clock, link, (cell + 1) * self.scale[link], speed))
 
     def note_at_end(self, owner: int, clock: int, link: int) -> None:
-        """Notes a vehicle of the file past the stop line of a link."""
+        """Notes that a vehicle, by its number in the file, is past the stop line of a link, and stands."""
         self.seen[owner].append(Sight(clock, link, self.driving[link], 0))
 
 
 def watched(ground: Ground, run: Run, mapping: Map, expected: Costs, seed: int, passed: Passed | None) -> Outcome:
-    """One run with a seed, and what it showed. expected: costs by which what was lost between two sights is dealt out;
-    passed: when those passed who go first, in the run before, none where nobody waits."""
+    """Makes one run with a seed and gives what it showed. expected: costs by which time lost between two sights is
+    dealt out; passed: when those who go first passed in the run before, None: nobody waits for them."""
     lines = waiting_lines(passed, mapping, run.start()) if passed else []
     return observed_run(ground, with_lines(seeded(run, seed), lines), mapping, expected, seed)
 
 
 def checked(ground: Ground, run: Run, mapping: Map, expected: Costs, seed: int) -> Outcome:
-    """One run with a seed, by rounds with this seed alone, as streetsim-run makes them, and what it showed."""
+    """Makes one run with a seed, in which vehicles give way by rounds with this seed alone, as in streetsim-run, and
+    gives what it showed. expected: as of watched."""
     run, serve = seeded(run, seed), partial(serving, ground.program, run.path)
     settings = Settings(ground.until, lights=ground.lights(run, mapping))
     lines, _ = gaps_of(run, mapping, settings, ground.rounds, serve, lambda *_: None)
@@ -158,7 +159,8 @@ def checked(ground: Ground, run: Run, mapping: Map, expected: Costs, seed: int) 
 
 
 def observed_run(ground: Ground, run: Run, mapping: Map, expected: Costs, seed: int) -> Outcome:
-    """A run as it stands, and what it showed; seed: for the Fault where the program refuses it."""
+    """Makes a run as it is and gives what it showed; Fault where the program refuses it. seed: named in the Fault, no
+    more; expected: as of watched."""
     before, giving = resource.getrusage(resource.RUSAGE_CHILDREN), bool(ground.rounds and mapping.yields)
     try:
         with Client(ground.program) as sim:
@@ -183,7 +185,8 @@ def outcome_of(
     spent: float,
     passed: Passed,
 ) -> Outcome:
-    """What a run showed, of where its vehicles were seen and when they ended; spent: seconds of the processor."""
+    """What a run showed. seen: the sights of each vehicle; records: when vehicles ended, and censuses; spent: seconds
+    of the processor; passed: when those who go first passed."""
     observed = nothing_observed(len(ground.graph.movements), ground.slices)
     entries, ends, total = [], [], 0
     for line, sights, last in zip(run.enters, seen, records.ends, strict=True):
@@ -204,5 +207,5 @@ def outcome_of(
 
 
 def arrival_of(last: Vehicle | None) -> int | None:
-    """The clock at which a vehicle arrived, of its last reply; none where it did not."""
+    """The clock at which a vehicle arrived, of its last reply; None where it did not arrive, or never departed."""
     return last.step + 1 if last is not None and last.state == "arrived" and last.step is not None else None
