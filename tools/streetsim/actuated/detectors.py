@@ -43,20 +43,20 @@ class Way:
 
 @dataclass(slots=True, frozen=True)
 class LitLane:
-    """A lane that ends at the light."""
+    """A lane that ends at the light, with those before it on which its detector may lie."""
 
     name: str
     speed: float  # metres a second
     alone: bool  # its edge has no other
-    stretches: tuple[Stretch, ...]  # itself, and those before it
+    stretches: tuple[Stretch, ...]  # itself, then those before it against the traffic
 
 
 @dataclass(slots=True, frozen=True)
 class Layout:
-    """What lies at a light, and the parameters of its program."""
+    """What lies at an actuated light, and the parameters of its program."""
 
     ways: Sequence[Way]
-    lanes: Mapping[str, LitLane]
+    lanes: Mapping[str, LitLane]  # by name
     parameters: Mapping[str, str] = field(default_factory=dict)
 
     def value(self, name: str, usual: float, lane: str = "") -> float:
@@ -65,7 +65,7 @@ class Layout:
         return float(self.parameters.get(f"{name}:{lane}", self.parameters.get(name, usual)))
 
     def indexes(self) -> dict[str, set[int]]:
-        """The places in a state of each lane's ways."""
+        """By lane the places in a state, from 0, of the signals of its ways."""
         found: defaultdict[str, set[int]] = defaultdict(set)
         for way in self.ways:
             found[way.lane].add(way.index)

@@ -156,7 +156,8 @@ class Driver:
 
 
 def controller_of(light: Light, mapping: Map, meters: range) -> Controller:
-    """What drives a light, as its type has it. meters: its detectors by number, from 0 through those of all lights."""
+    """What drives a light, as its type has it. meters: the places of its detectors among those of all lights, from
+    0."""
     if isinstance(light, Driven):
         logic = light.logic()
         return Controller(light, logic, partial(Shown(light, mapping).plans, logic), meters)

@@ -54,7 +54,7 @@ class Phase:
 class Ended(NamedTuple):
     """A phase that has ended."""
 
-    phase: int  # its place in the program, or of a NEMA light its name
+    phase: int  # its place in the program, from 0; of a NEMA light its number
     begin: int  # clock
     seconds: int
     why: str  # one of the words BY_.. and LISTED; empty where it is still under way

@@ -135,6 +135,7 @@ class Nema:
     before."""
 
     def __init__(self, rings: Rings) -> None:
+        """rings: the program; the light begins with `start`."""
         self.rings, self.now, self.due, self.changes = rings, 0, 0, 0
         self.ended: list[Ended] = []
         known = [one.least_recall or one.most_recall for one in rings.phases]

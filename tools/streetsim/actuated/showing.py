@@ -26,6 +26,7 @@ class Shown:
     """What the nodes of one actuated light show in one run."""
 
     def __init__(self, light: Driven, mapping: Map) -> None:
+        """light: what is driven; mapping: of the run whose nodes show it."""
         self.light, self.limits = light, {link.edge: link.limit for link in mapping.links}
         cycle = [(float(phase.seconds), phase.state) for phase in light.phases]
         self.nodes = [(one, lit_node(light.name, one, mapping, light.offset, cycle)) for one in light.nodes]

@@ -23,6 +23,7 @@ class ShownRings:
     """What the nodes of one NEMA light show in one run."""
 
     def __init__(self, light: DrivenRings, mapping: Map) -> None:
+        """light: what is driven; mapping: of the run whose nodes show it."""
         self.light, self.limits = light, {link.edge: link.limit for link in mapping.links}
         phases = light.rings.phases
         cycle = [(one.usual, one.state) for one in phases]

@@ -40,7 +40,7 @@ class Refused(Exception):
 
 
 def refusal(number: int, name: str, words: str) -> type[Refused]:
-    """The class of a refusal: its number in a reply, its name there, and what it says."""
+    """Makes the class of a refusal: its number in a reply, its name there, and the doc that says what it means."""
     return type(name, (Refused,), {"number": number, "__doc__": words, "__module__": __name__})
 
 
@@ -67,7 +67,7 @@ REFUSALS = {kind.number: kind for kind in Refused.__subclasses__()}
 
 
 class Starved(Exception):
-    """Memory was wanting: the command was not done and may be sent again."""
+    """The program had too little memory: the command was not done and may be sent again."""
 
     def __eq__(self, other: object) -> bool:
         """All are equal, so that a list of replies can be compared."""
@@ -84,13 +84,14 @@ class ProgramEnded(Exception):
     """The program ended before it replied."""
 
     def __init__(self, status: int, stderr: str) -> None:
+        """status: of the program; stderr: what it wrote on standard error."""
         self.status, self.stderr = status, stderr
         super().__init__(f"the program ended with status {status}: {stderr.strip() or 'nothing on standard error'}")
 
 
 @dataclass(slots=True, frozen=True)
 class Loaded:
-    """How many there are of each, the reply to a load."""
+    """How many links, nodes and turns were loaded, the reply to load."""
 
     links: int
     nodes: int
@@ -99,7 +100,7 @@ class Loaded:
 
 @dataclass(slots=True, frozen=True)
 class Short:
-    """An advance that made `short` of its steps."""
+    """The reply to an advance that made only `short` of its steps; clock: after them."""
 
     clock: int
     short: int
@@ -294,6 +295,7 @@ class Client:
         self.chunk = min(CHUNK, fcntl.fcntl(self.input.fileno(), fcntl.F_GETPIPE_SZ) * 9 // 10)
 
     def __enter__(self) -> Self:
+        """Gives the client itself; the program runs since it was made."""
         return self
 
     def __exit__(self, kind: type[BaseException] | None, *_: object) -> None:
@@ -341,7 +343,7 @@ class Client:
             yield from self.turn(chunk)
 
     def turn(self, chunk: list[bytes]) -> list[bytes]:
-        """The replies to lines that fit in the pipe, each with its end; ProgramEnded where fewer come."""
+        """Sends lines that fit in the pipe and gives the replies, each with its end; ProgramEnded where fewer come."""
         try:
             self.input.write(b"".join(chunk))
             self.input.flush()
@@ -358,7 +360,7 @@ class Client:
         return [read_reply(reply) for reply in self.exchange(map(line_of, commands))]
 
     def ask(self, cmd: str, **fields: Any) -> Any:
-        """The typed reply to a command of these fields; raises a refusal or Starved."""
+        """The typed reply to a command with these fields; raises what was refused, or Starved."""
         [reply] = self.batch([{"cmd": cmd, **fields}])
         if isinstance(reply, Exception):
             raise reply
@@ -375,8 +377,9 @@ class Client:
         seed: int = 0,
         start: int = 0,
     ) -> Loaded:
-        """Rows as in docs/LINES.md: nodes [id, residence, buffer], links [id, from, to, lanes, cells, limit], turns
-        [link, lane, next, next_lane]; zone: cells; dawdle, change: of 1,000; start: the clock."""
+        """Loads a network and begins its clock; rows as in docs/LINES.md: nodes [id, residence, buffer], links [id,
+        from, to, lanes, cells, limit], turns [link, lane, next, next_lane]; zone: cells of the turn zone; dawdle,
+        change: chances, of 1,000; start: the clock."""
         return self.ask(
             "load",
             nodes=nodes,

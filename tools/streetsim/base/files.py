@@ -69,17 +69,21 @@ class ZippedText:
     """Writes text, as UTF-8, to a gzip file without time or name inside."""
 
     def __init__(self, path: FilePath, mode: str) -> None:
+        """mode: w (new) or a (at the end)."""
         self.raw = open(path, f"{mode}b")
         self.zipped = gzip.GzipFile(filename="", fileobj=self.raw, mode="wb", mtime=0, compresslevel=6)
 
     def write(self, text: str) -> None:
+        """Writes a text, as UTF-8."""
         self.zipped.write(text.encode())
 
     def writelines(self, texts: Iterable[str]) -> None:
+        """Writes texts one after another; line ends are theirs."""
         for text in texts:
             self.write(text)
 
     def close(self) -> None:
+        """Ends the gzip file and closes it."""
         self.zipped.close()
         self.raw.close()
 
@@ -157,7 +161,8 @@ def attribute(path: FilePath, element: Element, name: str, convert: Callable[[st
 def optional(
     path: FilePath, element: Element, name: str, convert: Callable[[str], Value], default: Other
 ) -> Value | Other:
-    """An attribute, converted, or the default where it is absent; Fault where it does not convert."""
+    """An attribute, converted; the default, as it is, where the element does not have it; Fault where it does not
+    convert."""
     return default if element.get(name) is None else attribute(path, element, name, convert)
 
 
@@ -219,7 +224,7 @@ def read_json(path: FilePath, keys: Iterable[str]) -> Json:
 
 
 def read_json_list(path: FilePath) -> list[Json]:
-    """The JSON list of objects of a file; Fault where it is none."""
+    """The list of JSON objects of a file; Fault where it holds anything else."""
     with reading(path), open_text(path) as file:
         value = json.load(file)
     if not isinstance(value, list) or not all(isinstance(one, dict) for one in value):

@@ -54,8 +54,8 @@ def new_file(path: str) -> str:
 
 
 def hold_new(make: Callable[[], str]) -> tuple[str, int]:
-    """The path of what `make` makes, and the descriptor by which it is held; made anew where another tool has just
-    taken it for left."""
+    """The path of what `make` makes, and the descriptor by which a lock on it is held, for the caller to close. Made
+    anew where another tool has just removed it, as it was not locked yet."""
     while True:
         path = make()
         with contextlib.suppress(FileNotFoundError):

@@ -20,7 +20,8 @@ def installed(name: str) -> Path | None:
 
 
 def files_of(example: Path) -> list[Path]:
-    """The files of an example, which may be one file itself, without pictures."""
+    """The files of an example, sorted, which is a folder or one file itself; pictures and Python's caches are left
+    out."""
     paths = sorted(example.rglob("*")) if example.is_dir() else [example]
     hidden = ("__pycache__", *PICTURES)
     return [path for path in paths if path.is_file() and not {path.suffix, path.parent.name}.intersection(hidden)]

@@ -41,7 +41,7 @@ class TerminalLine:
         self.width = len(text)
 
     def end(self) -> None:
-        """Takes the line away."""
+        """Takes the line away where one was written over."""
         if self.width:
             self.write(f"{'':{self.width}}\r")
             self.width = 0
@@ -62,7 +62,8 @@ class Meanwhile(TerminalLine):
             self.write_over(self.line(done, more, self.seconds()))
 
     def line(self, done: int, more: str, seconds: float) -> str:
-        """The line's text; seconds: since the begin."""
+        """The line's text; done: parts done; more: what else there is to say, or empty; seconds: since the begin of the
+        work."""
         left = seconds * (self.total - done) / max(1, done) / 60
         parts = [
             f"[{bar(done, self.total)}] {done:,} of {self.total:,} {self.what}",
@@ -93,7 +94,7 @@ class UnderWay(TerminalLine):
             self.write(f"{self.line(self.seconds())} ", "\n" if ended else "")
 
     def line(self, seconds: float) -> str:
-        """The line's text; seconds: since the begin."""
+        """The line's text; seconds: since the begin of the work."""
         done, runs = sum(self.clocks), len(self.clocks)
         over = sum(clock >= self.until for clock in self.clocks)
         place = f"{self.clocks[0]:,} s" if runs == 1 else f"{over} of {runs} runs done"
@@ -115,11 +116,13 @@ class Slow(TerminalLine):
         self.thread = threading.Thread(target=self.show, daemon=True)
 
     def __enter__(self) -> Self:
+        """Begins to wait for the line's time; nothing where the stream is no terminal."""
         if self.shown:
             self.thread.start()
         return self
 
     def __exit__(self, *_: object) -> None:
+        """Takes the line away."""
         self.ended.set()
         if self.thread.ident is not None:
             self.thread.join()
@@ -144,13 +147,15 @@ class Stopping:
         self.asked = False
 
     def __enter__(self) -> Self:
+        """Takes Ctrl-C over from Python."""
         self.before: Any = signal.signal(signal.SIGINT, self.note)
         return self
 
     def __exit__(self, *_: object) -> None:
+        """Gives Ctrl-C back."""
         signal.signal(signal.SIGINT, self.before)
 
     def note(self, _number: int, _frame: FrameType | None) -> None:
-        """Handles the first Ctrl-C."""
+        """Handles the first Ctrl-C: sets `asked` and gives Ctrl-C back."""
         self.asked = True
         signal.signal(signal.SIGINT, self.before)

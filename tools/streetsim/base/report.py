@@ -19,7 +19,7 @@ class Report:
         self.skipped: Counter[str] = Counter()  # vehicles that do not drive, by reason
 
     def clear(self) -> None:
-        """Forgets all, where an import begins anew."""
+        """Forgets all that was noted, where an import begins again."""
         self.__init__()  # type: ignore[misc]  # nobody derives a class from this one
 
     def warn(self, text: str, names: Iterable[str] = (), do: str = "", light: bool = False) -> None:

@@ -23,7 +23,7 @@ class Parser(argparse.ArgumentParser):
         self._negative_number_matcher = re.compile("-[^-]")  # what argparse takes for a value all the same
 
     def parse_known_args(self, args: Any = None, namespace: Any = None) -> Any:
-        """As argparse's; words that name nothing are a Fault."""
+        """As argparse's; Fault for a word without a name in it, as `naming_nothing` tells."""
         if (told := naming_nothing(sys.argv[1:] if args is None else list(args))) is not None:
             self.error(told)
         return super().parse_known_args(args, namespace)

@@ -42,7 +42,7 @@ def folder_again(words: argparse.Namespace, out: str) -> str:
 
 
 def is_study(folder: str) -> bool:
-    """Whether a folder is of streetsim-study."""
+    """Whether a folder was written by streetsim-study."""
     return os.path.exists(f"{folder}/{MADE}")
 
 

@@ -120,7 +120,7 @@ def thinned(pairs: Sequence[Pair], ways: int, most: int, seed: int) -> tuple[lis
 
 @dataclass(frozen=True, slots=True)
 class Times:
-    """Seconds of each movement where nobody is in the way: with the mean waits at signals, and without them."""
+    """Seconds of each movement without other traffic: whole with the mean waits at signals, driven without them."""
 
     whole: Sequence[float]
     driven: Sequence[float]

@@ -15,7 +15,7 @@ MOST_SECONDS = 1_000_000_000
 
 @dataclass(frozen=True, slots=True)
 class Row:
-    """A row of a table: texts by column."""
+    """A row of a table: texts by column; line: of the file, from 1."""
 
     path: FilePath
     line: int

@@ -18,7 +18,7 @@ Key = tuple[int, int, str]  # begin and end in seconds, class
 
 
 class Contradiction(NamedTuple):
-    """Two numbers of one place that should be about equal, and the lines that tell them."""
+    """Two numbers of vehicles in one period that should be about equal, and the lines of files that tell them."""
 
     place: str
     begin: int

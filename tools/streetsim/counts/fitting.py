@@ -70,7 +70,7 @@ class Ends:
     weight and kind (1: outside, 0: within) are those of each place."""
 
     def __init__(self, names: Sequence[str], ends: Sequence[End]) -> None:
-        """names, ends: of each way's place, in the ways' order."""
+        """names: of each way's place; ends: what is expected of that place; both in the ways' order."""
         numpy, _ = needed()
         numbers = {name: at for at, name in enumerate(dict.fromkeys(names))}
         self.of_way = numpy.array([numbers[name] for name in names])

@@ -21,7 +21,7 @@ GROUPS = ("begin", "end", "group", "counts", "counted", "passed", "difference_pe
 
 @dataclass(frozen=True, slots=True)
 class Compared:
-    """Vehicles of one place in one period: counted, and those that passed in a run."""
+    """Vehicles of one place in one period, in seconds: those that were counted, and those that passed in a run."""
 
     begin: int
     end: int
@@ -38,7 +38,7 @@ class Compared:
         return geh(self.counted / hours, self.passed / hours)
 
     def row(self) -> tuple[object, ...]:
-        """Its row of fit.csv."""
+        """The row of fit.csv that stands for it."""
         source, *others = self.edges
         ends = source, " ".join(others)
         values = f"{self.counted:g}", f"{self.passed:g}", f"{self.geh:.2f}"
@@ -47,12 +47,12 @@ class Compared:
 
 @dataclass(frozen=True, slots=True)
 class Sums:
-    """Counts of one hour, or of a screen line in it."""
+    """Counts of one hour of the clock together, or of one screen line in it; begin and end in seconds."""
 
     begin: int
     end: int
-    group: str
-    counts: int
+    group: str  # the screen line; empty: all places
+    counts: int  # how many
     good: int  # counts whose GEH is below 5
     counted: float
     passed: float
@@ -74,13 +74,13 @@ class Sums:
         return self.share >= SHARE and abs(self.difference) <= TOTAL
 
     def row(self) -> tuple[object, ...]:
-        """Its row of hours.csv."""
+        """The row of hours.csv that stands for it."""
         told = "passed" if self.fits else "not passed"
         totals = f"{self.counted:g}", f"{self.passed:g}", f"{100 * self.difference:.1f}"
         return (self.begin, self.end, self.counts, self.good, f"{100 * self.share:.1f}", *totals, told)
 
     def group_row(self) -> tuple[object, ...]:
-        """Its row of groups.csv."""
+        """The row of groups.csv that stands for it."""
         hours = (self.end - self.begin) / HOUR
         geh = f"{geh(self.counted / hours, self.passed / hours):.2f}"
         totals = f"{self.counted:g}", f"{self.passed:g}", f"{100 * self.difference:.1f}"
@@ -99,7 +99,7 @@ class Judged:
 
     @property
     def fits(self) -> bool:
-        """Whether all hours fit."""
+        """Whether each hour meets the criteria."""
         return all(one.fits for one in self.hours)
 
     @property

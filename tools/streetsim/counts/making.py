@@ -105,7 +105,8 @@ def tell_inputs(basis: Basis, fitted: Fitted) -> None:
 
 
 def write(places: Outputs, made: Made, setting: Mapping[str, Any]) -> None:
-    """Writes all that was asked for; setting: what goes into setting.json."""
+    """Writes the vehicles, the tables and pictures, and the run with its map where they are asked for; setting: what
+    goes into setting.json."""
     basis = made.basis
     loaded = made.best.loaded if made.best else basis.town.loaded(made.trips)
     write_routes(places.routes, Trips(list(made.trips), types_of(basis)), basis.town.graph)
@@ -125,7 +126,7 @@ def types_of(basis: Basis) -> list[str]:
 
 
 def setting_of(asked: Asked, made: Made, runs: int) -> dict[str, Any]:
-    """What a demand was made of and came to, for setting.json; runs: that were allowed."""
+    """What a demand was made of and came to, for setting.json; runs: how many were allowed."""
     return {
         **asdict(asked),
         "runs": runs,

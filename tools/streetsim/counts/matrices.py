@@ -55,7 +55,7 @@ def of_table(path: FilePath, period: tuple[int, int] | None) -> Iterator[Cell]:
 
 
 def of_sumo(path: FilePath) -> Iterator[Cell]:
-    """The cells of a tazRelation file."""
+    """The cells of a file of SUMO's tazRelations; Fault for any other element."""
     begin = end = 0
     for tag in tags(path, ("data", "meandata", "tazRelations")):
         if tag.name == "interval":
@@ -71,6 +71,7 @@ class Words:
     """The words of a matrix in O or V format, line by line; blank lines and comments (*) are left out."""
 
     def __init__(self, path: FilePath, lines: Iterable[str]) -> None:
+        """path: of the file, for faults; lines: all of it."""
         self.path, self.lines, self.line = path, enumerate(lines, 1), 0
 
     @property

@@ -50,6 +50,7 @@ class Places:
     """The places that were counted, found by the edges of a way. Counts are told by their place in the list."""
 
     def __init__(self, counts: Sequence[Count], graph: Graph) -> None:
+        """counts: all of them, in the order by which others name them."""
         self.counts = counts
         self.of: dict[Path, list[int]] = {}  # by edges: counts in order of their begin
         for at, count in enumerate(counts):

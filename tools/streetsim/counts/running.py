@@ -33,8 +33,9 @@ class Ran:
 
 
 def ran(ground: Ground, loaded: Loaded, expected: Costs, seed: int) -> Ran:
-    """One run of a demand, by rounds of giving way as streetsim-run makes them; Fault where the program refuses it.
-    expected: seconds of movements, by which what is lost between two looks at a vehicle is dealt out."""
+    """Makes one run of a demand, with rounds of giving way as streetsim-run makes them; Fault where the program refuses
+    it. expected: seconds of movements; by these the time between two looks at a vehicle is shared among the movements
+    that it made."""
     run, mapping = with_load(loaded.run, seed=seed), loaded.mapping
     if ground.rounds and mapping.yields:
         serve = partial(serving, ground.program, run.path)

@@ -219,7 +219,7 @@ def driven_in(folder: Folder) -> list[Driven]:
 
 
 def arrival_of(row: Mapping[str, str]) -> float | None:
-    """The clock at which a row of trips.csv arrived; none where it did not, or was rescued."""
+    """The clock at which the vehicle of a row of trips.csv arrived; none where it did not, or was rescued."""
     return float(row["arrival"]) if row["arrival"] and row["rescues"] == "0" else None
 
 
@@ -265,7 +265,7 @@ def places_in(lanes: Iterable[Sequence[object]]) -> Iterator[tuple[int, int]]:
 
 
 def kinds_of(mapping: Map) -> dict[int, str]:
-    """The vehicle class of each vehicle that the map names, by number; empty where it tells none."""
+    """The vehicle class of each vehicle that the map names, by number; empty text where it keeps none."""
     types = mapping.kinds.get("types", [])
     classes = [row[1] if len(row) > 1 else "" for row in types]
     return {car: classes[at] if at < len(classes) else "" for car, at in enumerate(mapping.kinds.get("type", []))}

@@ -20,7 +20,8 @@ class Turns:
     """By edge and time the next edges with their weights, and the edges at which ways end."""
 
     def __init__(self, ratios: Sequence[Ratio], sinks: set[str], net: SumoNet, graph: Graph) -> None:
-        """sinks: names of edges; Fault where the network lacks an edge or a connection that is named."""
+        """sinks: names of edges at which ways end; Fault where the network lacks an edge or a connection that is
+        named."""
         found: defaultdict[tuple[int, int, int], dict[int, float]] = defaultdict(dict)
         for one in ratios:
             check_edges([one.source, one.target], one.where, net)

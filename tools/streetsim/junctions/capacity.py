@@ -17,7 +17,7 @@ USUAL_LOST = -1.5  # seconds of each green; won, as some pass in yellow
 
 @dataclass(slots=True)
 class Use:
-    """What a lane passed in an interval, and how far it was used."""
+    """How many vehicles a lane passed in an interval, and its v/c."""
 
     passed: int = 0  # vehicles
     ratio: float = 0.0  # v/c, from 0; above 1 where more want to pass than can
@@ -34,7 +34,7 @@ def usual_flow(dawdle: float) -> float:
 
 @dataclass(slots=True)
 class Saturation:
-    """How a lane passes a queue."""
+    """How a lane passes a queue: its saturation flow and the time that is lost at the begin of green."""
 
     flow: float  # vehicles an hour of green
     lost: float  # seconds of each green that are lost at its begin; less than 0: won
@@ -78,8 +78,9 @@ def saturation(those: Sequence[Discharge]) -> Saturation:
 
 
 def is_alike(shown: Iterable[frozenset[int] | None], taken: set[int]) -> bool:
-    """Whether all vehicles of a lane have the same green: no second shows it to some of the links taken alone.
-    shown: for each second the links that have green, none for all."""
+    """Whether all vehicles of a lane have the same green: in no second have some of the links that are taken green
+    while others have not. shown: for each second the links that have green, none where there is no signal, which is
+    never alike; taken: the links to which vehicles go from the lane."""
     return all(green is not None and (not green & taken or green >= taken) for green in shown)
 
 
@@ -113,9 +114,10 @@ class Capacity:
         return Use(len(passages), ratio * (1 + self.growth(place, begin, open_) / len(passages)))
 
     def used(self, place: Place, begin: int, passages: Iterable[Passage], open_: Sequence[bool], flow: float) -> float:
-        """v/c of a lane whose vehicles do not all have the same green, 0 to 1: the share of its green seconds with a
-        vehicle on it that has stood, and a headway for each other one that passes. passages, open_ (whether each second
-        from the clock `begin` shows green): of the interval; flow: saturation flow, vehicles an hour."""
+        """v/c, 0 to 1, of a lane without a signal, or whose vehicles do not all have the same green: the share of its
+        green seconds with a vehicle on it that has stood, and a headway for each other one that passes. passages, open_
+        (whether each second from the clock `begin` shows green): of the interval; flow: saturation flow, vehicles an
+        hour."""
         stood, offset = self.logs[place].stood, begin - self.start
         waiting = sum(shown and stood[offset + second] > 0 for second, shown in enumerate(open_))
         alone = sum(not one.stood and one.alone for one in passages)

@@ -28,7 +28,7 @@ class Approach:
 
     @property
     def all_links(self) -> list[int]:
-        """The links of its edge, then of those before."""
+        """The links of its edge, then those of the edges before, the nearest first."""
         return [*self.links, *(link for links in self.before for link in links)]
 
 

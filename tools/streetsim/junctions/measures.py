@@ -112,7 +112,7 @@ class Measures:
         self.capacity = Capacity(self.greens, passages.logs, passed, self.flows, passages.start)
 
     def crossing(self, passage: Passage) -> Crossing | None:
-        """What a passage lost; none where the vehicle's plan ends on the approach."""
+        """What a vehicle lost on a passage over an approach; none where its plan ends on the approach."""
         plan = self.plans[passage.car]
         at = next((at for at, link in enumerate(plan) if self.mapping.links[link].edge == passage.edge), None)
         if at is None or at + 1 == len(plan):

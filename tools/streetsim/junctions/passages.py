@@ -46,7 +46,7 @@ class LaneLog:
 
 
 class Passages:
-    """The passages of a run over some approaches."""
+    """The passages of all vehicles of a run over some approaches, and what their lanes showed at each clock."""
 
     def __init__(self, mapping: Map, approaches: Mapping[str, Approach], start: int) -> None:
         """start: the clock at the run's begin."""
@@ -110,7 +110,7 @@ class Passages:
             passage.stood += 1  # waits before the next edge
 
     def finish(self, car: int, clock: int) -> None:
-        """Ends the passage of a vehicle that is no longer there at a clock."""
+        """Ends the passage of a vehicle that is on its approach no longer at a clock."""
         passage = self.here.pop(car)
         passage.end = clock
         passage.line = passage.line or clock

@@ -16,6 +16,7 @@ class Tables:
     in an interval have none."""
 
     def __init__(self, approaches: Mapping[str, Approach]) -> None:
+        """approaches: by edge, as `approaches_of` gives them."""
         self.by_junction: defaultdict[str, list[Approach]] = defaultdict(list)
         for approach in approaches.values():
             self.by_junction[approach.junction].append(approach)
@@ -75,7 +76,7 @@ class Tables:
         return {edge for edge, queue, metres in rows if fills(float(queue), float(metres))}
 
     def write(self, folder: str, names: Names) -> None:
-        """Writes the three tables into a folder."""
+        """Writes movements.csv, approaches.csv and junctions.csv into a folder; names: for the columns of names."""
         write_named(f"{folder}/movements.csv", MOVEMENTS, self.movements, names)
         write_named(f"{folder}/approaches.csv", APPROACHES, self.approaches, names)
         write_named(f"{folder}/junctions.csv", JUNCTIONS, self.junctions, names)

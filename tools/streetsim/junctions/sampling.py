@@ -42,7 +42,8 @@ class Sampled:
         arrivals: Sequence[int | None],
         interval: int,
     ) -> None:
-        """arrivals: the clock at which each vehicle of the run arrived, or none; interval: seconds of a row."""
+        """arrivals: the clock at which each vehicle of the run arrived, or none; interval: seconds of the intervals
+        that `interval` is asked for."""
         self.mapping, self.approaches, self.arrivals = mapping, approaches, arrivals
         self.plans: list[Sequence[int]] = [line.command["plan"] for line in run.enters]
         self.departs: list[int] = [line.command["depart"] for line in run.enters]
@@ -167,9 +168,9 @@ class Sampled:
         return found
 
     def ratio(self, at: int, place: Place, hourly: float) -> float:
-        """v/c of a lane in an interval by its number: by its saturation flow, or, where not all its vehicles have the
-        same green, by how often one was near the stop line at green; 0 where it was not seen green. hourly: vehicles an
-        hour that pass."""
+        """v/c of a lane in an interval by its number: by its saturation flow, or, without a signal and where not all
+        its vehicles have the same green, by how often one was near the stop line at green; 0 where it was not seen
+        green. hourly: vehicles an hour that pass."""
         seen = self.greens_seen[at, *place]
         if not seen:
             return 0.0

@@ -10,7 +10,7 @@ E1, E2 = "e1", "e2"
 
 @dataclass(slots=True, frozen=True)
 class Detector:
-    """A detector of an additional file, placed on the cells of a run."""
+    """A detector of an additional file of SUMO, placed on the cells of a run (link and lane by number)."""
 
     name: str
     kind: str  # e1 or e2

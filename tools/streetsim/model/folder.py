@@ -48,13 +48,13 @@ class Folder:
         return tables.read_table(f"{self.path}/queues.csv", tables.QUEUES)
 
     def works(self) -> list[dict[str, str]]:
-        """The rows of works.csv; Fault where the run had no works."""
+        """The rows of works.csv, in the order of places and periods; Fault where the run had no works."""
         if not os.path.exists(f"{self.path}/{tables.WORKS_FILE}"):
             raise Fault(f"{self.path}: no works in this run (streetsim-run --close)")
         return tables.read_table(f"{self.path}/{tables.WORKS_FILE}", tables.WORKS)
 
     def stops(self) -> list[dict[str, str]]:
-        """The rows of stops.csv; Fault where nobody stopped."""
+        """The rows of stops.csv; Fault where no vehicle had a stop."""
         if not os.path.exists(f"{self.path}/{tables.STOPS_FILE}"):
             raise Fault(f"{self.path}: no stops of vehicles in this run")
         return tables.read_table(f"{self.path}/{tables.STOPS_FILE}", tables.STOPS)
@@ -89,7 +89,8 @@ def seeds_in(path: str) -> list[int]:
 
 
 def read_folder(path: str) -> Folder:
-    """The folder of one run; Fault where it is none, or holds the runs of several seeds."""
+    """What streetsim-run left in the folder of one run; Fault where it is no such folder, or has the runs of several
+    seeds."""
     if not os.path.exists(f"{path}/{NAME}") and (seeds := seeds_in(path)):
         raise Fault(f"{path}: the runs of {len(seeds)} seeds: name one of them, {path}/seed-{seeds[0]}")
     value = read_json(f"{path}/{NAME}", ("map", "signals", "dawdle", "every", "period"))

@@ -15,7 +15,7 @@ class FreeFlow:
     second that is lost at a link's end, and how a vehicle gains speed: what routes and searches reckon with."""
 
     def __init__(self, mapping: Map, dawdle: float) -> None:
-        """dawdle: the chance to go on by a cell less, 0 to 1."""
+        """dawdle: the chance, 0 to 1, to go on by a cell a step less."""
         self.driving = [link.cells / max(0.001, link.limit - dawdle) for link in mapping.links]
         self.crossing = [mapping.nodes[link.end][3] for link in mapping.links]
 
@@ -29,7 +29,7 @@ class Alone:
     """Mean seconds of vehicles alone on their way, all lights green: what delays and losses are counted from."""
 
     def __init__(self, mapping: Map, dawdle: float) -> None:
-        """dawdle: the chance to go on by a cell less, 0 to 1."""
+        """dawdle: the chance, 0 to 1, to go on by a cell a step less."""
         self.mapping, self.slower = mapping, min(dawdle, 0.999)
 
     def on_link(self, link: int, before: int | None) -> float:
@@ -48,7 +48,7 @@ class Alone:
         return self.on_link(plan[at], plan[at - 1] if at else None) + self.across(plan[at])
 
     def trip(self, plan: Sequence[int]) -> float:
-        """Seconds from the wished departure to arrival; the first of them a vehicle stands."""
+        """Mean seconds of a plan from the wished departure to arrival; in the first of them a vehicle stands."""
         return 1 + sum(self.approach(plan, at) for at in range(len(plan))) - self.across(plan[-1])
 
 
@@ -61,8 +61,8 @@ def seconds_alone(cells: int, limit: int, slower: float, speed: int) -> float:
 
 @lru_cache(maxsize=1_000)
 def steps_by_cells(limit: int, slower: float) -> list[array[float]]:
-    """By speed and by cells: the mean steps of a vehicle that gains a cell a step in each, up to the limit, and goes on
-    by one less with a chance of `slower`."""
+    """By speed, and then by cells (0 to 1,000) that are to be left behind: the mean steps of a vehicle alone that gains
+    a cell a step in each step, up to the limit, and with the chance `slower` goes on by one less."""
     found = [array("d", [0.0]) for _ in range(limit + 1)]
     for cells in range(1, FAR + 1):
         for speed, steps in enumerate(found):

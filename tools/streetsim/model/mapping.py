@@ -107,7 +107,7 @@ class Map:
         return [(number, lane) for number, link in enumerate(self.links) for lane in range(len(link.lanes))]
 
     def written(self) -> Json:
-        """The file's content, which `map_from` reads."""
+        """The content of the map's file, as JSON, which `map_from` reads."""
         return {
             "nodes": self.nodes,
             "links": [list(asdict(link).values()) for link in self.links],
@@ -132,12 +132,12 @@ class Map:
 
 
 def read_map(path: FilePath) -> Map:
-    """The map of a file; Fault where it is none that streetsim-import wrote."""
+    """The map of a file that streetsim-import wrote; Fault for any other file."""
     return map_from(path, read_json(path, KEYS))
 
 
 def map_from(path: FilePath, value: Json) -> Map:
-    """The map of a file's content; path: for the Fault where it is none."""
+    """The map of the content of its file; path: for the Fault where it is no map."""
     try:
         detectors = [Detector(*detector) for detector in value.get("detectors", ())]
         links, turns = [MapLink(*link) for link in value["links"]], [MapTurn(*turn) for turn in value["turns"]]

@@ -19,6 +19,7 @@ class Names:
     """The names behind the ids of a map."""
 
     def __init__(self, mapping: Map) -> None:
+        """mapping: whose names they are, those of one's own (`read_own`) among them."""
         self.mapping = mapping
         self.edges: Mapping[str, str] = mapping.names.get(EDGES, {})
         self.junctions: Mapping[str, str] = mapping.names.get(JUNCTIONS, {})
@@ -40,7 +41,7 @@ class Names:
         return {node: " / ".join(names[:MOST_STREETS]) for node, names in ranked.items()}
 
     def street(self, edge: str) -> str:
-        """The street of an edge; empty where it has no name."""
+        """The street's name of an edge; empty where it has none."""
         return self.edges.get(edge, "")
 
     def junction(self, name: str) -> str:

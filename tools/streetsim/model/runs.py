@@ -17,7 +17,7 @@ Sent = tuple[int, Command]  # the clock at which a command is sent
 
 @dataclass(slots=True)
 class Line:
-    """A line of a run, as text and as command."""
+    """A line of a run file, as text and as command."""
 
     number: int  # in the file, from 1; 0 or less: of no file, but made by the tools
     text: str
@@ -91,7 +91,7 @@ def run_of_texts(path: FilePath, texts: Iterable[str]) -> Run:
 
 
 def run_of(path: FilePath, lines: Sequence[Line]) -> Run:
-    """The run of some lines, of which the first is the load; others may stand in any order."""
+    """The run of some lines, of which the first is the load; others may stand in any order. path: for faults."""
     run = Run(path, lines[0])
     for line in lines[1:]:
         if line.command["cmd"] == "enter":

@@ -12,7 +12,7 @@ STANDING, MISSED, AHEAD = "standing", "missed", "not reached"  # at the end of t
 
 @dataclass(slots=True, frozen=True)
 class Visit:
-    """A stop that a vehicle is to make, on the cells of a run."""
+    """A stop that a vehicle is to make, on the cells of a run (link and lane by number)."""
 
     vehicle: int  # its number in the map
     at: int  # the place, from 0, of its link in the vehicle's plan

@@ -21,7 +21,7 @@ class Movement:
 
 @dataclass(slots=True)
 class Timing:
-    """A light's program."""
+    """A light's program: its phases, and the movements that they serve."""
 
     light: str
     junction: str
@@ -32,7 +32,8 @@ class Timing:
     conflicts: set[frozenset[int]]  # pairs of places in the states whose ways cross or join
 
     def states(self) -> list[str]:
-        """The state in each second of the cycle; durations are rounded by their running sum."""
+        """The state in each second of the cycle; durations are rounded so that each phase ends at the second nearest to
+        its end."""
         found: list[str] = []
         clock = 0.0
         for duration, state in self.phases:
@@ -69,7 +70,7 @@ class Timing:
                 yield one, other, count
 
     def written(self) -> Json:
-        """As JSON, which `timing_of` reads."""
+        """The program as JSON, which `timing_of` reads."""
         return {
             "light": self.light, "junction": self.junction, "offset": self.offset,
             "phases": [[*phase] for phase in self.phases],

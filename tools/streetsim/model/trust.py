@@ -75,7 +75,8 @@ def trips_at(clock: int, start: int, rows: Sequence[tuple]) -> Trips:
 
 
 def free_arrivals(run: Run, mapping: Map) -> list[float]:
-    """The clocks, rising, at which the vehicles of a run would arrive, were nobody in their way."""
+    """The clocks, rising, at which the vehicles of a run would arrive, were nobody in their way and all lights
+    green."""
     free_flow = FreeFlow(mapping, run.load.command["dawdle"] / 1000)
     return sorted(line.command["depart"] + free_flow(line.command["plan"]) for line in run.enters)
 

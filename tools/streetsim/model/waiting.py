@@ -36,7 +36,7 @@ class Gap:
 
 @dataclass(slots=True, frozen=True)
 class Pace:
-    """How those follow each other who have to stop: in turn some seconds are green and some red."""
+    """How those follow each other who always have to stop: as at a light, some seconds green and some red in turn."""
 
     shown: int  # seconds green
     hidden: float  # seconds red, at no flow of the others
@@ -73,7 +73,7 @@ class Waiting:
     pace: Pace | None = None  # of those who have to stop
 
     def written(self) -> Written:
-        """As it stands in the map."""
+        """A list, as it stands in the map."""
         pace = [] if self.pace is None else list(astuple(self.pace))
         return [self.node, [list(turn) for turn in self.turns], [foe.written() for foe in self.foes], pace]
 

@@ -65,7 +65,7 @@ class Making:
 
 @dataclass(frozen=True, slots=True)
 class Figures:
-    """What a run gave, in short."""
+    """What a run gave, in a few numbers and words."""
 
     vehicles: int
     arrived: int

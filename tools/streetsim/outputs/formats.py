@@ -14,7 +14,7 @@ HALTING = 0.1  # metres a second, SUMO's: below it a vehicle stands
 
 
 class XmlFile:
-    """A file with a root element and SUMO's schema of it."""
+    """A file with a root element and SUMO's schema of it, written second by second; one class below for each kind."""
 
     root, schema = "", ""
 
@@ -31,7 +31,7 @@ class XmlFile:
         """Takes the next second of a run; all are given, rising, without one left out."""
 
     def end(self) -> None:
-        """Writes the end of the root; the file is closed by who opened it."""
+        """Writes what is left, and the end of the root; the file is closed by who opened it."""
         self.file.write(f"</{self.root}>\n")
 
 
@@ -49,6 +49,7 @@ class Tripinfo(XmlFile):
     root, schema = "tripinfos", "tripinfo_file"
 
     def step(self, second: Second) -> None:
+        """Writes a row for each vehicle that arrived in a second."""
         for _, trip in second.arrived:
             self.file.write(f"    <tripinfo {self.row(trip, second.clock)}/>\n")
 
@@ -94,6 +95,7 @@ class Summary(XmlFile):
         self.loaded = self.inserted = self.arrived = self.delays = self.durations = self.teleports = 0
 
     def step(self, second: Second) -> None:
+        """Writes the row of a second."""
         self.loaded = bisect_right(self.wished, second.time)
         self.count(second)
         speeds = [self.places.speed(at) for at in second.here.values()]
@@ -133,11 +135,13 @@ class Fcd(XmlFile):
     root, schema = "fcd-export", "fcd_file"
 
     def __init__(self, file: TextFile, places: Places) -> None:
+        """places: where cells lie in metres."""
         super().__init__(file, places)
         self.texts: dict[At, tuple[str, str]] = {}  # of places: many vehicles come to each
         self.names: dict[int, tuple[str, str]] = {}  # of vehicles and their types
 
     def step(self, second: Second) -> None:
+        """Writes the rows of all vehicles in a second."""
         self.names.update((car, self.named(second.trips[car])) for car in second.departed)
         rows = [f'    <timestep time="{second.time:.2f}">\n']
         for car, at in second.here.items():
@@ -166,10 +170,12 @@ class Queue(XmlFile):
     root, schema = "queue-export", "queue_file"
 
     def __init__(self, file: TextFile, places: Places) -> None:
+        """places: where cells lie in metres."""
         super().__init__(file, places)
         self.standing: dict[int, int] = {}  # car: seconds
 
     def step(self, second: Second) -> None:
+        """Writes the lanes with vehicles that stand in a second."""
         cars = [(car, at) for car, at in second.here.items() if at.cell is not None and not at.speed]
         self.standing = {car: self.standing.get(car, 0) + 1 for car, _ in cars}
         lengths: dict[Place, float] = {}

@@ -14,7 +14,7 @@ Sums = Any  # of a kind of detector: its own
 
 @dataclass(slots=True)
 class EdgeSums:
-    """What an edge saw in an interval."""
+    """What was seen of an edge in an interval, all vehicles and seconds added up."""
 
     seconds: int = 0  # of vehicles on it
     metres: float = 0.0  # driven
@@ -45,6 +45,7 @@ class Edgedata(XmlFile):
         return self.sums.setdefault(self.links[link].edge, EdgeSums())
 
     def step(self, second: Second) -> None:
+        """Adds a second; before it writes the interval that has ended."""
         if second.clock > self.begin + self.period:
             self.write()
         self.clock = second.clock
@@ -104,6 +105,7 @@ class Edgedata(XmlFile):
         return attributes(id=edge, sampledSeconds=float(sums.seconds), **seen, **counts)
 
     def end(self) -> None:
+        """Writes the last interval, which may be shorter, and the end of the root."""
         if self.clock > self.begin:
             self.write()
         super().end()
@@ -135,6 +137,7 @@ class Detectors(XmlFile):
         raise NotImplementedError
 
     def step(self, second: Second) -> None:
+        """Adds a second to all detectors; before it writes their intervals that have ended."""
         for one in self.detectors:
             if second.clock > self.begins[one.name] + one.period:
                 self.write(one)
@@ -153,6 +156,7 @@ class Detectors(XmlFile):
         self.begins[one.name], self.sums[one.name] = end, self.empty(one, self.sums[one.name])
 
     def end(self) -> None:
+        """Writes the last intervals, which may be shorter, and the end of the root."""
         for one in self.detectors:
             if self.clock > self.begins[one.name]:
                 self.write(one)
@@ -161,7 +165,7 @@ class Detectors(XmlFile):
 
 @dataclass(slots=True)
 class LoopSums:
-    """What a loop saw in an interval."""
+    """What an e1 saw in an interval."""
 
     speeds: list[float] = field(default_factory=list)  # metres a second of those that passed
     metres: list[float] = field(default_factory=list)  # of these vehicles
@@ -175,9 +179,11 @@ class Loops(Detectors):
     schema, kind = "det_e1_file", E1
 
     def empty(self, one: Detector, _before: LoopSums | None) -> LoopSums:
+        """The sums of an e1 with which an interval begins: nothing."""
         return LoopSums()
 
     def note(self, one: Detector, sums: LoopSums, second: Second, here: Sequence[tuple[int, At]]) -> None:
+        """Adds a second of an e1: whether its cell is covered, and who has passed it."""
         sums.occupied += any(at.cell is not None and at.cell - at.size < one.first <= at.cell for _, at in here)
         for car, last in second.before.items():
             if last.link == one.link and last.cell is not None and last.cell <= one.first:
@@ -194,6 +200,7 @@ class Loops(Detectors):
             sums.metres.append(vehicle_metres(last))
 
     def row(self, one: Detector, sums: LoopSums, seconds: int) -> str:
+        """The attributes of an e1's interval of so many seconds; -1 where nobody passed, as SUMO writes."""
         count = len(sums.speeds)
         return attributes(
             nVehContrib=count,
@@ -208,7 +215,7 @@ class Loops(Detectors):
 
 @dataclass(slots=True)
 class AreaSums:
-    """What an area saw in an interval; halts are by car, seconds."""
+    """What an e2 saw in an interval; halts are by car."""
 
     inside: dict[int, At] = field(default_factory=dict)  # by car, of the last second
     seen: set[int] = field(default_factory=set)
@@ -233,11 +240,13 @@ class Areas(Detectors):
     schema, kind = "det_e2_file", E2
 
     def empty(self, one: Detector, before: AreaSums | None) -> AreaSums:
+        """The sums of an e2 with which an interval begins: vehicles inside and halts that go on are taken over."""
         if before is None:
             return AreaSums()
         return AreaSums(inside=before.inside, halts=before.halts, interval_halts=dict.fromkeys(before.halts, 0))
 
     def note(self, one: Detector, sums: AreaSums, second: Second, here: Sequence[tuple[int, At]]) -> None:
+        """Adds a second of an e2; here: the vehicles on its lane."""
         inside = {car: at for car, at in here if at.cell is not None and one.first <= at.cell <= one.last}
         sums.entered += len(inside.keys() - sums.inside.keys())
         sums.left += len(sums.inside.keys() - inside.keys())
@@ -264,6 +273,7 @@ class Areas(Detectors):
             sums.interval_halts[car] = sums.interval_halts.get(car, 0) + 1
 
     def row(self, one: Detector, sums: AreaSums, seconds: int) -> str:
+        """The attributes of an e2's interval of so many seconds; -1 for means over nobody, as SUMO writes."""
         car_metres = self.places.cell_metres[one.link]
         halts = [halt for halt, _ in sums.ended] + list(sums.halts.values())
         within = [halt for _, halt in sums.ended] + list(sums.interval_halts.values())

@@ -13,6 +13,7 @@ class Places:
     """The lanes of a map in metres: where vehicles are and how fast."""
 
     def __init__(self, mapping: Map) -> None:
+        """mapping: of the run."""
         self.mapping = mapping
         self.names = {place: mapping.lane_name(*place) for place in mapping.lanes()}
         self.cell_metres = [link.metres / link.cells for link in mapping.links]
@@ -29,7 +30,8 @@ class Places:
         return at.speed * self.cell_metres[at.link]
 
     def point(self, at: At) -> tuple[float, float, float]:
-        """x and y of a vehicle's front in metres, and its angle in degrees, clockwise from north."""
+        """x and y of a vehicle's front in metres, on its lane beside the link's line, and its angle in degrees,
+        clockwise from north."""
         link = self.mapping.links[at.link]
         side = ((len(link.lanes) - 1) / 2 - at.lane) * LANE_WIDTH
         return self.lines[at.link].at(self.metres(at) / link.metres, side)
@@ -39,13 +41,14 @@ class Line:
     """A line through two or more points (x, y), in metres."""
 
     def __init__(self, points: Shape) -> None:
+        """points: (x, y) in metres, two at least."""
         self.points = points
         self.sizes = [dist(one, other) for one, other in zip(points, points[1:])]
         self.ends = list(accumulate(self.sizes))
 
     def at(self, share: float, side: float = 0.0) -> tuple[float, float, float]:
-        """The point at a share of the length (0 to 1), so many metres to the right of the line, and the angle there, in
-        degrees clockwise from north."""
+        """The point (x, y) at a share, 0 to 1, of the length, `side` metres to the right of the line, and the angle of
+        the line there, in degrees clockwise from north."""
         way = share * self.ends[-1]
         piece = min(bisect_right(self.ends, way), len(self.sizes) - 1)
         (x, y), (following_x, following_y) = self.points[piece : piece + 2]

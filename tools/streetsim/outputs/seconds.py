@@ -27,7 +27,7 @@ class At:
 
 @dataclass(slots=True)
 class Trip:
-    """A vehicle on its way."""
+    """A vehicle on its way, with what it has done so far."""
 
     name: str
     wished: int  # second at which it would depart
@@ -45,7 +45,7 @@ class Trip:
 
 @dataclass(slots=True)
 class Second:
-    """One look at the lanes, and what has changed since the one before."""
+    """What the lanes show at a clock, and what has changed since the second before."""
 
     clock: int
     trips: dict[int, Trip]  # by car, of those on their way
@@ -59,7 +59,7 @@ class Second:
 
     @property
     def time(self) -> int:
-        """SUMO's time: that of the step, at whose end the clock is one more."""
+        """SUMO's time of this second, that of its begin: the clock, which is that of its end, less 1."""
         return self.clock - 1
 
 
@@ -67,7 +67,7 @@ class Follower:
     """Follows the vehicles of a run from second to second, and says what changed in each."""
 
     def __init__(self, mapping: Map, dawdle: float) -> None:
-        """dawdle: the chance to go on by a cell less, 0 to 1."""
+        """dawdle: the chance, 0 to 1, to go on by a cell a step less."""
         self.mapping, self.alone = mapping, Alone(mapping, dawdle)
         self.trips: dict[int, Trip] = {}
         self.expected: dict[int, tuple[str, int, str]] = {}  # name, wished second, type
@@ -99,8 +99,8 @@ class Follower:
         return second
 
     def in_junction(self, car: int, link: int, lane: int, clock: int) -> At:
-        """Where a vehicle in the buffer of a lane is: it drives for as long as the junction takes at least, and then
-        stands."""
+        """Where a vehicle in the buffer of a lane is: it drives, at a cell a second, for as long as the junction takes
+        at least, and then stands."""
         last = self.before.get(car)
         if last is None or last.cell is not None or last.link != link:
             self.entered_at[car] = clock

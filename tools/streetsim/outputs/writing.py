@@ -27,6 +27,7 @@ class Outputs(contextlib.ExitStack):
     def __init__(
         self, paths: dict, mapping: Map, dawdle: float, period: int = 900, start: int = 0, rescued: Sequence[int] = ()
     ) -> None:
+        """Opens the files; paths: {kind of KINDS: path}; other arguments as above."""
         super().__init__()
         self.follower, self.start = Follower(mapping, dawdle), start
         self.wished: list[int] = []
@@ -47,20 +48,21 @@ class Outputs(contextlib.ExitStack):
             self.push(files.pop_all())
 
     def __exit__(self, kind: type[BaseException] | None, *details: Any) -> bool:
+        """Writes the ends of the files; after an exception they are not left behind."""
         if kind is None:
             for writer in self.writers:
                 writer.end()
         return super().__exit__(kind, *details)
 
     def expect(self, car: int, name: str, wished: int, kind: str = "DEFAULT_VEHTYPE") -> None:
-        """Tells of a vehicle that would depart at a second, under the number by which looks name it; before it is
-        seen."""
+        """Tells of a vehicle before it is seen: its number in later looks, its name, the second at which it would
+        depart, and its type."""
         self.follower.expect(car, name, wished, kind)
         insort(self.wished, wished)
 
     def step(self, clock: int, lanes: Iterable[Sequence[Any]], arrived: Iterable[int]) -> None:
-        """Takes the second that ends at a clock: [link, lane, cells, cars in the buffer, ..] of each lane where
-        anything is, and the cars that arrived in it."""
+        """Takes the second that ends at a clock; called for every second, rising. lanes: [link, lane, cells, cars in
+        the buffer, ..] of each lane where anything is; arrived: the cars that arrived in it."""
         second = self.follower.see(clock, lanes, arrived)
         for writer in self.writers:
             writer.step(second)

@@ -156,7 +156,7 @@ def draw_density(pyplot: Pyplot, folder: Folder) -> Figure:
 
 
 def scale_bar(axes: Axes) -> None:
-    """Draws a bar of a round number of metres, about a fifth of the width, below all that is shown."""
+    """Draws a bar of a round number of metres, about a fifth of the picture's width, below the streets."""
     left, right = axes.get_xlim()
     width = max(right - left, 1)
     metres = series.round_length(width / 5.5)

@@ -21,12 +21,12 @@ class Point:
 
     @property
     def per_km(self) -> float:
-        """Vehicles a kilometre."""
+        """Its density as vehicles a kilometre."""
         return self.density / limits.CELL_METRES * 1000
 
     @property
     def per_hour(self) -> float:
-        """Vehicles an hour."""
+        """Its flow as vehicles an hour."""
         return self.flow * 3600
 
 

@@ -8,7 +8,8 @@ from streetsim.results.reading import Row
 
 @dataclass(slots=True)
 class Difference:
-    """Means over the seeds that both plans have, the change from before to after, and its 95 % interval."""
+    """A value with both plans, as means over the seeds that both have, the change from before to after, and its 95 %
+    interval."""
 
     before: float
     after: float

@@ -51,7 +51,7 @@ def costs_of(before: Runs, after: Runs) -> Costs:
 
 
 def durations(folder: Folder) -> dict[str, int]:
-    """The seconds of each trip that arrived, by vehicle."""
+    """The seconds of each trip that arrived, by the vehicle's name."""
     return {row["id"]: int(row["duration"]) for row in folder.trips() if row["duration"]}
 
 

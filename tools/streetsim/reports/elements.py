@@ -60,6 +60,7 @@ class Reader(HTMLParser):
         return ", ".join(filter(None, [*heads, self.row, column])) or "the page's head"
 
     def handle_starttag(self, tag: str, attributes: list[tuple[str, str | None]]) -> None:
+        """Adds the begin of an element."""
         self.begin("row" if tag == "th" and ("scope", "row") in attributes else tag)
         told = "".join(f' {name}="{value}"' for name, value in attributes)
         self.found.append(Element(f"<{tag}{told}>", self.place))
@@ -84,6 +85,7 @@ class Reader(HTMLParser):
             self.column, self.row = -1, ""
 
     def handle_endtag(self, tag: str) -> None:
+        """Adds the end of an element."""
         self.found.append(Element(f"</{tag}>", self.place))
         if tag in (*HEADS, "td", "th"):
             self.open = ""
@@ -91,6 +93,7 @@ class Reader(HTMLParser):
             self.columns, self.column, self.row = [], -1, ""
 
     def handle_data(self, data: str) -> None:
+        """Adds a text, without blanks around it; blanks alone are left out."""
         if self.open in HEADS:
             self.heads[self.open] += data
         elif self.open == "th" and self.columns:
@@ -101,14 +104,16 @@ class Reader(HTMLParser):
             self.found.append(Element(data.strip(), self.place))
 
     def handle_comment(self, data: str) -> None:
+        """Adds a comment."""
         self.found.append(Element(f"<!--{data}-->", self.place))
 
     def handle_decl(self, decl: str) -> None:
+        """Adds a declaration."""
         self.found.append(Element(f"<!{decl}>", self.place))
 
 
 def elements_of(text: str) -> list[Element]:
-    """The elements of a page's text."""
+    """The elements of a page's text (HTML), in order."""
     reader = Reader()
     reader.feed(text)
     reader.close()

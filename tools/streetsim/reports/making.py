@@ -12,7 +12,7 @@ from streetsim.results.reading import Runs
 
 @dataclass(slots=True, frozen=True)
 class Wishes:
-    """What a report is asked for."""
+    """What a page is asked for, beside the runs that it is of."""
 
     title: str
     question: str = ""

@@ -16,7 +16,7 @@ CHECK = '<p class="small"><a href="#check">How to check the numbers of this page
 
 @dataclass(slots=True, frozen=True)
 class Section:
-    """A part of a page; content is HTML."""
+    """A part of a page: title as plain text, content as HTML."""
 
     name: str  # by which links find it
     title: str

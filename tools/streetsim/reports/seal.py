@@ -72,7 +72,7 @@ def canonical(value: Json) -> str:
 
 
 def sum_of(content: bytes) -> str:
-    """The SHA-256 of bytes."""
+    """The SHA-256 of bytes, as hexadecimal digits."""
     return hashlib.sha256(content).hexdigest()
 
 
@@ -100,7 +100,7 @@ def sealed(content: Json, files: Mapping[str, bytes], page: str) -> tuple[Seal, 
 
 
 def beside_of(page: str) -> str:
-    """The name of the file beside a page."""
+    """The name, without folder, of the file beside a page."""
     return Path(page).stem + BESIDE
 
 

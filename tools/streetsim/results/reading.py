@@ -34,11 +34,11 @@ class Row:
 
     @property
     def delay(self) -> float:
-        """Mean control delay, seconds."""
+        """Mean control delay over the seeds, seconds a vehicle."""
         return self.values["control_delay_s"]
 
     def letter(self) -> str:
-        """Its level of service, A to F; of a movement F also above v/c 1."""
+        """Its level of service by its mean delay, A to F; of a movement F also where v/c is above 1."""
         return level(self.delay, self.control, self.values["v_c"] if self.movement else None)
 
 
@@ -60,7 +60,7 @@ class Runs:
 
     @property
     def names(self) -> Names:
-        """The names of its map."""
+        """The names of its map's streets and junctions."""
         return Names(self.first.mapping)
 
     def mean_trips(self) -> dict[int, float]:
@@ -114,7 +114,8 @@ def refuse_old(path: str, seeds: Collection[int]) -> None:
 
 
 def read_runs(path: str) -> Runs:
-    """The runs of a folder that streetsim-run wrote, or of its seeds, with junction tables; Fault where it has none."""
+    """The runs of a folder that streetsim-run wrote, one or one for each seed, with their junction tables; Fault where
+    it has none."""
     made = read_folders(path)
     for table in TABLES:
         read_rows(made, table)

@@ -157,7 +157,8 @@ def green_band(folder: Folder, edges: Sequence[str], first: int) -> tuple[int, i
 
 
 def stop_lines(folder: Folder, edges: Sequence[str]) -> list[tuple[float, int, list[int], list[int]]]:
-    """(free seconds from the path's begin, node, links, next links) of each stop line within a path."""
+    """(seconds at free speed from the path's begin, node, links, next links) of each stop line within a path of edges,
+    in its order."""
     links, after, found = folder.links_along(edges), 0.0, []
     for here, following in zip(links, links[1:]):
         link = folder.mapping.links[here[0]]

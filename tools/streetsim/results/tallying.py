@@ -26,7 +26,7 @@ class Compared:
 
 
 def files_in(folder: str) -> list[str]:
-    """The files below a folder, by their paths in it."""
+    """The paths, sorted, of all files below a folder, as seen from it."""
     return sorted(
         os.path.relpath(os.path.join(where, name), folder) for where, _, names in os.walk(folder) for name in names
     )

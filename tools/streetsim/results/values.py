@@ -25,7 +25,7 @@ class Values:
 
 
 def intervals_of(runs: Runs) -> list[tuple[int, int]]:
-    """The (begin, end) of the junction tables, else of the counts, in seconds, rising."""
+    """The (begin, end) of the junction tables, in seconds, rising; of the rows of edges.csv where there are none."""
     return runs.intervals() or sorted({(int(row["begin"]), int(row["end"])) for row in runs.first.edges()})
 
 
@@ -42,8 +42,8 @@ def traffic_of(rows: Iterable[dict], begin: int, end: int) -> dict[str, Traffic]
 
 
 def traffic(parts: Sequence[tuple[dict, float, float]]) -> Traffic:
-    """The traffic of an edge in an interval, of (row of edges.csv, its seconds there, these as a share of its period);
-    one row at least."""
+    """The traffic of an edge in an interval; parts, one at least: (row of edges.csv, its seconds in the interval, these
+    as a share of the row's period)."""
     left = sum(int(row["left"]) * share for row, _, share in parts)
     seconds = sum(those for _, those, _ in parts)
     seen = [

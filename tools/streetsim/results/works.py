@@ -13,7 +13,8 @@ LEAST = 150.0  # metres shown at least
 
 @dataclass(slots=True, frozen=True)
 class Stretch:
-    """A link on the way to works: metres from the works to its end and to its begin."""
+    """A link on the way to works: metres from the works back to its end (near; less than 0: works lie on it) and to its
+    begin (far)."""
 
     link: int
     near: float
@@ -38,7 +39,7 @@ class Place:
 
     @property
     def room(self) -> float:
-        """The metres before the works that are shown."""
+        """How many metres before the works are shown."""
         return min(self.way[-1].far, max(LEAST, ROOM + max(self.lengths.values(), default=0.0)))
 
 
@@ -73,7 +74,7 @@ def place_of(folder: Folder, rows: Sequence[dict[str, str]], seen: Counter[int])
 
 
 def link_of(folder: Folder, edge: str, lane: int) -> int:
-    """The link that has a lane of an edge, by SUMO's index."""
+    """The link that has a lane of an edge, by SUMO's index of the lane; StopIteration where none has it."""
     links = folder.mapping.links
     return next(link for link in folder.mapping.links_of[edge] if lane in links[link].lanes)
 
