@@ -33,8 +33,9 @@ class Asking:
 def asking_of(
     run: Run, settings: Settings, places: Sequence[Place], polled: Collection[Place], detectors: int
 ) -> Asking:
-    """What a run asks. places: (link, lane) that are counted by detectors; polled: those of them that are looked at in
-    an interval; detectors: how many the map has of its own."""
+    """What a run asks. places: all (link, lane) of the map; polled: those of them that are looked at at each poll;
+    detectors: how many induction loops of SUMO's the map has, whose places are taken from those of the lanes. Where
+    lanes are more than detectors left, the most used come first."""
     every = EVERY if settings.every is None else settings.every
     here = limits.METERS - detectors - settings.lights.meters
     use = Counter(link for line in run.enters for link in line.command["plan"])
@@ -47,17 +48,18 @@ def asking_of(
 
 
 def repeated(settings: Settings, lanes: Sequence[Place]) -> Asking:
-    """What a further run asks, which repeats one with detectors on other lanes."""
+    """What a further run asks, which repeats one with detectors on other lanes: no polls."""
     return Asking(0, list(lanes), samples_of(settings))
 
 
 def samples_of(settings: Settings) -> int:
-    """Polls of a period where those of all lanes are too few, if there are any."""
+    """How many times in a period lanes are sampled; 0 where a period is a second."""
     return min(SAMPLES, settings.period // 2)
 
 
 def told_of_polls(run: Run, mapping: Map, settings: Settings) -> str:
-    """What is told before a run whose polls would take longer than the run itself; nothing of others."""
+    """What is told before a run whose polls of lanes take longer than the run itself (and than LONG seconds), with a
+    longer interval to ask for; empty for other runs."""
     places, steps = mapping.lanes(), settings.until - run.start()
     every = EVERY if settings.every is None else settings.every
     polled = [place for place in places if not settings.edges or mapping.links[place[0]].edge in settings.edges]

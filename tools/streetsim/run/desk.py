@@ -42,7 +42,8 @@ class Desk:
         self.fleet = Fleet(NONE, run, mapping)
 
     def begin(self, asking: Asking) -> None:
-        """Sends the load and what is due before the first step, and places the detectors."""
+        """Sends the load and the lines that are due before the first step, and places the detectors of lanes and of
+        lights."""
         self.records.asking, self.measured = asking, set(asking.measured)
         self.samples = Samples(self.start, self.settings.period, asking.samples)
         self.send([self.run.load, *self.run.first])
@@ -52,7 +53,7 @@ class Desk:
         self.place_lights()
 
     def exchange(self, lines: Iterable[bytes]) -> list[bytes]:
-        """Replies to lines, as bytes; counts the calls."""
+        """Sends lines, one command each as bytes; gives their replies as bytes, and counts the calls."""
         replies = list(self.sim.exchange(lines))
         self.records.calls += len(replies)
         return replies
@@ -66,7 +67,8 @@ class Desk:
                 raise Fault(f"{self.run.path}: {where} was refused: {read_reply(reply)}")
 
     def send_timed(self, clock: int) -> None:
-        """Sends the run's timed lines that are due at a clock, with those that merging needs before them."""
+        """Sends the run's timed lines that are due at a clock or before, each after those that merging needs ahead of
+        it. A light for which the run has a signal line is driven by detectors no more."""
         due: list[Line] = []
         while self.sent < len(self.run.timed) and self.run.timed[self.sent][0] <= clock:
             line = self.run.timed[self.sent][1]
@@ -83,20 +85,21 @@ class Desk:
         self.records.sent += [(clock, line) for line in lines]
 
     def at_works(self, clock: int) -> None:
-        """Looks at works, and sends what has vehicles merge."""
+        """Looks at the works that are due at a clock, and sends the lines that have vehicles merge."""
         self.send_at(clock, list(map(own_line, self.works.look(clock, self.lanes, self.is_bound))))
 
     def is_bound(self, car: int, link: int) -> bool:
-        """Whether a car has a link in its plan; never here, where works are not looked at."""
+        """Whether a car, by its number in the program, has a link in its plan; always False here, where works are not
+        looked at."""
         return False
 
     def vehicles(self, _owners: Iterable[int]) -> list[Vehicle]:
-        """The replies on vehicles of the file; none here, where buses are not looked at."""
+        """The replies on vehicles, by their numbers in the file; none here, where buses are not looked at."""
         return []
 
     def advance(self, clock: int, target: int) -> int:
-        """Goes on to a clock or the one before it at which a line is due or lanes are sampled; gives that clock. Those
-        who depart until then enter before."""
+        """Advances the run from clock to target, or to the clock before it at which a line is due or lanes are looked
+        at; gives that clock. Vehicles that depart until then are sent first."""
         at = clock - self.start
         period = (at // self.settings.period + 1) * self.settings.period + self.start
         sample = self.samples.after(clock)
@@ -119,12 +122,12 @@ class Desk:
         return target
 
     def enter(self, last: int) -> None:
-        """Sends the run's enters up to a place, which is not sent."""
+        """Sends the run's enter lines that are not sent yet, up to the place last in run.enters, that one left out."""
         self.send(self.run.enters[self.entered : last])
         self.entered = last
 
     def lanes(self, wanted: Iterable[Place]) -> dict[Place, Lane]:
-        """What stands on some lanes, of those where anything is; asks once for each."""
+        """What stands on some lanes, (link, lane); lanes where nothing is are left out. Fault where one is refused."""
         wanted, found = list(wanted), {}
         for place, text in zip(wanted, self.exchange(self.lines[place] for place in wanted), strict=True):
             if text != EMPTY:
@@ -135,7 +138,8 @@ class Desk:
         return found
 
     def wants_samples(self, clock: int) -> tuple[bool, bool]:
-        """Whether lanes are sampled now, and whether a period ends, at whose end vehicles on lanes are counted."""
+        """(whether lanes are sampled at a clock, whether a period ends then, so that the vehicles on lanes are
+        counted)."""
         asking, at = self.records.asking, clock - self.start
         rich = not asking.samples and bool(asking.every)
         sampled = (
@@ -147,8 +151,8 @@ class Desk:
         return sampled, ended and bool(asking.samples or rich)
 
     def measure(self, clock: int, lanes: Mapping[Place, Lane], sampled: bool, ended: bool) -> None:
-        """Notes what is seen of the measured lanes and of SUMO's areas: sampled, ended as `wants_samples` gives
-        them."""
+        """Adds what lanes show to speeds and densities of edges and to SUMO's lane areas; sampled, ended: as
+        wants_samples gives them."""
         seen = [(place[0], reply.cells) for place, reply in lanes.items() if place in self.measured]
         if sampled:
             self.records.edgedata.sample(clock, seen)
@@ -157,7 +161,8 @@ class Desk:
             self.records.edgedata.end(clock, seen)
 
     def place_meters(self) -> None:
-        """A detector at the last cell of each measured lane, and the induction loops of the map."""
+        """Places a detector at the last cell of each measured lane, and those of the map's induction loops. Fault where
+        one is refused."""
         period = self.settings.period
         placed = [
             (link, lane, self.mapping.links[link].cells - 1, period) for link, lane in self.records.asking.measured
@@ -177,7 +182,8 @@ class Desk:
         self.meters_due = [(numbers, period, period * limits.ROWS) for period, numbers in by_period.items()]
 
     def place_lights(self) -> None:
-        """The detectors of lights, and what these show at the begin."""
+        """Places the detectors of lights, and sends what these lights show at the begin. Fault where a detector is
+        refused."""
         replies = self.exchange(map(line_of, self.driver.meters(len(self.meters))))
         refused = [reply for reply in map(read_reply, replies) if isinstance(reply, Exception)]
         if refused:
@@ -185,19 +191,20 @@ class Desk:
         self.send_at(self.start, list(map(own_line, self.driver.begin(self.start))))
 
     def read_meters(self, clock: int) -> None:
-        """Reads the detectors whose rows would be lost from now on; all at the end."""
+        """Reads the detectors whose oldest rows the program would drop after this clock; at the last clock all of
+        them."""
         for numbers, _, rows in self.meters_due:
             if clock == self.settings.until or (clock - self.start) % rows == 0:
                 self.read_rows(numbers)
 
     def read_rows(self, numbers: Sequence[int]) -> None:
-        """Reads detectors, by their numbers; keeps each one's rows by the clock at which they begin."""
+        """Reads detectors, by their numbers, and keeps their rows, each by the clock at which it begins."""
         for number, reply in zip(numbers, self.noted(numbers), strict=True):
             kept, key, _ = self.meters[number]
             kept.setdefault(key, {}).update({row.start: row for row in (*reply.rows, reply.now) if row.steps})
 
     def noted(self, numbers: Sequence[int]) -> list[Rows]:
-        """What detectors have, by their numbers."""
+        """The rows that detectors have, by their numbers; Fault where one is refused."""
         found = []
         for reply in map(read_reply, self.exchange(line_of({"cmd": "read", "meter": number}) for number in numbers)):
             if not isinstance(reply, Rows):
@@ -207,5 +214,5 @@ class Desk:
 
 
 def own_line(command: Command) -> Line:
-    """A line that merging, a bus or a light sends; it is of no file."""
+    """A command of merging, a bus or a light as a line; it stands in no file, so its number is -1."""
     return Line(-1, json.dumps(command, separators=(",", ":")), command)

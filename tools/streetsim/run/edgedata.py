@@ -15,28 +15,29 @@ GOLDEN = 0.6180339887498949
 
 
 class Samples:
-    """When lanes are sampled: so many times in each period, spread evenly but not at equal steps,
-    which a signal's cycle could fall in with."""
+    """The clocks at which lanes are sampled: count times in each period of so many seconds, spread evenly but not at
+    equal intervals, which could fall in with a signal's cycle."""
 
     def __init__(self, start: int, period: int, count: int) -> None:
         self.start, self.period, self.count = start, period, count
 
     def after(self, clock: int) -> int | None:
-        """The next clock after this one at which lanes are sampled; none where they never are."""
+        """The first clock after this one at which lanes are sampled; None where they never are."""
         if not self.count:
             return None
         at = (clock - self.start) // self.period
         return min(time for part in (at, at + 1) for time in self.within(part) if time > clock)
 
     def within(self, at: int) -> list[int]:
-        """The clocks of samples in a period, by its number from 0; they rise and lie after its begin."""
+        """The clocks of the samples in a period, by its number from 0; they rise, and lie after its begin."""
         size = self.period / self.count
         shares = ((place + at * self.count) * GOLDEN % 1 for place in range(self.count))
         return [self.start + at * self.period + 1 + floor((place + share) * size) for place, share in enumerate(shares)]
 
 
 class Edgedata:
-    """What was seen on links, by period: sums over samples until `finish`, then means, which can be added."""
+    """What was seen on links in each period, numbered from 0: sums over samples until finish is called, then means, to
+    which those of other lanes can be added."""
 
     def __init__(self, start: int, period: int) -> None:
         self.start, self.period = start, period
@@ -49,7 +50,7 @@ class Edgedata:
         self.known: dict[Place, frozenset[int]] = {}  # by (link, lane): the periods in which it was sampled
 
     def sample(self, clock: int, seen: Seen) -> None:
-        """Notes the vehicles of a sample and their speeds, in cells a step."""
+        """Notes the vehicles of a sample and their speeds, in cells a step; seen: (link, cells of a lane's reply)."""
         period = (clock - 1 - self.start) // self.period
         self.samples[period] += 1
         for link, cells in seen:
@@ -57,17 +58,18 @@ class Edgedata:
             self.speeds[period, link] += sum(entry[2] for entry in cells)
 
     def end(self, clock: int, seen: Seen) -> None:
-        """Notes the vehicles on links at the clock of a period's end."""
+        """Notes how many vehicles are on links at the clock at which a period ends; seen: (link, cells of a lane's
+        reply)."""
         at_end = self.standing[clock]
         for link, cells in seen:
             at_end[link] += len(cells)
 
     def take(self, clock: int, link: int) -> None:
-        """Notes a vehicle that is taken out of the cells of a link from this clock on."""
+        """Notes that a vehicle is taken out of the cells of a link, from this clock on."""
         self.taken[(clock - self.start) // self.period, link] += 1
 
     def finish(self, places: Iterable[Place]) -> Edgedata:
-        """Makes means of sums; places: the (link, lane) that were sampled."""
+        """Turns the sums into means of a sample; places: the (link, lane) that were sampled. Gives itself."""
         for sums in (self.vehicles, self.speeds):
             for period, link in sums:
                 # The stubs have whole counts alone.
@@ -76,7 +78,7 @@ class Edgedata:
         return self
 
     def add(self, other: Edgedata) -> None:
-        """Takes what a run that repeats this one saw on other lanes."""
+        """Adds what a run that repeats this one saw on other lanes; both must be finished."""
         self.vehicles.update(other.vehicles)
         self.speeds.update(other.speeds)
         self.known.update(other.known)
@@ -85,8 +87,8 @@ class Edgedata:
 
 
 def edge_rows(counts: Mapping[Place, Mapping[int, Row]], data: Edgedata, mapping: Map) -> Iterator[Entry]:
-    """(begin, end, edge, entered, left, vehicles a kilometre, km/h, travel time) of each period and edge of which all
-    lanes have counts; none for what is not known."""
+    """The rows of edges.csv, (begin, end, edge, entered, left, vehicles a kilometre, km/h, travel time in seconds), of
+    each period and edge; edges of which a lane has no count are left out, and None stands for what is not known."""
     periods = sorted({(row.start, row.steps) for rows in counts.values() for row in rows.values()})
     lanes = {
         edge: [(link, lane) for link in links for lane in range(len(mapping.links[link].lanes))]
@@ -101,8 +103,8 @@ def edge_rows(counts: Mapping[Place, Mapping[int, Row]], data: Edgedata, mapping
 
 
 def entered_on(data: Edgedata, links: Sequence[int], begin: int, end: int, left: int) -> int | None:
-    """How many came to an edge in a period: those who left, who are there at the end and were not at the begin, and who
-    were taken out; none where its begin or end was not looked at."""
+    """How many vehicles came to an edge, by its links, in a period: those who left it, who are there at the end and
+    were not at the begin, and who were taken out. None where its begin or end was not looked at."""
     if end not in data.standing or (begin != data.start and begin not in data.standing):
         return None
     before, after = (
@@ -114,8 +116,8 @@ def entered_on(data: Edgedata, links: Sequence[int], begin: int, end: int, left:
 def seen_on(
     data: Edgedata, mapping: Map, places: Sequence[Place], begin: int
 ) -> tuple[float | None, float | None, float | None]:
-    """Vehicles a kilometre, km/h and seconds of travel: the way at the mean speed of all who were seen; none for what
-    is not known. places: all lanes of the edge."""
+    """Vehicles a kilometre, km/h and seconds of travel of an edge in the period that begins at a clock, by the mean
+    speed of all who were seen; None for each that is not known. places: all lanes of the edge."""
     period = (begin - data.start) // data.period
     if not all(period in data.known.get(place, ()) for place in places):
         return None, None, None

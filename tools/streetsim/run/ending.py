@@ -18,13 +18,13 @@ ALL = "all have arrived"
 
 
 def first_guess(run: Run) -> int:
-    """A clock by which most runs have ended."""
+    """A clock by which most runs have ended: USUAL seconds after the last departure."""
     last = max((line.command["depart"] for line in run.enters), default=0)
     return min(limits.CLOCK, max(last, run.start()) + USUAL)
 
 
 class UnderWay(Protocol):
-    """A run under way, as its end is judged by it."""
+    """What an Ending needs of a run under way."""
 
     run: Run
     settings: Settings
@@ -40,7 +40,7 @@ class UnderWay(Protocol):
 
 
 class Ending:
-    """Looks each minute whether a run is over, and then sets its end."""
+    """Looks each minute whether a run without a last second is over, and then has it end."""
 
     def __init__(self, run: Run) -> None:
         self.run = run
@@ -51,13 +51,13 @@ class Ending:
 
     @cached_property
     def cycle(self) -> int:
-        """Seconds of the longest cycle; a signal line may have its phases in its text alone."""
+        """The seconds of the longest signal cycle among the run's lines; 0 where it has no signals."""
         lines = (*self.run.first, *(line for _, line in self.run.timed))
         signals = [json.loads(line.text) for line in lines if line.command["cmd"] == "signal"]
         return max((sum(duration for duration, _ in one["phases"]) for one in signals), default=0)
 
     def look(self, record: UnderWay, clock: int) -> None:
-        """At each minute: ends the run, or puts its end off where that has come."""
+        """Looks at a run at a full minute: ends it where it is over, or puts its end off where that has come."""
         census = record.records.censuses[-1]
         if record.entered == len(record.run.enters) and census.admitted == census.arrived + census.taken:
             self.end(record, clock, ALL)
@@ -72,7 +72,8 @@ class Ending:
             self.put_off(record, clock)
 
     def is_still(self, record: UnderWay, clock: int) -> bool:
-        """Whether no vehicle has changed its cell for longer than the longest cycle, and none is to come."""
+        """Whether no vehicle has changed its cell for longer than the longest cycle, and no vehicle or line is still to
+        come."""
         census = record.records.censuses[-1]
         figures = census.admitted, census.arrived, census.taken, census.cells, census.buffers, census.waiting
         waits = record.entered < len(record.run.enters) or record.sent < len(record.run.timed)
@@ -91,13 +92,13 @@ class Ending:
         return clock - self.looked > max(self.cycle, record.settings.lights.longest)
 
     def put_off(self, record: UnderWay, clock: int) -> None:
-        """An hour more where there are clocks for it."""
+        """Puts the run's end off by an hour; ends it now where the clock goes no further."""
         if clock + HOUR > limits.CLOCK:
             self.end(record, clock, "the clock goes no further")
         else:
             record.end_at(clock + HOUR)
 
     def end(self, record: UnderWay, clock: int, why: str) -> None:
-        """Has the run end at a clock, and notes why."""
+        """Has the run end at a clock, and notes why in its records."""
         record.end_at(clock)
         record.records.ended = f"ended at {clock:,} s: {why}"

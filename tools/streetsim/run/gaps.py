@@ -25,8 +25,9 @@ HELD_UP, FEWER = 0.2, 5
 
 
 def gap_lines(mapping: Map, passed: Passed, start: int, wished: Passed | None = None) -> list[tuple[int, Line]]:
-    """Signal lines for the nodes where vehicles give way, (clock, line), by when others pass, {(link, lane): [(second,
-    next link)]}. wished: the same of a run in which nobody gives way."""
+    """The signal lines, (clock, line), for nodes without a light where vehicles give way: green in the gaps between
+    those who go first. passed: when vehicles passed in a run, {(link, lane): [(second, next link)]}; wished: the same
+    of a run in which nobody gives way, None: not known."""
     end = int(max((second for each in passed.values() for second, _ in each), default=start)) + TAIL
     times = by_turn(passed)
     coming = times if wished is None else coming_of(mapping, times, by_turn(wished))
@@ -43,7 +44,7 @@ def gap_lines(mapping: Map, passed: Passed, start: int, wished: Passed | None = 
 
 
 def by_turn(passed: Passed) -> dict[TurnKey, list[float]]:
-    """{(link, lane, next link): [second]}."""
+    """The same passings by turn, {(link, lane, next link): [second]}."""
     times: defaultdict[TurnKey, list[float]] = defaultdict(list)
     for (link, lane), each in passed.items():
         for second, following in each:
@@ -52,8 +53,9 @@ def by_turn(passed: Passed) -> dict[TurnKey, list[float]]:
 
 
 def coming_of(mapping: Map, times: Times, wished: Times) -> Times:
-    """When those come who go first. Those who give way themselves and are held up count as they wish to pass: in which
-    gaps they do changes from round to round, and others would take these for free."""
+    """When those who go first come, by turn: as they passed (times). Turns that give way themselves count as they
+    passed in wished for the time in which they are held up: the gaps that they take change from round to round, and
+    others would take these for free."""
     held = {turn for one in mapping.yields for turn in one.turns}
     return {
         turn: with_wishes(seconds, wished.get(turn, ())) if turn in held else seconds for turn, seconds in times.items()
@@ -61,7 +63,8 @@ def coming_of(mapping: Map, times: Times, wished: Times) -> Times:
 
 
 def with_wishes(seconds: Sequence[float], wished: Sequence[float]) -> list[float]:
-    """When the vehicles of a turn pass, or, in those parts of the time where far fewer pass, when they wish to."""
+    """When the vehicles of a turn pass (seconds), or, in those AROUND seconds in which far fewer pass than wish to,
+    when they wish to."""
     found: defaultdict[float, tuple[list[float], list[float]]] = defaultdict(lambda: ([], []))
     for at, each in enumerate((seconds, wished)):
         for second in each:
@@ -74,13 +77,13 @@ def with_wishes(seconds: Sequence[float], wished: Sequence[float]) -> list[float
 
 
 def are_held_up(passing: Sequence[float], wishing: Sequence[float]) -> bool:
-    """Whether far fewer pass than wish to."""
+    """Whether so many fewer pass than wish to in AROUND seconds that they count as held up."""
     return len(wishing) - len(passing) >= max(FEWER, HELD_UP * len(wishing))
 
 
 def node_lines(node: int, turns: Sequence[TurnKey], groups: Sequence[Group], start: int) -> Iterator[tuple[int, Line]]:
-    """The signal lines of a node, (clock, line); groups: of turns that give way, and for each second whether they are
-    red. Others are always green, and all are in the end."""
+    """The signal lines of a node, (clock, line), from the clock start on. turns: all of the node; groups: turns that
+    give way, with a byte for each second, 1: red. Other turns are always green, and after the last second all are."""
     waits = {turn for each, _ in groups for turn in each}
     always = [turn for turn in turns if turn not in waits]
 
@@ -103,7 +106,8 @@ def node_lines(node: int, turns: Sequence[TurnKey], groups: Sequence[Group], sta
 
 
 def phases_of(reds: Sequence[Sequence[int]]) -> list[tuple[int, State]]:
-    """The runs of seconds in which the same groups are red, (seconds, red or not by group)."""
+    """Phases of the seconds in which the same groups are red, (seconds, (red or not by group)); reds: for each group a
+    byte for each second, 1: red."""
     made = []
     for state, run in groupby(zip(*reds, strict=True)):
         length = sum(1 for _ in run)
@@ -114,8 +118,9 @@ def phases_of(reds: Sequence[Sequence[int]]) -> list[tuple[int, State]]:
 
 
 def red_seconds(waiting: Waiting, times: Times, start: int, end: int, coming: Times | None = None) -> bytearray | None:
-    """For each second from the start whether turns are red, as somebody comes who goes first; none where nobody does.
-    times: when vehicles pass, coming: when those come who go first, where that is another time, by turn."""
+    """For the turns of one Waiting a byte for each second from start to end, 1 where they are red as somebody comes who
+    goes first; None where nobody does. times: when vehicles pass, by turn; coming: when those who go first come, None:
+    when they pass."""
     coming = times if coming is None else coming
     comes = [(second, foe) for foe in waiting.foes for second in coming.get((foe.link, foe.lane, foe.next), ())]
     comes.sort(key=lambda one: one[0])
@@ -139,8 +144,8 @@ def red_seconds(waiting: Waiting, times: Times, start: int, end: int, coming: Ti
 
 
 def near_passings(waiting: Waiting, times: Times, start: int, length: int) -> bytearray:
-    """For each second from the start whether somebody passes then, or a little before or after, on the lanes of turns
-    that give way: those of a lane wait for one another, wherever they go."""
+    """A byte for each of length seconds from the start, 1 where somebody passes then, or up to CLOSE seconds before or
+    after, on a lane of turns that give way. All of a lane count, wherever they turn, as they wait for one another."""
     lanes = {(link, lane) for link, lane, _ in waiting.turns}
     near = bytearray(length)
     for (link, lane, _), seconds in times.items():
@@ -150,8 +155,8 @@ def near_passings(waiting: Waiting, times: Times, start: int, length: int) -> by
 
 
 def keep_pace(red: bytearray, pace: Pace, comes: Sequence[float], near: Sequence[int], start: int) -> None:
-    """Hides seconds so that those who have to stop follow each other as slowly as they do, where somebody is near (by
-    second from the start); comes: when others come, rising. All ways of a street have the same seconds."""
+    """Makes seconds red so that those who have to stop follow each other as slowly as in SUMO, where somebody is near
+    (a byte a second, by near_passings). comes: the seconds at which others come, rising."""
     at, owed = 0, 0.0
     while at < len(red):
         period = pace.period(hourly_around(comes, at + start)) + owed
@@ -162,9 +167,10 @@ def keep_pace(red: bytearray, pace: Pace, comes: Sequence[float], near: Sequence
 
 
 class Counts:
-    """How many go first, by when they come, of whom the times rise."""
+    """How many vehicles go first around a second: on one lane, on one street, and in all."""
 
     def __init__(self, comes: Iterable[tuple[float, Foe]]) -> None:
+        """comes: (second, who goes first), by rising seconds."""
         self.by_lane: defaultdict[tuple[int, ...], list[float]] = defaultdict(list)
         self.by_street: defaultdict[int, list[float]] = defaultdict(list)
         self.every: list[float] = []
@@ -173,29 +179,29 @@ class Counts:
                 times.append(second)
 
     def lists_of(self, foe: Foe) -> tuple[list[float], list[float], list[float]]:
-        """When those of its lane come, of its street, and all."""
+        """The seconds at which vehicles come on the lane of a foe, on its street, and on all."""
         return self.by_lane[foe.link, foe.lane], self.by_street[foe.street], self.every
 
     def around(self, second: float, foe: Foe) -> tuple[float, ...]:
-        """Vehicles an hour of these three around a second."""
+        """Vehicles an hour around a second: on the lane of a foe, on its street, and on all."""
         return tuple(hourly_around(times, second) for times in self.lists_of(foe))
 
 
 def hourly_around(times: Sequence[float], second: float) -> float:
-    """Vehicles an hour within AROUND seconds before and after a second, of times that rise."""
+    """Vehicles an hour within AROUND seconds before and after a second; times: seconds that rise."""
     count = bisect_right(times, second + AROUND) - bisect_left(times, second - AROUND)
     return count * 3600 / (2 * AROUND)
 
 
 def close(red: bytearray, first: int, last: int) -> None:
-    """Makes the seconds from first to last, without it, red, as far as there are such."""
+    """Makes the places from first to before last red; those outside of red are passed over."""
     first, last = max(0, first), min(len(red), last)
     red[first:last] = b"\1" * (last - first)
 
 
 def followings(seconds: Sequence[float]) -> Iterator[tuple[float, float]]:
-    """When vehicles follow each other closely, of when they pass, which rises: (first second, last second), some more
-    before and after."""
+    """The stretches of time in which vehicles follow each other closely, (first second, last second), with CLOSE
+    seconds before and after; seconds: when they pass, rising."""
     first = 0
     for at in range(1, len(seconds) + 1):
         if at == len(seconds) or seconds[at] - seconds[at - 1] > CLOSE:
@@ -205,7 +211,8 @@ def followings(seconds: Sequence[float]) -> Iterator[tuple[float, float]]:
 
 
 def slow_down(red: bytearray, first: int, last: int) -> None:
-    """Hides some of each gap between two seconds from the start, so that not more use it than can."""
+    """Makes some seconds red in each gap between two seconds from the start: HIDDEN after every SHOWN, so that no more
+    vehicles use the gap than can."""
     at = red.find(0, max(0, first), max(0, last))
     while at >= 0:
         close(red, at + SHOWN, at + SHOWN + HIDDEN)
@@ -213,7 +220,7 @@ def slow_down(red: bytearray, first: int, last: int) -> None:
 
 
 def be_patient(red: bytearray) -> None:
-    """Lets one go after a long time without a gap."""
+    """Makes one second green after each PATIENCE seconds that are red without a break, so that one vehicle goes."""
     at = red.find(1)
     while at >= 0:
         end = red.find(0, at)

@@ -1,4 +1,4 @@
-"""When vehicles pass stop lines, by where polls of the lanes see them."""
+"""The seconds at which vehicles pass stop lines, reckoned from where polls of the lanes see them."""
 from collections import defaultdict
 from collections.abc import Sequence
 from dataclasses import dataclass
@@ -19,11 +19,12 @@ class Sight:
 
 
 class Passings:
-    """{(link, lane): [(second, next link)]}. Between two polls vehicles are taken to have come from where the second
-    one sees them at the speed of the free road."""
+    """Finds when vehicles pass stop lines: {(link, lane): [(second, next link)]}, in found. From one poll to the next a
+    vehicle is taken to drive at the speed of the free road up to where the later poll sees it."""
 
     def __init__(self, mapping: Map, enters: Sequence[Line], dawdle: int) -> None:
-        """enters: the run's vehicles, by number; dawdle: of 1,000."""
+        """enters: the enter lines of the run's vehicles, by number; dawdle: of 1,000 steps so many are by a cell
+        less."""
         self.links = mapping.links
         self.plans = [line.command["plan"] for line in enters]
         self.speeds = [link.limit - dawdle / 1000 for link in mapping.links]
@@ -32,7 +33,8 @@ class Passings:
         self.found: defaultdict[Place, list[tuple[float, int]]] = defaultdict(list)
 
     def note(self, car: int, clock: int, link: int, lane: int, cell: int, left: bool = False) -> None:
-        """A vehicle of the file is seen at a cell of a lane; left: in its buffer, past the stop line."""
+        """Notes that a vehicle, by its number in the file, is seen in a cell of a lane at a clock. left: it is past the
+        stop line, in the buffer. A link that is not ahead on its plan is passed over."""
         plan, before = self.plans[car], self.seen[car]
         place = before.place
         while place < len(plan) and plan[place] != link:
@@ -44,13 +46,13 @@ class Passings:
             self.between(plan, before, now)
 
     def arrived(self, car: int, clock: int) -> None:
-        """A vehicle has come to the end of its plan at a clock."""
+        """Notes that a vehicle, by its number in the file, has come to the end of its plan at a clock."""
         last = self.plans[car][-1]
         self.note(car, clock, last, 0, self.links[last].cells)
 
     def between(self, plan: Sequence[int], before: Sight, now: Sight) -> None:
-        """Notes the stop lines between two sights: of the links from the first one on,
-        and of the last if it is left."""
+        """Adds the stop lines that a vehicle passed between two sights: of the links from the first one on, and that of
+        the last link if it is past it."""
         first = self.links[plan[before.place]]
         usual = before.clock + max(0, first.cells - before.cell) / self.speeds[plan[before.place]]
         second = now.clock - (0 if now.left else now.cell / self.speeds[plan[now.place]])
@@ -65,7 +67,8 @@ class Passings:
             second -= self.driving(plan[at])
 
     def left(self, plan: Sequence[int], before: Sight, now: Sight, usual: float) -> float:
-        """Notes the stop line of the link in whose buffer a vehicle is; gives when it came to that link."""
+        """Adds the stop line of the link in whose buffer a vehicle is now; gives the second at which it came to that
+        link. usual: the second at which it would have passed the first link's line at free speed."""
         if now.place == before.place:
             self.add(plan, now.place, before.lane, min(now.clock, max(usual, now.clock - self.stay(plan[now.place]))))
             return now.clock
@@ -73,14 +76,15 @@ class Passings:
         return now.clock - self.driving(plan[now.place])
 
     def stay(self, link: int) -> int:
-        """Seconds in the junction behind a link."""
+        """Steps that a vehicle takes in the junction behind a link."""
         return self.stays[self.links[link].end]
 
     def driving(self, link: int) -> float:
-        """Seconds on a link at the free speed."""
+        """Seconds on a whole link at the speed of the free road."""
         return self.links[link].cells / self.speeds[link]
 
     def add(self, plan: Sequence[int], place: int, lane: int, second: float) -> None:
-        """Notes that the stop line of the link at a place of a plan is passed; the last link has none."""
+        """Adds that the stop line of the link at a place of a plan is passed on a lane at a second; nothing for the
+        last link, behind which no turn follows."""
         if place + 1 < len(plan):
             self.found[plan[place], lane].append((second, plan[place + 1]))

@@ -24,7 +24,7 @@ from streetsim.works.queues import reach_of
 
 
 class Recorder(Desk):
-    """Drives a run from its load to the end."""
+    """Drives a run from its load to the end, and keeps what its tables are made of."""
 
     notes_works = True  # what is seen before them
 
@@ -37,7 +37,8 @@ class Recorder(Desk):
         lanes_file: TextFile | None,
         tell: Tell,
     ) -> None:
-        """lanes_file: for the polls; a run without it leaves out SUMO's detectors too."""
+        """lanes_file: where polls are written; None: nowhere, and SUMO's detectors are left out too. tell: gets the
+        clock and the last census after each look."""
         detectors = mapping.detectors if lanes_file else ()
         super().__init__(sim, run, mapping, settings, detectors)
         self.lanes_file, self.tell = lanes_file, tell
@@ -60,7 +61,7 @@ class Recorder(Desk):
         self.fleet = Fleet(settings.buses, run, mapping)
 
     def record(self) -> Records:
-        """Makes the whole run."""
+        """Makes the whole run; gives its records."""
         asking = self.asking()
         self.begin(asking)
         clock = self.start
@@ -83,18 +84,19 @@ class Recorder(Desk):
         return asking_of(self.run, self.settings, self.places, self.polled, len(self.detectors))
 
     def enter(self, last: int) -> None:
-        """Sends the run's enters up to a place, and notes who they are."""
+        """Sends the run's enter lines up to the place last, that one left out, and notes the car number of each
+        vehicle."""
         for owner in range(self.entered, last):
             self.cars[owner] = len(self.owners)
             self.owners.append(owner)
         super().enter(last)
 
     def is_bound(self, car: int, link: int) -> bool:
-        """Whether a car, by its number in the program, has a link in its plan."""
+        """Whether a car, by its number in the program, has a link anywhere in its plan."""
         return link in self.run.enters[self.owners[car]].command["plan"]
 
     def look(self, clock: int) -> None:
-        """All that is asked at a clock."""
+        """Asks all that is due at a clock: polls, samples, census, rescues, detectors."""
         asking, minute = self.records.asking, clock % MINUTE == 0
         if self.settings.open_end and (minute or clock == self.settings.until):
             self.take_census(clock)
@@ -119,13 +121,14 @@ class Recorder(Desk):
         self.settings = replace(self.settings, until=clock)
 
     def take_census(self, clock: int) -> None:
-        """Counts all vehicles, once at a clock."""
+        """Counts all vehicles; nothing where the last census is of this clock."""
         if not self.records.censuses or self.records.censuses[-1].clock != clock:
             self.records.censuses.append(self.sim.count())
             self.records.calls += 1
 
     def note_lanes(self, clock: int, lanes: Mapping[Place, Lane]) -> None:
-        """Notes the queues of a poll at stop lines and before works, and writes it to the file of polls."""
+        """Notes the queues that a poll of lanes shows at stop lines and before works, and writes the poll to the file
+        of polls."""
         shown = []
         for place in self.polled:
             if place in lanes:
@@ -142,8 +145,8 @@ class Recorder(Desk):
         self.lanes_file.write(json.dumps({"clock": clock, "lanes": shown}, separators=(",", ":")) + "\n")
 
     def note_works(self, clock: int, lanes: Mapping[Place, Lane]) -> None:
-        """Notes at a poll the queue before each of the works that are under way, in vehicles and metres; none where
-        nobody queues."""
+        """Notes at a poll the queue before each of the works under way, in vehicles that stand and metres; nothing
+        where nobody queues."""
         for one in self.works.watched:
             place = one.closure
             if place.begin < clock <= place.end:
@@ -153,7 +156,8 @@ class Recorder(Desk):
                     self.records.queues.append(row)
 
     def vehicles(self, owners: Iterable[int]) -> list[Vehicle]:
-        """The replies on vehicles of the file, which have entered, by the last number that each had."""
+        """The replies on vehicles of the file that have entered, by their numbers there; of a vehicle that was rescued,
+        on the car that it became. Fault where one is refused."""
         replies = list(
             map(read_reply, self.exchange(b'{"cmd":"vehicle","car":%d}\n' % self.cars[owner] for owner in owners))
         )
@@ -163,8 +167,8 @@ class Recorder(Desk):
         return [reply for reply in replies if isinstance(reply, Vehicle)]
 
     def rescue(self, clock: int, lanes: Mapping[Place, Lane]) -> None:
-        """Takes out who has stood at a stop line, or in front of a buffer, for too long, and enters it on the rest of
-        its plan."""
+        """Takes out each vehicle that has stood at a stop line, or first in a buffer, for settings.rescue seconds, and
+        enters it anew on the rest of its plan."""
         standing_now: dict[tuple[int, int], int] = {}
         for (link, _), reply in lanes.items():
             if reply.buffer:
@@ -178,7 +182,8 @@ class Recorder(Desk):
             self.take_and_enter(clock, key[0])
 
     def take_and_enter(self, clock: int, car: int) -> None:
-        """Takes a vehicle out and enters it anew on the next link of its plan."""
+        """Takes a car out and enters its vehicle anew on the next link of its plan; nothing where it is on its last
+        link."""
         vehicle = self.sim.vehicle(car)
         rest = list(vehicle.plan[1:])
         self.records.calls += 1
@@ -206,7 +211,7 @@ class Recorder(Desk):
         )
 
     def found_ends(self) -> list[Vehicle | None]:
-        """Where each vehicle of the file is at the end; none for those that were never told."""
+        """The last reply on each vehicle of the file; None for those that were never sent."""
         return [*self.vehicles(range(self.entered)), *[None] * (len(self.run.enters) - self.entered)]
 
 
@@ -214,7 +219,8 @@ class Repeater(Desk):
     """Repeats a run with detectors on other lanes: detectors and questions change nothing."""
 
     def record(self, first: Records, asking: Asking, tell: Callable[[int], object]) -> Records:
-        """The records of these lanes; first: the records of the run that is repeated."""
+        """Repeats a run; gives the records of the lanes that asking measures. first: the records of the run that is
+        repeated; tell: gets the clock. Fault where it comes to another last census."""
         self.begin(asking)
         clock, rescued = self.start, list(reversed(first.rescued))
         while clock < self.settings.until:
@@ -232,7 +238,7 @@ class Repeater(Desk):
         return self.records
 
     def repeat(self, clock: int, car: int, command: Command) -> None:
-        """Takes a car out and enters its vehicle anew, as the first run did at this clock."""
+        """Takes a car out and enters its vehicle anew by a command, as the first run did at this clock."""
         vehicle = self.sim.vehicle(car)
         if vehicle.state == "cell":
             self.records.edgedata.take(clock, vehicle.place[0])
@@ -242,8 +248,8 @@ class Repeater(Desk):
 
 
 def standing(cells: Iterable[Sequence[int]], length: int) -> tuple[int, int]:
-    """How many vehicles stand without a gap from the stop line, and the cells that they cover;
-    cells from the greatest."""
+    """How many vehicles stand without a gap from the stop line on, and the cells that they cover; cells: of a lane's
+    reply, the greatest cell first; length: the lane's cells."""
     count = covered = 0
     for _, cell, speed, *size in cells:
         if speed or cell != length - 1 - covered:

@@ -1,4 +1,4 @@
-"""What a run asks for, and what is kept of it."""
+"""What is kept of a run."""
 from collections import Counter
 from collections.abc import Callable
 from contextlib import AbstractContextManager
@@ -23,6 +23,8 @@ Serving = Callable[[], AbstractContextManager[Client]]  # begins the program of 
 
 @dataclass(slots=True)
 class Records:
+    """What is kept of a run, from which its tables are made."""
+
     counts: dict[Place, dict[int, Row]] = field(default_factory=dict)  # (link, lane): rows by their begin
     loops: dict[str, dict[int, Row]] = field(default_factory=dict)  # e1: rows by their begin
     areas: Areas = field(default_factory=lambda: Areas([], 0))  # what e2 saw
@@ -47,7 +49,8 @@ class Records:
 
 @dataclass(frozen=True, slots=True)
 class Recorded:
-    """A run that was made, and what it takes to repeat it for further looks: changing nothing, side by side."""
+    """A run that was made, and what it takes to repeat it for further looks, which change nothing and go side by
+    side."""
 
     run: Run
     mapping: Map

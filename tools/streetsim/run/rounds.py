@@ -1,6 +1,6 @@
-"""Giving way without a light, by rounds: a run is made, it is read from it when vehicles pass their stop lines,
-and the next run has signals that are green in the gaps between those who go first. As who waits changes who comes
-when, this is repeated."""
+"""Giving way without a light, by rounds: a round is a run from which it is read when vehicles pass stop lines; the next
+one has signals that are green in the gaps between those who go first. As who waits changes who comes when, this is
+repeated."""
 from collections.abc import Callable, Iterable, Mapping, Sequence
 from contextlib import AbstractContextManager
 from dataclasses import dataclass, replace
@@ -34,14 +34,15 @@ class Yielding:
     every: int = 0  # seconds between the polls of the rounds
 
     def told(self) -> str:
-        """What there is to say, or nothing."""
+        """How many junctions give way by how many signal lines, for the user; empty where there are none."""
         if not self.lines:
             return ""
         return f"{self.junctions:,} junctions without a light give way by {self.lines:,} signal lines"
 
 
 class Round(Recorder):
-    """A run that is watched for who passes which stop line when; it ends when all have arrived."""
+    """A run that is made only to see who passes which stop line when; it ends when all have arrived, or at its last
+    clock."""
 
     notes_works = False
 
@@ -53,7 +54,7 @@ class Round(Recorder):
         self.passings = Passings(mapping, run.enters, run.load.command.get("dawdle", 0))
 
     def record(self) -> Passed:  # type: ignore[override]  # in place of tables
-        """Makes the round; gives when vehicles passed."""
+        """Makes the round; gives when vehicles passed, {(link, lane): [(second, next link)]}."""
         self.begin(self.asking())
         clock = self.start
         while clock < self.settings.until and not self.is_over():
@@ -67,11 +68,11 @@ class Round(Recorder):
         return self.passings.found
 
     def asking(self) -> Asking:
-        """Polls alone, without detectors."""
+        """What a round asks: polls alone, without detectors."""
         return Asking(EVERY, [], 0)
 
     def is_over(self) -> bool:
-        """Whether all have entered and ended."""
+        """Whether all vehicles have entered, and arrived or been taken out."""
         last = self.records.censuses[-1] if self.records.censuses else None
         return self.entered == len(self.run.enters) and last is not None and last.admitted == last.arrived + last.taken
 
@@ -91,8 +92,8 @@ class Round(Recorder):
 def giving_way(
     run: Run, mapping: Map, settings: Settings, rounds: int, start: Start, tell: Tell
 ) -> tuple[Run, Yielding]:
-    """The run with signals by which its vehicles give way without a light, found in so many rounds, and what they are.
-    `start` starts the program, `tell` gets the clock and the last census."""
+    """The run with signal lines by which its vehicles give way without a light, found in so many rounds, and how many
+    they are. start: starts the program; tell: gets the clock and the last census."""
     lines, yielding = gaps_of(run, mapping, settings, rounds, start, tell)
     return with_lines(run, lines), yielding
 
@@ -100,8 +101,8 @@ def giving_way(
 def gaps_of(
     run: Run, mapping: Map, settings: Settings, rounds: int, start: Start, tell: Tell
 ) -> tuple[list[tuple[int, Line]], Yielding]:
-    """The signal lines by which the vehicles of a run give way without a light, (clock, line), and what they are.
-    `start` and `tell` are as those of giving_way."""
+    """The signal lines, (clock, line), by which the vehicles of a run give way without a light, and how many they are;
+    none where rounds is 0 or the map has nobody who gives way. start, tell: as of giving_way."""
     if not rounds or not mapping.yields:
         return [], Yielding()
     places = places_of(mapping)
@@ -125,22 +126,22 @@ def gaps_of(
 def giving_way_to_scripts(
     run: Run, mapping: Map, rounds: int, program: str | None = None, workers: int = 1, lights: Lights = LISTED
 ) -> tuple[Run, Yielding]:
-    """The run of a script with signals by which the vehicles of its file give way without a light, and what
-    they are. As its end is not known, rounds end when all have arrived, or an hour after the last
-    departure; nobody is rescued."""
+    """The run of a script with signal lines by which the vehicles of its file give way without a light, and how many
+    they are. As its end is not known, rounds end when all have arrived, or an hour after the last departure; nobody is
+    rescued. program: None: the usual one."""
     settings = Settings(script_end(run), rescue=0, lights=lights)
     return giving_way(run, mapping, settings, rounds, partial(serving, program, run.path, workers), lambda *_: None)
 
 
 def script_end(run: Run) -> int:
-    """A clock by which a script's run is thought to be over."""
+    """The clock until which rounds for a script go: an hour after its last departure."""
     last = max((line.command["depart"] for line in run.enters), default=run.start())
     return min(limits.CLOCK, max(last, run.start()) + HOUR)
 
 
 def places_of(mapping: Map) -> list[Place]:
-    """The lanes on which those are seen who go first, and those who give way to them slowly,
-    before and after the stop line."""
+    """The lanes, (link, lane), that rounds look at: those of vehicles that go first, before and after the stop line,
+    and those of vehicles that give way to them slowly."""
     links = {link for one in mapping.yields for foe in one.foes for link in (foe.link, foe.next)}
     slow = (turn for one in mapping.yields if one.is_slow for turn in one.turns)
     links.update(link for begin, _, end in slow for link in (begin, end))
@@ -148,7 +149,8 @@ def places_of(mapping: Map) -> list[Place]:
 
 
 def with_lines(run: Run, lines: Iterable[tuple[int, Line]]) -> Run:
-    """The run with more timed lines, (clock, line), none before its start."""
+    """The run with further timed lines, (clock, line), of clocks not before its start; those of the start become first
+    lines."""
     start = run.start()
     first = [*run.first, *(line for clock, line in lines if clock == start)]
     timed = sorted([*run.timed, *(pair for pair in lines if pair[0] > start)], key=itemgetter(0))

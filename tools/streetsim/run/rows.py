@@ -14,7 +14,8 @@ from streetsim.run.records import Records
 
 
 def counts(records: Records, mapping: Map) -> Iterator[Entry]:
-    """A row for each period and lane that has a detector."""
+    """The rows of counts.csv, for each period and lane that has a detector: vehicles, vehicles an hour, km/h (empty
+    where nobody passed) and the percentage of time in which its cell is covered."""
     for (link, lane), rows in sorted(records.counts.items()):
         for row in rows.values():
             yield (
@@ -31,14 +32,16 @@ def counts(records: Records, mapping: Map) -> Iterator[Entry]:
 
 
 def edges(records: Records, mapping: Map) -> Iterator[Entry]:
-    """A row for each period and edge of which all lanes have a detector, as SUMO's edgeData."""
+    """The rows of edges.csv, for each period and edge of which all lanes have a detector, as in SUMO's edgeData; empty
+    texts for what is not known."""
     for begin, end, edge, entered, left, *seen in edge_rows(records.counts, records.edgedata, mapping):
         texts = ("" if value is None else f"{value:.2f}" for value in seen)
         yield begin, end, edge, "" if entered is None else entered, left, *texts
 
 
 def trips(records: Records, run: Run, mapping: Map) -> Iterator[Entry]:
-    """A row for each vehicle of the run file, as SUMO's tripinfo; a trip lasts from the wished departure to arrival."""
+    """The rows of trips.csv, one for each vehicle of the run file, as in SUMO's tripinfo. A trip lasts from the wished
+    departure to arrival; its numbers are empty where it has not arrived."""
     alone, stood = Alone(mapping, run.load.command["dawdle"] / 1000), dwelt(records)
     for place, (name, line, end) in enumerate(zip(names(run, mapping), run.enters, records.ends, strict=True)):
         plan, depart = line.command["plan"], line.command["depart"]
@@ -53,7 +56,8 @@ def trips(records: Records, run: Run, mapping: Map) -> Iterator[Entry]:
 
 
 def dwelt(records: Records) -> Counter[int]:
-    """The seconds that vehicles stood at their stops."""
+    """The seconds that vehicles stood at their stops, by their number in the file; stops that they have not left do not
+    count."""
     found: Counter[int] = Counter()
     for one in records.stops:
         if one.arrived is not None and one.left is not None:
@@ -62,7 +66,8 @@ def dwelt(records: Records) -> Counter[int]:
 
 
 def stops(records: Records, run: Run, mapping: Map) -> Iterator[Entry]:
-    """A row for each stop of each vehicle, vehicle by vehicle."""
+    """The rows of stops.csv: each stop of each vehicle, vehicle by vehicle; clocks and seconds are empty where they did
+    not come about."""
     vehicles, lines = names(run, mapping), lines_of(mapping.kinds, len(run.enters))
     for one in sorted(records.stops, key=lambda one: (one.visit.vehicle, one.visit.at)):
         visit, link = one.visit, mapping.links[one.visit.link]
@@ -79,25 +84,28 @@ def stops(records: Records, run: Run, mapping: Map) -> Iterator[Entry]:
 
 
 def names(run: Run, mapping: Map) -> list[str]:
-    """SUMO's names of the vehicles; those that were added to the run file by hand go by their number."""
+    """SUMO's names of the run's vehicles; those that were added to the run file by hand are called # and their
+    number."""
     return [*mapping.cars, *(f"#{number}" for number in range(len(mapping.cars), len(run.enters)))][: len(run.enters)]
 
 
 def queues(records: Records, mapping: Map) -> Iterator[Entry]:
-    """A row for each poll and lane where vehicles stand at the stop line, or before works."""
+    """The rows of queues.csv, for each poll and lane where vehicles stand at the stop line or before works: how many,
+    and the metres that they cover."""
     for clock, link, lane, count, metres, before in records.queues:
         at = mapping.links[link]
         yield clock, at.edge, at.lanes[lane], count, round(metres, 1), before
 
 
 def summary(records: Records) -> Iterator[Entry]:
-    """A row for each census."""
+    """The rows of summary.csv, one for each census."""
     for census in records.censuses:
         yield census.clock, census.admitted, census.waiting, census.cells, census.buffers, census.arrived, census.taken
 
 
 def loop_rows(records: Records, detectors: Iterable[Detector]) -> Iterator[tuple[object, ...]]:
-    """(begin, end, id, vehicles, an hour, km/h, occupancy in percent) of each period of each e1."""
+    """(begin, end, id, vehicles, vehicles an hour, km/h, occupancy in percent) of each period of each induction loop
+    (e1); km/h is empty where nobody passed."""
     for one in detectors:
         for row in records.loops.get(one.name, {}).values():
             flow, density = f"{row.flow * 3600:.1f}", f"{row.density * 100:.1f}"
@@ -106,7 +114,8 @@ def loop_rows(records: Records, detectors: Iterable[Detector]) -> Iterator[tuple
 
 def area_rows(records: Records, detectors: Iterable[Detector], until: int) -> Iterator[tuple[object, ...]]:
     """(begin, end, id, mean and most vehicles, km/h, occupancy in percent, mean and longest jam in vehicles) of each
-    period of each e2; until: where the last period ends at the latest."""
+    period of each lane area (e2); km/h is empty where nobody was seen. until: where the last period ends at the
+    latest."""
     for one in detectors:
         for (_, begin), area in sorted(item for item in records.areas.seen.items() if item[0][0] == one.name):
             metres = (one.last - one.first + 1) * one.cell_metres

@@ -7,6 +7,8 @@ from streetsim.buses.planned import NONE, Planned
 
 @dataclass(frozen=True, slots=True)
 class Settings:
+    """What a run is asked for; times are seconds."""
+
     until: int  # the last clock
     every: int | None = None  # seconds between polls of the lanes; none: 10; 0: never
     period: int = 900  # seconds of a count

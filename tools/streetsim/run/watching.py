@@ -17,10 +17,11 @@ LOOKS = 1_000_000  # at a lane, of which a further run makes about as many
 
 
 class Watcher(Desk):
-    """Repeats a run up to the last of some clocks, and looks at lanes at each of them."""
+    """Repeats a run up to the last of some clocks, and looks at lanes at each of these."""
 
     def look(self, rescued: Sequence[Rescue], clocks: Iterable[int], lanes: Sequence[Place]) -> Iterator[Frame]:
-        """What stands there at each clock, as a folder's polls. rescued: (clock, car, enter command) of the run."""
+        """What stands on lanes at each clock, as in a folder's polls. rescued: (clock, car, enter command) of the run
+        that is repeated; clocks: rising."""
         self.begin(Asking(0, [], 0))
         self.owners: list[int] = []  # the vehicle of the file by car number
         left, clock = list(reversed(rescued)), self.start
@@ -34,12 +35,12 @@ class Watcher(Desk):
                     self.repeat(*left.pop()[1:])
 
     def enter(self, last: int) -> None:
-        """Sends the run's enters up to a place, whose cars follow those so far."""
+        """Sends the run's enter lines up to the place last, that one left out, and notes whose cars they are."""
         self.owners += range(self.entered, last)
         super().enter(last)
 
     def frame(self, clock: int, lanes: Iterable[Place]) -> Frame:
-        """What stands on some lanes at a clock, as a folder's polls; without closed stretches."""
+        """What stands on some lanes at a clock, as in a folder's polls; closed stretches are left out."""
         shown = []
         for (link, lane), reply in self.lanes(lanes).items():
             cells = [(self.owners[car], *rest) for car, *rest in reply.cells]
@@ -48,7 +49,8 @@ class Watcher(Desk):
         return {"clock": clock, "lanes": shown}
 
     def repeat(self, car: int, command: Command) -> None:
-        """Takes a car out and enters its vehicle anew, as the run did at this clock."""
+        """Takes a car out and enters its vehicle anew by a command, as the run did at this clock; Fault where that is
+        refused."""
         for reply in map(read_reply, self.exchange([line_of({"cmd": "takeout", "car": car}), line_of(command)])):
             if isinstance(reply, Refused):
                 raise Fault(f"{self.run.path}: a rescue that is repeated was refused: {reply}")
@@ -56,14 +58,14 @@ class Watcher(Desk):
 
 
 def windows(clocks: Sequence[int], lanes: Sequence[Place]) -> list[Sequence[int]]:
-    """Clocks in parts, each of which is looked at by a run of its own, so that these go side by side."""
+    """The clocks in parts, each of which one further run looks at; a part has about LOOKS looks at a lane."""
     room = max(1, LOOKS // max(1, len(lanes)))
     return [clocks[at : at + room] for at in range(0, len(clocks), room)]
 
 
 def watch(made: Recorded, clocks: Sequence[int], lanes: Sequence[Place]) -> Iterator[Frame]:
-    """Yields the frames of the clocks, in order. Runs go side by side, and each writes what it sees to a file, which is
-    removed when it is read."""
+    """The frames of the clocks, in order, with what stands on lanes. Further runs make them side by side; each writes
+    what it sees to a file, which is removed when it is read."""
 
     def look(part: tuple[int, Sequence[int]], _tell: object) -> str:
         place, clocks = part

@@ -1,4 +1,4 @@
-"""The works of a run while it goes: vehicles merge before them by turns, and what is seen there is noted."""
+"""The works of a run while it goes: vehicles merge before them by turns, and what is seen before them is noted."""
 from collections.abc import Callable, Iterable, Iterator, Sequence
 
 from streetsim.base.client import Lane
@@ -16,12 +16,13 @@ Look = Callable[[Iterable[Place]], dict[Place, Lane]]  # gives the lanes on whic
 
 
 class Works:
-    """pace: seconds that one alone takes for a cell of each link; where it is given, what is seen is noted."""
+    """Merging before works and looks at them. pace: seconds that one vehicle alone takes for a cell, by link; empty:
+    what is seen is not noted."""
 
     def __init__(
         self, closures: Sequence[Closure], mapping: Map, merging: bool = False, pace: Sequence[float] = ()
     ) -> None:
-        """merging: whether vehicles merge by turns."""
+        """merging: whether vehicles merge by turns on links of two lanes."""
         self.mapping = mapping
         links = {one.link for one in closures if len(mapping.links[one.link].lanes) == 2} if merging else set()
         self.merges = Merges({link: mapping.links[link].cells for link in links})
@@ -29,15 +30,15 @@ class Works:
         self.watched = [Watched(one, streets, pace) for one in closures] if streets else []
 
     def next(self, clock: int) -> int | None:
-        """The clock after this one at which lanes are to be looked at; none where there is nothing to look at any
-        more."""
+        """The next clock after this one at which lanes are to be looked at; None where there is nothing left to look
+        at."""
         clocks = [due for one in self.watched if (due := due_after(one, clock)) is not None]
         merging = self.merges.next()
         return min(clocks if merging is None else [*clocks, max(merging, clock + 1)], default=None)
 
     def look(self, clock: int, lanes: Look, bound: Bound) -> Iterator[Command]:
-        """Looks at what is due at a clock, and gives what is to be sent before the next step; bound: whether a car has
-        a link in its plan."""
+        """Looks at what is due at a clock, and gives the commands to send before the next step. lanes: gives what
+        stands on lanes; bound: whether a car has a link in its plan."""
         merging, watched = self.merges.due(clock), [one for one in self.watched if due_after(one, clock - 1) == clock]
         seen = self.seen({*merging, *(one.closure.link for one in watched)}, lanes)
         for one in watched:
@@ -49,14 +50,14 @@ class Works:
             yield from self.merges.told(clock, link, (seen[link, 0], seen[link, 1]))
 
     def seen(self, links: Iterable[int], lanes: Look) -> dict[Place, Lane]:
-        """What stands on all lanes of some links."""
+        """What stands on all lanes of some links, empty lanes among them."""
         places = [(link, lane) for link in sorted(links) for lane in range(len(self.mapping.links[link].lanes))]
         found = lanes(places) if places else {}
         return {place: found.get(place, NOTHING) for place in places}
 
 
 def due_after(watched: Watched, clock: int) -> int | None:
-    """The clock of the first look at a place after a clock; none where its works are over."""
+    """The clock of the first look at a place of works after a clock; None where the works are over."""
     begin, end = watched.closure.begin, watched.closure.end
     following = begin + (max(0, clock - begin) // EVERY + 1) * EVERY
     return min(following, end) if clock < end else None

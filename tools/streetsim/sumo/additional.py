@@ -1,4 +1,4 @@
-"""Additional files: programs, types, detectors, demand."""
+"""Reads SUMO's additional files: signal programs, vehicle types, detectors, bus stops, demand."""
 from collections import defaultdict
 from xml.etree.ElementTree import Element
 
@@ -20,8 +20,8 @@ DEMAND = ("route", "routeDistribution", "vehicle", "flow", "trip", "person", "pe
 
 
 def read_additional(path: FilePath, net: SumoNet, types: Types, report: Report, demand: Demand | None = None) -> None:
-    """Adds to a network the signal programs and detectors of an additional file, to types its vehicle types, and to a
-    demand its vehicles, flows and routes, which are a Fault where no demand is given; all else is reported."""
+    """Reads an additional file: signal programs, detectors and bus stops go to a network, vehicle types to types, and
+    vehicles, flows and routes to a demand (None: they are a Fault). All other elements are passed over and reported."""
     undone = defaultdict(list)
     for element in elements(path, ["additional", "add", "routes", "tlLogics"]):
         if element.tag == "tlLogic":
@@ -46,7 +46,7 @@ def read_additional(path: FilePath, net: SumoNet, types: Types, report: Report, 
 
 
 def refuse_unknown_light(path: FilePath, element: Element, net: SumoNet) -> None:
-    """Refuses a program of a light that the network does not have, as SUMO does."""
+    """Fault where a program is of a light that the network does not have, as in SUMO."""
     light = attribute(path, element, "id")
     if light not in net.programs and all(light != one.light for one in net.connections):
         raise Fault(f"{told(path, element)}: the network has no light of this name")

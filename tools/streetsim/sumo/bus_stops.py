@@ -8,7 +8,8 @@ NEAR = 0.1  # metres, by which lengths are rounded
 
 @dataclass(slots=True, frozen=True)
 class BusStop:
-    """A bus stop of an additional file; places in metres, below 0 from the lane's end."""
+    """A bus stop of an additional file, on a lane; begin and end in metres from the lane's begin, below 0 from its end;
+    None: the lane's begin or end."""
 
     lane: str
     begin: float | None
@@ -16,8 +17,8 @@ class BusStop:
 
 
 def stretch(stop: BusStop, length: float, is_friendly: bool, where: str) -> tuple[float, float]:
-    """From where to where a stop lies on a lane of some length, in metres; Fault where it lies beyond, and may not be
-    moved onto it."""
+    """The (begin, end) metres of a stop on a lane of some length; Fault where it lies beyond the lane, unless
+    is_friendly: then it is moved onto it. where: the element, for the Fault."""
     begin, end = (at + length if at is not None and at < 0 else at for at in (stop.begin, stop.end))
     end = length if end is None else end
     begin = 0.0 if begin is None else begin

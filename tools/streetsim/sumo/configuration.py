@@ -45,8 +45,8 @@ HERE = {  # what a configuration asks for otherwise than it is done here, and wh
 
 
 def read_configuration(path: str) -> dict[str, str]:
-    """What a configuration (.sumocfg) sets, {option: value}.
-    Its root and its sections may have any name, as in SUMO."""
+    """The options that a configuration (.sumocfg) sets, {long name: value}; paths are made those from the folder of the
+    command. Its root and its sections may have any name, as in SUMO."""
     found = {}
     for element in elements(path, None):
         for one in element.iter():
@@ -64,8 +64,8 @@ def read_configuration(path: str) -> dict[str, str]:
 
 
 def files_named(path: str, options: Mapping[str, str]) -> tuple[str, list[str], list[str]]:
-    """The network, the additional files and the files of routes that a configuration (at this path) names by its
-    options; Fault where it names no network."""
+    """(network, additional files, files of routes) that the options of a configuration name, as read_configuration
+    gives them; path: of the configuration, for the Fault where it names no network."""
     if not options.get("net-file"):
         raise Fault(f"{path}: names no network (net-file)")
     additional, routes = (
@@ -75,7 +75,8 @@ def files_named(path: str, options: Mapping[str, str]) -> tuple[str, list[str], 
 
 
 def tell_options(options: Mapping[str, str], report: Report) -> None:
-    """Reports the options of a configuration that are not done here."""
+    """Reports the options of a configuration that are not done here; those that change nothing that is simulated are
+    passed over."""
     for name, value in options.items():
         off = value.lower() in FALSE
         if name in DONE or SILENT.fullmatch(name) or off or (name in ("step-length", "scale") and is_one(value)):
@@ -89,6 +90,7 @@ def tell_options(options: Mapping[str, str], report: Report) -> None:
 
 
 def is_one(value: str) -> bool:
+    """Whether a text is the number 1; False for a text that is no number."""
     try:
         return float(value) == 1
     except ValueError:

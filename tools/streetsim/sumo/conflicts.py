@@ -31,7 +31,8 @@ PACES = {STOPS: Pace(2, 4.15), ALL_STOP: Pace(2, 4.15, 0.7)}
 
 
 def conflicts_of(net: SumoNet, network: Network, flows: Flows) -> list[Waiting]:
-    """What gives way where no light is, of the movements that routes use; flows: their vehicles an hour."""
+    """Who gives way where there is no light, one Waiting for each movement that routes use and that gives way; flows:
+    vehicles an hour by (edge, next edge), without which a movement counts as unused."""
     turns_at = defaultdict(list)
     for link, lane, following in network.turns:
         turns_at[network.links[link].edge, network.links[following].edge].append((link, lane, following))
@@ -49,8 +50,9 @@ def conflicts_of(net: SumoNet, network: Network, flows: Flows) -> list[Waiting]:
 def foes_by_way(
     connections: Iterable[Connection], yields: Mapping[int, Iterable[int]], network: Network, flows: Flows
 ) -> dict[Way, dict[TurnKey, Foe]]:
-    """Those who go before each used way of a junction, {(edge, next edge): {(link, lane, next link): foe}}. Where all
-    have to stop these are all who come from other streets, as those of one lane wait for one another's."""
+    """Those who go before each used movement of a junction, {(edge, next edge): {(link, lane, next link): foe}}.
+    yields: the requests that each request gives way to. Where all have to stop, these are all who come from other
+    streets."""
     used = (one for one in connections if flows.get((one.source, one.target)))
     of_request = {one.request: one for one in used if one.request is not None}
     found: dict[Way, dict[TurnKey, Foe]] = {(one.source, one.target): {} for one in of_request.values()}
@@ -65,8 +67,8 @@ def foes_by_way(
 
 
 def foes(one: Connection, other: Connection, network: Network) -> dict[TurnKey, Foe]:
-    """The vehicles of another connection, to which those of one give way, by the turns that they make, {(link, lane,
-    next link): foe}; each with the gap, in seconds, that has to be free before it."""
+    """The turns of another connection, to which vehicles of one give way, {(link, lane, next link): foe}; each foe has
+    the gap in seconds that must be free before it."""
     link, lane = network.place_of[other.source, other.source_lane]
     links = network.links_of[other.source]
     fast = joins_fast(one, other, network.links[link].speed, other.source in network.rings)
@@ -83,21 +85,22 @@ def foes(one: Connection, other: Connection, network: Network) -> dict[TurnKey, 
 
 
 def joins_fast(one: Connection, other: Connection, speed: float, in_ring: bool) -> bool:
-    """Whether one joins the stream of another that drives fast; speed: of its street."""
+    """Whether a connection joins the stream of another whose vehicles are faster than FAST; speed: of the other's
+    street, metres a second; in_ring: the other is in a roundabout, where its speed inside the junction counts."""
     own = other.speed if in_ring and other.speed is not None else speed
     return one.target == other.target and own > FAST
 
 
 def gap_of(one: Connection, other: Connection, fast: bool) -> Gap:
-    """The gap that one needs before each vehicle of another that goes first, on one lane; fast: as `joins_fast`
+    """The gap that one who gives way needs before each vehicle of another connection on one lane; fast: as joins_fast
     says."""
     gap = JOINING if fast else ENTERING if one.target == other.target else CROSSING
     return NONE if one.state == ALL_STOP else OTHERS[one.state][gap] if one.state in OTHERS else gap
 
 
 def gaps_of_ways(net: SumoNet) -> dict[Way, dict[Way, Gap]]:
-    """Those who go before each way where no light is, whether or not routes take it: {way: {way that goes first:
-    gap}}."""
+    """Those who go before each movement without a light, whether or not routes take it: {(edge, next edge): {movement
+    that goes first: the gap before it}}."""
     found: defaultdict[Way, dict[Way, Gap]] = defaultdict(dict)
     for junction, connections in connections_of(net).items():
         of_request = {one.request: one for one in connections if one.request is not None and not one.light}

@@ -1,4 +1,4 @@
-"""A network that was read, and its vehicles, to the lines of a run and the map of its names."""
+"""Makes the lines of a run and the map of its names, of a network that was read and its vehicles."""
 import json
 from collections.abc import Iterable, Sequence
 from dataclasses import asdict
@@ -26,7 +26,8 @@ Made = tuple[Network, list[tuple[str, int]], list[Command], list[str]]
 
 
 def run_and_map(made: Made, report: Report) -> tuple[list[str], Map]:
-    """The lines of the run as texts, and its map, of what `converted` made."""
+    """The lines of a run as texts, and its map, of what converted made; Fault where a limit of the simulator is
+    passed."""
     network, lights, commands, names = made
     mapping = map_of(network, lights, names, report)
     mapping.detectors = placed(network.detectors, mapping, network.closed_lanes, report)
@@ -37,8 +38,8 @@ def run_and_map(made: Made, report: Report) -> tuple[list[str], Map]:
 
 
 def converted(net: SumoNet, types: Types, vehicles: Sequence[Vehicle], options: Options, report: Report) -> Made:
-    """The network, lights, commands and names of a run, of a network that was read and vehicles in order of
-    departure."""
+    """The network, the lights with their nodes, the commands and the vehicles' names of a run; vehicles: in order of
+    departure. What is left out or made otherwise than in SUMO is reported."""
     if options.slow:
         net, vehicles = slowed(net, vehicles, options.slow, report)
     flows = hourly_flows(vehicles)
@@ -66,7 +67,8 @@ def converted(net: SumoNet, types: Types, vehicles: Sequence[Vehicle], options: 
 
 
 def refuse_over_limits(network: Network, load: str, names: Sequence[str]) -> None:
-    """Refuses what the simulator does not take: load is its line, names are of the vehicles."""
+    """Fault where the simulator would refuse the run by its limits; load: the load line as text; names: of the
+    vehicles."""
     over = list(network.over_limits())
     if len(names) > limits.VEHICLES:
         over.append(f"{len(names):,} vehicles, at most {limits.VEHICLES:,}")
@@ -77,7 +79,8 @@ def refuse_over_limits(network: Network, load: str, names: Sequence[str]) -> Non
 
 
 def map_of(network: Network, lights: list[tuple[str, int]], names: list[str], report: Report) -> Map:
-    """The map of an import; lights: each with its node; names: of the vehicles, by number."""
+    """The map of an import; lights: (light, node), one for each node; names: of the vehicles, in order of their
+    numbers."""
     options = asdict(network.options)
     return Map(
         nodes=[
@@ -109,6 +112,6 @@ def map_of(network: Network, lights: list[tuple[str, int]], names: list[str], re
 
 
 def options_again(mapping: Map, **more: Iterable[str]) -> Options:
-    """The options of the import that made a map, with more in some of them: joint, led, slow."""
+    """The options of the import that made a map, with further values in those that are lists: joint, led, slow."""
     known: Json = {name: tuple(value) if isinstance(value, list) else value for name, value in mapping.options.items()}
     return Options(**{**known, **{name: (*known.get(name, ()), *values) for name, values in more.items()}})

@@ -1,4 +1,4 @@
-"""Reads SUMO vehicles, flows and routes (.rou.xml) and makes enter commands of them."""
+"""Reads SUMO's vehicles, flows and routes (.rou.xml) and makes enter commands of them."""
 import math
 import random
 from collections import Counter
@@ -53,7 +53,7 @@ class Vehicle:
 
 
 class Demand:
-    """The vehicles of route files, and the routes that they name."""
+    """The vehicles of route files, and the routes that these name."""
 
     def __init__(self, net: SumoNet, types: Types, seed: int, report: Report) -> None:
         """seed: of the draws of flows and of routes from distributions."""
@@ -66,12 +66,13 @@ class Demand:
         self.later: list[tuple[Vehicle, str]] = []  # (vehicle, file and element): routes may be told after the vehicles
 
     def read(self, path: FilePath) -> None:
-        """Adds what a file of routes has."""
+        """Adds what a file of routes has; Fault where it is wrong."""
         for element in elements(path, ["routes", "additional", "add"]):
             self.read_element(path, element)
 
     def read_element(self, path: FilePath, element: Element) -> None:
-        """Adds an element of a file of routes, which may also stand in an additional file; a trip is Unrouted."""
+        """Adds an element of a file of routes, which may also stand in an additional file. A trip is refused as
+        Unrouted; persons and containers are reported as skipped, unknown elements as ignored."""
         readers = {
             "route": self.read_route,
             "routeDistribution": self.read_mix,
@@ -90,7 +91,7 @@ class Demand:
             self.report.ignored[f"<{element.tag}> of route files"] += 1
 
     def read_route(self, path: FilePath, element: Element) -> None:
-        """Adds a route; Fault where another one, or a distribution, has its name."""
+        """Adds a route with its stops; Fault where another route, or a distribution, has its name."""
         name = attribute(path, element, "id", filled)
         self.note_ignored(element)
         if name in self.routes or name in self.mixes:
@@ -106,8 +107,8 @@ class Demand:
         self.mixes[name] = self.mix(path, element, element, name)
 
     def mix(self, path: FilePath, owner: Element, element: Element, name: str) -> Mix:
-        """The names of the routes of a distribution and their weights; a route without a name is called by its place,
-        as SUMO does. owner: the element that faults name; name: of the distribution."""
+        """The names and weights of the routes of a distribution; a route in it that has no name is called after the
+        distribution and its place, as in SUMO. owner: the element that faults name."""
         names, weights = (element.get("routes") or "").split(), []
         shares = attribute(path, element, "probabilities", weights_of) if element.get("probabilities") else []
         weights += [shares[place] if place < len(shares) else 1.0 for place in range(len(names))]
@@ -125,11 +126,13 @@ class Demand:
         return names, weights
 
     def drawn(self, name: str) -> str:
-        """The route that a vehicle takes, by name: the one that is named, or one of the distribution that is named."""
+        """The name of the route that a vehicle takes: name itself, or where that is a distribution, one drawn from
+        it."""
         return self.choices.choices(*self.mixes[name])[0] if name in self.mixes else name
 
     def edges(self, path: FilePath, owner: Element, route: Element) -> tuple[str, ...]:
-        """The edges of a route, each of which the network must have; again so many times as `repeat` says."""
+        """The edges of a route, as many times over as its repeat says. Fault where it has none, or the network does not
+        know one of them."""
         names = tuple(attribute(path, route, "edges").split())
         unknown = [name for name in names if name not in self.net.edges and name not in self.net.dropped]
         if unknown or not names:
@@ -140,7 +143,7 @@ class Demand:
         return names * (1 + attribute(path, route, "repeat", at_least_zero(int))) if route.get("repeat") else names
 
     def add(self, path: FilePath, element: Element, departs: Sequence[tuple[str, float]]) -> None:
-        """Vehicles of an element, one for each (name, depart)."""
+        """Adds the vehicles of an element, one for each (name, depart in seconds); Unrouted where it tells no route."""
         inner, mix = self.inner_route(path, element)
         if inner is None and mix is None and element.get("route") is None:
             raise Unrouted(f"{told(path, element)} {ROUTED_FIRST}")
@@ -160,8 +163,8 @@ class Demand:
                 self.later.append((vehicle, told(path, element)))
 
     def riding(self, path: FilePath, element: Element, depart: float) -> tuple[tuple[Stop, ...], str]:
-        """The stops of a vehicle, but for those of a route of its own name, and its line. Those of a flow are told for
-        a departure at its begin."""
+        """The stops of a vehicle that departs at a second, and its line of public transport (empty: none). Stops of a
+        route that it names are not among them; those of a flow are given for a departure at its begin, and moved."""
         begin = optional(path, element, "begin", at_least_zero(seconds), 0.0) if element.tag == "flow" else depart
         inner = element.find("route")
         own = stops_in(path, inner, self.net) if inner is not None and element.get("route") is None else ()
@@ -169,7 +172,8 @@ class Demand:
         return tuple(one.later(depart - begin) for one in stops), element.get("line", "")
 
     def inner_route(self, path: FilePath, element: Element) -> tuple[Element | None, Element | None]:
-        """The route or the distribution that stands in an element; none where its attribute names one, which counts."""
+        """(route, distribution) that stand in an element, each None where there is none. Both are None where its
+        attribute names a route, which counts; Fault where it has two."""
         routes = [inner for inner in element if inner.tag in ("route", "routeDistribution")]
         if element.get("route") is not None:
             self.report.ignored[f"routes in {element.tag}s that name another one"] += len(routes)
@@ -179,12 +183,12 @@ class Demand:
         return element.find("route"), element.find("routeDistribution")
 
     def note_ignored(self, element: Element) -> None:
-        """Counts all attributes but those that are read."""
+        """Reports all attributes of an element that are not read."""
         for name in set(element.keys()) - READ:
             self.report.ignored[f"{name} of {element.tag}s"] += 1
 
     def read_vehicle(self, path: FilePath, element: Element) -> None:
-        """Adds a vehicle; one whose depart is no time is reported as skipped."""
+        """Adds a vehicle; one whose depart is a word instead of a time is reported as skipped."""
         text = attribute(path, element, "depart")
         if text in ("triggered", "containerTriggered", "now", "split", "begin"):
             self.report.skipped[f"depart={text!r} is no time"] += 1
@@ -193,15 +197,15 @@ class Demand:
             self.add(path, element, [(attribute(path, element, "id", filled), depart)])
 
     def read_flow(self, path: FilePath, element: Element) -> None:
-        """Adds the vehicles of a flow, named by its name and their number."""
+        """Adds the vehicles of a flow, called NAME.NUMBER."""
         name = attribute(path, element, "id", filled)
         self.add(
             path, element, [(f"{name}.{at}", depart) for at, depart in enumerate(departs(path, element, self.draws))]
         )
 
     def finish(self, end: float | None = None) -> list[Vehicle]:
-        """All vehicles that depart before an end (none: all), each with its route and its type, in order of departure
-        and file; Fault where two have one name."""
+        """All vehicles that depart before an end in seconds (None: all), each with its route and its type, in order of
+        departure and then of the files. Fault where two have one name, or a route is named that no file has."""
         for vehicle, where in self.later:
             vehicle.route = self.drawn(vehicle.route)
             if vehicle.route not in self.routes:
@@ -224,8 +228,8 @@ class Demand:
 def enters(
     vehicles: Iterable[Vehicle], net: SumoNet, network: Network, types: Types, report: Report
 ) -> tuple[list[Command], list[Vehicle]]:
-    """Enter commands and the vehicles that they are of, in the same order; vehicles that cannot drive are reported by
-    reason, and so are stops that cannot be made; the network gets those that can."""
+    """The enter commands, and the vehicles that they are of, in one order. Vehicles that cannot drive, and stops that
+    cannot be made, are left out and reported by reason; the network gets the stops that can (network.visits)."""
     sizes, stops = Sizes(types), Stops(net, types, report)
     commands: list[Command] = []
     driven: list[Vehicle] = []
@@ -253,7 +257,8 @@ def enters(
 
 
 def lane_of(plan: Sequence[int], network: Network, used: Counter[int], found: Found) -> int:
-    """The lane where a vehicle enters: that of a stop on its first link, or those by turns that lead on."""
+    """The lane where a vehicle enters: that of its stop on the first link, else one of those that lead on, by turns.
+    used: how many entered each link so far, which it counts on."""
     lanes = network.serves(plan[0], plan[1]) if len(plan) > 1 else range(len(network.links[plan[0]].lanes))
     if 0 in (stops := found.lanes()):
         return network.place_of[stops[0]][1]
@@ -262,8 +267,8 @@ def lane_of(plan: Sequence[int], network: Network, used: Counter[int], found: Fo
 
 
 def kinds_of(driven: Sequence[Vehicle], types: Types) -> Json:
-    """The types that files tell, and by vehicle its type and the name of its route, as a map keeps them; and a sum of
-    where all begin and end, by which the map of another demand is known."""
+    """What a map keeps of vehicles: the types that files tell, by vehicle its type, the name of its route and its line,
+    and a sum over where all begin and end, by which the map of another demand is known."""
     names = list(types.kinds)
     place = {name: at for at, name in enumerate(names)}
     return {
@@ -278,7 +283,8 @@ def kinds_of(driven: Sequence[Vehicle], types: Types) -> Json:
 def plan_of(
     vehicle: Vehicle, net: SumoNet, network: Network, stops: Mapping[int, LaneKey]
 ) -> tuple[tuple[int, ...] | None, str]:
-    """The links of a vehicle, or none and why. stops: lanes at which it stops, by the edge's place."""
+    """(links of a vehicle, empty text), or (None, why it cannot drive). stops: the lane at which it stops, by the
+    edge's place in its route."""
     if any(edge in net.dropped for edge in vehicle.edges):
         return None, "an edge of the route has no lane for the classes"
     if len(vehicle.edges) > limits.PLAN:
@@ -292,7 +298,8 @@ def plan_of(
 
 
 def why_no_way(vehicle: Vehicle, net: SumoNet, network: Network) -> str:
-    """Why a route has no way, where the network has one that is not for the classes; else a Fault, as in SUMO."""
+    """Why a route has no way here, where the network has one that is not for the classes, or --ignore-route-errors was
+    given; else a Fault, as in SUMO."""
     pairs = pairwise(vehicle.edges)
     source, target = next(
         (pair for pair in pairs if pair not in network.movements and pair not in net.closed_ways), ("", "")

@@ -16,7 +16,7 @@ KINDS = {"inductionLoop": E1, "e1Detector": E1, "laneAreaDetector": E2, "e2Detec
 
 @dataclass(slots=True, frozen=True)
 class SumoDetector:
-    """A detector as its file tells it."""
+    """A detector as its file tells it; period in seconds."""
 
     where: str  # file and element, for what is told
     name: str
@@ -30,7 +30,8 @@ class SumoDetector:
 
 
 def read_detector(path: FilePath, element: Element, report: Report) -> SumoDetector | None:
-    """A detector of a file; none where streetsim has none of its sort, which is reported."""
+    """The detector of an element; None for one over several lanes, which is reported. Fault where its period is below 1
+    s."""
     kind = KINDS[element.tag]
     if element.get("lanes"):
         report.ignored[f"<{element.tag}> over several lanes"] += 1
@@ -48,8 +49,8 @@ def read_detector(path: FilePath, element: Element, report: Report) -> SumoDetec
 
 
 def stretch(path: FilePath, element: Element, report: Report) -> tuple[float, float | None]:
-    """The metres at which an area begins and ends, as SumoDetector has them: by its place and length, else by these or
-    its end; without both at the lane's."""
+    """The (begin, end) metres of a lane area, as SumoDetector has them: by its pos, endPos and length, of which SUMO
+    needs two; without endPos and length it ends with the lane."""
     end = optional(path, element, "endPos", number, None)
     length = optional(path, element, "length", at_least_zero(number), 0.0)
     if not length:
@@ -65,13 +66,13 @@ def stretch(path: FilePath, element: Element, report: Report) -> tuple[float, fl
 
 
 def tell_beyond(name: str | None, lane: str | None, report: Report) -> None:
-    """Says that an area goes on, in SUMO, on another lane."""
+    """Reports that a lane area goes on, in SUMO, on another lane, and here does not."""
     report.warn(f"detector {name} reaches beyond {lane}, and sees what is on that lane alone")
 
 
 def placed(detectors: Iterable[SumoDetector], mapping: Map, closed: Container[str], report: Report) -> list[Detector]:
-    """Detectors on the cells of a map. A lane that the network does not have is a Fault; one that was left out, as it
-    is closed to the classes (its name is in closed), is reported."""
+    """Detectors on the cells of a map. Fault where the network does not have a lane, or two have one name; a detector
+    on a lane of closed (lanes left out as they are not for the classes) is left out and reported."""
     places = {mapping.lane_name(*place): place for place in mapping.lanes()}
     found = {}
     for one in detectors:
@@ -93,8 +94,8 @@ def placed(detectors: Iterable[SumoDetector], mapping: Map, closed: Container[st
 
 
 def cells(one: SumoDetector, link: MapLink, report: Report) -> tuple[int, int]:
-    """The first and the last cell: the one that a loop lies in, or all of which an area has a part; Fault where the
-    detector lies beyond its lane and may not."""
+    """The (first, last) cell of a detector on a link: the one in which a loop lies, or all of which a lane area has a
+    part. Fault where it lies beyond its lane and is not friendly."""
     begin = one.begin + link.metres if one.begin < 0 else one.begin
     end = one.end + link.metres if one.end is not None and one.end < 0 else one.end
     if not one.friendly and not -NEAR <= begin <= link.metres + NEAR:

@@ -15,8 +15,8 @@ RATES = ("period", "vehsPerHour", "perHour", "probability")
 
 
 def departs(path: FilePath, element: Element, draws: Random) -> list[float]:
-    """Seconds, rising: begin + k * period while below the end; of a probability, or of period="exp(rate)", by draws;
-    Fault where there are more than may drive."""
+    """The seconds at which the vehicles of a flow depart, rising: begin + k * period while below the end; with a
+    probability, or a period exp(RATE), by draws. Fault where there are more than may drive."""
     begin = optional(path, element, "begin", at_least_zero(seconds), 0.0)
     most = optional(path, element, "number", at_least_zero(int), None)
     end = optional(path, element, "end", seconds, DAY if most is None else math.inf)
@@ -31,7 +31,7 @@ def departs(path: FilePath, element: Element, draws: Random) -> list[float]:
 
 
 def refuse_two_rates(path: FilePath, element: Element) -> None:
-    """Refuses a flow with two rates, or with an end and a number beside a rate, as SUMO does."""
+    """Fault where a flow has two rates, or an end and a number beside a rate, as in SUMO."""
     rates = [name for name in RATES if element.get(name) is not None]
     if len(rates) > 1:
         raise Fault(f"{told(path, element)}: {rates[0]} and {rates[1]} are two rates, of which a flow has one")
@@ -42,8 +42,8 @@ def refuse_two_rates(path: FilePath, element: Element) -> None:
 def moments(
     path: FilePath, element: Element, begin: float, end: float, most: int | None, draws: Random
 ) -> Iterable[float]:
-    """All departures that the rate of a flow gives, in seconds, without regard to its end; Fault where it has no
-    rate."""
+    """The seconds of all departures that the rate of a flow gives from begin on, without regard to its end, so mostly
+    without end; most: its number, None: not told. Fault where it has no rate."""
     for name in ("vehsPerHour", "perHour"):
         if element.get(name) is not None:
             hourly = attribute(path, element, name, above_zero(number))
@@ -63,14 +63,15 @@ def moments(
 
 
 def rate_of(text: str) -> float:
-    """Vehicles a second of a period exp(RATE); ValueError otherwise."""
+    """Vehicles a second of the text exp(RATE) without its begin "exp("; ValueError where it is none."""
     if not text.endswith(")"):
         raise ValueError(text)
     return above_zero(number)(text.removeprefix("exp(").removesuffix(")"))
 
 
 def by_chance(begin: float, chance: float, draws: Random) -> Iterator[float]:
-    """Departures of a flow with such a chance of one in each second; the seconds until the next are drawn at once."""
+    """Seconds of departures from begin on, where each second has one with a chance (above 0 to 1), without end; the
+    seconds until the next one are drawn at once."""
     second = -1
     while True:
         waited = math.log(1 - draws.random()) / math.log(1 - chance) if chance < 1 else 0.0
@@ -81,7 +82,7 @@ def by_chance(begin: float, chance: float, draws: Random) -> Iterator[float]:
 
 
 def by_rate(begin: float, rate: float, draws: Random) -> Iterator[float]:
-    """Departures whose gaps are drawn with a mean of 1 / rate seconds, without end."""
+    """Seconds of departures from begin on, whose gaps are drawn with a mean of 1 / rate seconds, without end."""
     clock = begin
     while True:
         clock += draws.expovariate(rate)

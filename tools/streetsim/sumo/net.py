@@ -1,4 +1,4 @@
-"""Reads a SUMO network (.net.xml, and signal programs of additional files)."""
+"""Reads SUMO's networks (.net.xml), and the signal programs of additional files."""
 from collections import defaultdict
 from collections.abc import Collection, Iterable, Sequence
 from dataclasses import dataclass, field, replace
@@ -19,6 +19,8 @@ INNER = ("internal", "walkingarea", "crossing")
 
 @dataclass(slots=True)
 class Lane:
+    """A lane of an edge that one of the classes may use; index is SUMO's."""
+
     index: int
     speed: float  # metres a second
     metres: float
@@ -57,7 +59,7 @@ class Connection:
 
 @dataclass(slots=True)
 class Program:
-    """A light's program."""
+    """A light's program; offset in seconds."""
 
     offset: float
     phases: list[tuple[float, str]]  # seconds and state
@@ -97,13 +99,14 @@ class SumoNet:
     called: dict[str, str] = field(default_factory=dict)  # names of junctions that have one
 
     def yields_of(self, connection: Connection) -> set[int]:
-        """The requests at its junction that a connection gives way to."""
+        """The requests of its junction that a connection gives way to; none where its own request is not known."""
         at_junction = self.yields.get(self.edges[connection.source].end, {})
         return at_junction.get(connection.request, set()) if connection.request is not None else set()
 
 
 def shape(text: str) -> list[Point]:
-    """A list of two points or more; heights are left out; ValueError otherwise."""
+    """The points, (x, y) in metres, of a shape's text; heights are left out. ValueError where there are fewer than
+    two."""
     points: list[Any] = [tuple(number(part) for part in point.split(",")[:2]) for point in text.split()]
     if len(points) < 2 or any(len(point) < 2 for point in points):
         raise ValueError(text)
@@ -111,7 +114,7 @@ def shape(text: str) -> list[Point]:
 
 
 def allows(element: Element, classes: Collection[str]) -> bool:
-    """Whether a lane or connection is open to one of the vehicle classes."""
+    """Whether a lane or connection is open to at least one of the vehicle classes, by its allow and disallow."""
     named = element.get("allow")
     if named is not None:
         allowed = named.split()
@@ -121,7 +124,8 @@ def allows(element: Element, classes: Collection[str]) -> bool:
 
 
 def read_net(path: FilePath, classes: Sequence[str], report: Report) -> SumoNet:
-    """The network of a .net.xml, with the lanes that one of the classes may use; Fault where there are none."""
+    """The network of a .net.xml, with the lanes that at least one of the classes may use; Fault where there are none.
+    Elements that are not read are reported."""
     net = SumoNet()
     named: set[str] = set()
     readers = {
@@ -148,7 +152,8 @@ def read_net(path: FilePath, classes: Sequence[str], report: Report) -> SumoNet:
 
 
 def read_edge(path: FilePath, element: Element, net: SumoNet, classes: Collection[str]) -> None:
-    """Adds an edge with the lanes that one of the classes may use, or the speeds of the lanes of an inner one."""
+    """Adds an edge with the lanes that one of the classes may use; of an edge inside a junction it notes the speeds of
+    lanes alone."""
     if element.get("function") in INNER:
         for lane in element.iter("lane"):
             net.inner_speeds[attribute(path, lane, "id")] = attribute(path, lane, "speed", at_least_zero(number))
@@ -189,19 +194,19 @@ def street_of(element: Element) -> str:
 
 
 def read_location(path: FilePath, element: Element, net: SumoNet, _classes: Collection[str]) -> None:
-    """Keeps the projection, and what was added to its metres; SUMO writes "!" where there is none."""
+    """Keeps the projection of the network ("!": none, as SUMO writes it), and what was added to its metres."""
     offset = attribute(path, element, "netOffset", plane_point) if element.get("netOffset") else (0.0, 0.0)
     net.location = {"offset": offset, "projection": element.get("projParameter", "!")}
 
 
 def plane_point(text: str) -> Point:
-    """Two numbers with a comma between; a height after them is left out; ValueError otherwise."""
+    """The (x, y) of two numbers with a comma between; a height after them is left out. ValueError otherwise."""
     x, y, *_ = (number(part) for part in text.split(","))
     return x, y
 
 
 def read_junction(path: FilePath, element: Element, net: SumoNet, _classes: Collection[str]) -> None:
-    """Adds a junction with its requests; those inside others are left out."""
+    """Adds a junction with its requests; junctions inside others are passed over."""
     if element.get("type") != "internal":
         name = attribute(path, element, "id")
         net.junctions[name] = attribute(path, element, "x", number), attribute(path, element, "y", number)
@@ -219,13 +224,13 @@ def read_junction(path: FilePath, element: Element, net: SumoNet, _classes: Coll
 
 
 def bits_of(text: str) -> set[int]:
-    """The places of the ones among bits, from the right."""
+    """The places of the ones in a text of bits, counted from 0 from the right."""
     return {at for at, bit in enumerate(reversed(text)) if bit == "1"}
 
 
 def read_connection(path: FilePath, element: Element, net: SumoNet, classes: Collection[str]) -> None:
-    """Adds a connection between lanes that are kept, or notes that its way is closed; all edges stand before it in the
-    file."""
+    """Adds a connection between lanes that are kept; one that is not for the classes is noted in closed_ways. Edges
+    must have been read before. Fault where it joins edges that do not meet."""
     source, target = attribute(path, element, "from"), attribute(path, element, "to")
     for edge in (source, target):
         if edge not in net.edges and edge not in net.dropped and not edge.startswith(":"):
@@ -259,8 +264,8 @@ def read_connection(path: FilePath, element: Element, net: SumoNet, classes: Col
 
 
 def request_of(inner: str) -> int | None:
-    """The place among its junction's requests of a connection that runs over a lane inside it, ":junction_N_LANE": the
-    lanes of one inner edge follow each other. None for a name of another form."""
+    """A connection's place among its junction's requests, by the name of the lane inside the junction that it runs
+    over, ":junction_N_LANE": N + LANE. None for a name of another form."""
     parts = inner.rsplit("_", 2)
     return int(parts[1]) + int(parts[2]) if len(parts) == 3 and all(map(str.isdecimal, parts[1:])) else None
 
@@ -276,7 +281,8 @@ def read_roundabout(path: FilePath, element: Element, net: SumoNet, _classes: Co
 
 
 def read_program(path: FilePath, element: Element, net: SumoNet, _classes: Collection[str]) -> None:
-    """Sets a light's program, the last of several; one without phases gives the known one another offset."""
+    """Sets a light's program; a later one replaces the one before. One without phases gives the present program another
+    offset alone."""
     phases = [
         (attribute(path, phase, "duration", at_least_zero(seconds)), attribute(path, phase, "state"))
         for phase in element.iter("phase")
@@ -303,12 +309,12 @@ def read_program(path: FilePath, element: Element, net: SumoNet, _classes: Colle
 
 
 def next_of(path: FilePath, phase: Element) -> tuple[int, ...]:
-    """The phases that a phase names as its next."""
+    """The places of the phases that a phase names as its next; empty: the one after it."""
     return tuple(attribute(path, phase, "next", numbers)) if phase.get("next") else ()
 
 
 def timing_of(path: FilePath, phase: Element) -> tuple[str, float, float, float]:
-    """The name of a phase of a NEMA light, its extension, yellow and red; 0 s where SUMO has none."""
+    """(name, extension, yellow, red in seconds) of a phase of a NEMA light; 0 s for what is not written."""
     extension, yellow, red = (
         attribute(path, phase, name, at_least_zero(seconds)) if phase.get(name) else 0.0
         for name in ("vehext", "yellow", "red")
@@ -317,28 +323,30 @@ def timing_of(path: FilePath, phase: Element) -> tuple[str, float, float, float]
 
 
 def numbers(text: str) -> list[int]:
+    """Whole numbers with spaces between; ValueError otherwise."""
     return list(map(int, text.split()))
 
 
 def more_of(program: Element) -> tuple[str, ...]:
-    """What a program has beside phases, parameters and the phases' usual attributes."""
+    """The names of elements and attributes that a program has beside phases, parameters and the attributes of PHASE."""
     found = {one.tag for one in program if one.tag not in ("phase", "param")}
     found.update(name for phase in program.iter("phase") for name in phase.keys() if name not in PHASE)
     return tuple(sorted(found))
 
 
 def actuated(net: SumoNet, lights: Iterable[str]) -> list[str]:
-    """Those of some lights that SUMO times by detectors, or by anything but seconds."""
+    """Those of some lights whose program is not static: SUMO times them by detectors, or by anything but seconds
+    alone."""
     return [light for light in dict.fromkeys(lights) if net.programs[light].kind != STATIC]
 
 
 def bound_of(path: FilePath, phase: Element, name: str) -> float | None:
-    """A phase's least or greatest seconds, by the attribute's name; none where it has none."""
+    """The seconds of an attribute of a phase, minDur or maxDur by name; None where it is not written."""
     return attribute(path, phase, name, at_least_zero(seconds)) if phase.get(name) else None
 
 
 def connections_of(net: SumoNet) -> dict[str, list[Connection]]:
-    """The connections of each junction."""
+    """The connections of each junction, by the junction's name, at whose end of an edge they begin."""
     found = defaultdict(list)
     for connection in net.connections:
         found[net.edges[connection.source].end].append(connection)

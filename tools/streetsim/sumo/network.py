@@ -1,4 +1,4 @@
-"""Nodes, links and turns of streetsim, made of a SUMO network."""
+"""Makes streetsim's nodes, links and turns of a SUMO network."""
 from collections import Counter, defaultdict
 from collections.abc import Collection, Iterable, Iterator, Mapping, Sequence
 from dataclasses import dataclass, replace
@@ -82,7 +82,7 @@ class Network:
     """Nodes, links and turns in the making; links and nodes go by number, their place in the load."""
 
     def __init__(self, net: SumoNet, options: Options, report: Report, flows: Flows) -> None:
-        """Flows are the routes' vehicles an hour from edge to edge; none where no route is known."""
+        """flows: vehicles an hour by (edge, next edge); empty where no route is known."""
         self.options, self.detectors, self.closed_lanes = options, net.detectors, net.closed_lanes
         edges = ordered(net)
         ends = {name for edge in edges for name in (edge.begin, edge.end)}
@@ -131,7 +131,8 @@ class Network:
         self.rings = sorted(net.roundabouts & net.edges.keys())
 
     def add_connections(self, net: SumoNet, report: Report) -> None:
-        """Of several connections from one lane to one next link the one to the same lane counts, else the lowest."""
+        """Adds the turns of all connections. Of several from one lane to one next link that to the same lane is kept,
+        else that to the lowest lane; this is reported."""
         doubled = set()
         for connection in net.connections:
             self.movements[connection.source, connection.target].append(connection)
@@ -151,7 +152,8 @@ class Network:
             )
 
     def turn(self, link: int, next_lane: int, connection: Connection, added: bool) -> Turn:
-        """The turn of a connection from a link, to a lane of the next; added: SUMO has none from this lane or link."""
+        """The turn of a connection from a link to a lane of the next link; added: SUMO has no connection from this lane
+        or link."""
         speed = connection.speed or self.links[link].speed
         return Turn(next_lane, connection.light, connection.index, added, speed, self.links[link].limit)
 
@@ -171,12 +173,12 @@ class Network:
             )
 
     def serves(self, link: int, following: int) -> list[int]:
-        """The lanes of a link that have a turn to the next one."""
+        """The lanes of a link that have a turn to a next link; empty where none has."""
         return [lane for lane in range(len(self.links[link].lanes)) if (link, lane, following) in self.turns]
 
     def join(self, link: int, following: int) -> None:
-        """Adds turns from a link to a parallel one of those that the street leads to; their signal is that of the
-        movement."""
+        """Adds turns from all lanes of a link to a parallel link of an edge that its edge leads to; each has the signal
+        of the nearest connection between these edges."""
         connections = self.movements[self.links[link].edge, self.links[following].edge]
         for lane, index in enumerate(self.links[link].lanes):
             nearest = min(connections, key=lambda connection: abs(connection.source_lane - index))
@@ -185,8 +187,8 @@ class Network:
         self.joined.add((link, following))
 
     def open_beside_works(self) -> None:
-        """Where a link has no lane but ones that are to be closed, and its edge has others,
-        these get its turns: so that plans can go round it."""
+        """Where a link has no lanes but ones that are to be closed, and its edge has other links, gives these its
+        turns, so that plans can go round it."""
         for name, closing in self.closing.items():
             shut = [link for link in self.links_of[name] if closing.issuperset(self.links[link].lanes)]
             beside = [link for link in self.links_of[name] if link not in shut]
@@ -201,8 +203,9 @@ class Network:
     def route(
         self, edges: Sequence[str], stops: Mapping[int, LaneKey] = MappingProxyType({})
     ) -> tuple[int, ...] | None:
-        """The links of a route over parallel links, by least cost, which then carry it; turns that are wanting are
-        added. None where two edges have no connection. stops: lanes over whose links it goes, by the edge's place."""
+        """The links of a route, by least cost over parallel links, and counts that they carry it; turns that are
+        missing between them are added. None where two edges that follow each other have no connection. stops: the lane
+        that it must go over, by the edge's place in the route."""
         if any((edge, following) not in self.movements for edge, following in zip(edges, edges[1:])):
             return None
         links = [self.links_of[edge] for edge in edges]
@@ -228,12 +231,13 @@ class Network:
         return plan
 
     def shared_ways(self) -> set[str]:
-        """The edges of which two links lead to one next edge."""
+        """The edges of which two links or more lead to one next edge."""
         ways = Counter((self.links[link].edge, target) for link, target in self.leads)
         return {edge for (edge, _), count in ways.items() if count > 1}
 
     def change_cost(self, link: int, following: int) -> float:
-        """What a plan costs more that goes from one link to another without a connection of SUMO's."""
+        """The cost of going from a link to a next one: 0 where there is a turn, else what a turn that SUMO does not
+        have costs."""
         if self.serves(link, following):
             return 0.0
         edge, target = self.links[link].edge, self.links[following].edge
@@ -241,14 +245,15 @@ class Network:
         return WRONG_LANE if wrong else MISSING_TURN
 
     def crowding(self, link: int) -> float:
-        """The cost of a link for what each of its lanes carries already, against the mean of the edge's links."""
+        """The cost of a link for what each of its lanes carries already, against the mean of the edge's links; 0 where
+        they carry nothing."""
         links = self.links_of[self.links[link].edge]
         total = sum(self.use[other] for other in links)
         weight = CROWDING_BESIDE if self.links[link].edge in self.unlike else CROWDING
         return weight * self.use[link] / len(self.links[link].lanes) * len(links) / total if total else 0.0
 
     def load(self) -> Command:
-        """The load command."""
+        """The load command of this network."""
         options = self.options
         return {
             "cmd": "load",
@@ -268,7 +273,7 @@ class Network:
         }
 
     def over_limits(self) -> Iterator[str]:
-        """The limits that this network passes, in words."""
+        """The limits of the simulator that this network passes, a text each; none where it fits."""
         for what, count, most in (
             ("nodes", len(self.nodes), limits.NODES),
             ("links", len(self.links), limits.LINKS),
@@ -283,7 +288,8 @@ class Network:
 
 
 def ordered(net: SumoNet) -> list[Edge]:
-    """Edges in load order, which is the only priority at a node: roundabouts, then main streets, then fast ones."""
+    """Edges in the order of the load, which is the only priority at a node: roundabouts first, then main streets, then
+    fast ones."""
     major: Counter[str] = Counter()
     all_of: Counter[str] = Counter()
     for connection in net.connections:
@@ -302,8 +308,8 @@ def ordered(net: SumoNet) -> list[Edge]:
 
 
 def next_edges(net: SumoNet, flows: Flows) -> tuple[Targets, Targets]:
-    """The edges that each lane leads to, and of these the ones to which a signal lets it go only when there is a gap.
-    Those alone that routes take, where a lane leads to any of these."""
+    """The next edges that each lane leads to, and those of them to which a signal lets it go only when there is a gap.
+    Of a lane from which routes go anywhere, only the edges to which routes go."""
     used = {(connection.source, connection.source_lane) for connection in net.connections if taken(connection, flows)}
     following, waiting = defaultdict(set), defaultdict(set)
     for connection in net.connections:
@@ -316,12 +322,12 @@ def next_edges(net: SumoNet, flows: Flows) -> tuple[Targets, Targets]:
 
 
 def taken(connection: Connection, flows: Flows) -> bool:
-    """Whether a route takes the way of a connection."""
+    """Whether a route goes from a connection's edge to its next edge."""
     return bool(flows.get((connection.source, connection.target)))
 
 
 def may_wait(connection: Connection, net: SumoNet) -> bool:
-    """Whether a signal shows a connection that it may go if nobody comes whom it has to give way to."""
+    """Whether a connection's light shows it a green in which it gives way to others."""
     program = net.programs.get(connection.light or "")
     yields = net.yields_of(connection)
     shown = {state[connection.index : connection.index + 1] for _, state in program.phases} if program else set()
@@ -329,8 +335,8 @@ def may_wait(connection: Connection, net: SumoNet) -> bool:
 
 
 def closing_lanes(net: SumoNet, names: Iterable[str]) -> dict[str, set[int]]:
-    """The lanes that are named, or whose edge is, {edge: lane indexes}; Fault where the import has none, or none beside
-    it."""
+    """The lanes that are named, or all lanes of an edge that is named, {edge: SUMO's indexes}. Fault where the import
+    has no such name, or the edge has one lane."""
     found = defaultdict(set)
     for name in names:
         edge, _, index = (name, "", "") if name in net.edges else name.rpartition("_")
@@ -347,8 +353,8 @@ def closing_lanes(net: SumoNet, names: Iterable[str]) -> dict[str, set[int]]:
 def bundles_of(
     edges: Sequence[Edge], following: Targets, waiting: Targets, closing: Mapping[str, Collection[int]], report: Report
 ) -> dict[str, list[list[Lane]]]:
-    """The lanes of each edge by its links, from the right. Turn lanes are no links of their own where there would be
-    too many."""
+    """The lanes of each edge in groups of one or two, which become links, from the right. Where turn lanes as links of
+    their own would make too many links, they are joined with the lanes beside them, which is reported."""
     bundles = {edge.name: parallel(edge, following, waiting, closing.get(edge.name, ())) for edge in edges}
     if sum(map(len, bundles.values())) <= limits.LINKS:
         return bundles
@@ -359,8 +365,9 @@ def bundles_of(
 def parallel(
     edge: Edge, following: Targets, waiting: Targets | None, closing: Collection[int] = ()
 ) -> list[list[Lane]]:
-    """The lanes of an edge in groups of one and two, from the right: as few lanes that are to be closed as there may be
-    without an open one beside them, then as few groups, and of these the ones whose lanes share most next edges."""
+    """The lanes of one edge in groups of one or two, from the right: first with as few closing lanes as possible that
+    have no open one beside them, then as few groups, then those whose lanes share most next edges. closing: SUMO's
+    indexes of lanes to be closed; waiting: None: not looked at."""
     places = [(edge.name, lane.index) for lane in edge.lanes]
     # For the first lanes: those without an open one, groups, less their shared edges.
     best: list[tuple[int, int, int, list[list[Lane]]]] = [(0, 0, 0, [])]
@@ -379,15 +386,15 @@ def parallel(
 
 
 def may_share(right: LaneKey, left: LaneKey, following: Targets, waiting: Targets | None) -> bool:
-    """Whether two lanes side by side may be one link: not where they lead to different edges, and not where one of them
-    has vehicles that wait for a gap and the other has not, if it is told where vehicles wait."""
+    """Whether two lanes side by side may be one link: not where they lead to no common edge, or where they wait for
+    gaps to different edges. waiting: None: not looked at."""
     if waiting is None or not following[right] or not following[left]:
         return True
     return bool(following[right] & following[left]) and waiting[right] == waiting[left]
 
 
 def names_of(net: SumoNet, edges: Iterable[Edge], nodes: Iterable[str]) -> Json:
-    """The names of edges and junctions that the network tells, as a map keeps them."""
+    """The names of streets and junctions that the network tells, as a map keeps them; empty where it tells none."""
     found = {"edges": {edge.name: edge.street for edge in edges if edge.street}}
     found["junctions"] = {name: net.called[name] for name in nodes if name in net.called}
     return {kind: names for kind, names in found.items() if names}
@@ -396,7 +403,7 @@ def names_of(net: SumoNet, edges: Iterable[Edge], nodes: Iterable[str]) -> Json:
 def link_of(
     edge: Edge, lanes: Sequence[Lane], number: Mapping[str, int], options: Options, in_ring: bool
 ) -> Link:
-    """The link of some lanes of an edge; number: of each junction."""
+    """The link of some lanes of an edge; number: of each junction's node; in_ring: the edge is in a roundabout."""
     limit, cells = limit_and_cells(lanes[0], options.dawdle / 1000, in_ring, SLOW if edge.is_slow else FREE_LIMITS)
     if edge.is_cut:
         cells = max(1, cells - round(AT_CUT * (limit - options.dawdle / 1000)))
@@ -414,9 +421,9 @@ def link_of(
 
 
 def limit_and_cells(lane: Lane, dawdle: float, in_ring: bool, free_limits: range = FREE_LIMITS) -> tuple[int, int]:
-    """The limit of a lane in cells a step, one of free_limits, and its cells; dawdle: a chance, 0 to 1. Where no limit
-    is near its speed it has so many cells that one alone takes as long as in SUMO; but for a roundabout's, which is
-    made up for at its junctions."""
+    """The limit of a lane in cells a step, one of free_limits, and its number of cells. dawdle: the chance, 0 to 1, to
+    go on by a cell less. Where no limit is near its speed it has so many cells that one vehicle alone takes as long as
+    in SUMO; in a ring it keeps its length, and the seconds are made up for at its junctions."""
     wished = lane.speed / limits.CELL_METRES + dawdle
     limit = min(free_limits, key=lambda cells: abs(cells - wished))
     free = (limit - dawdle) * limits.CELL_METRES
@@ -427,8 +434,8 @@ def limit_and_cells(lane: Lane, dawdle: float, in_ring: bool, free_limits: range
 
 
 def buffers(links: Sequence[Link], nodes: int, options: Options) -> list[int]:
-    """Vehicles in a buffer for each node: the given ones, and of each lane that leads there its share of those for
-    whom the streets behind lack cells, for the sake of their speed."""
+    """How many vehicles the buffer of each node holds: those of the options, and for each lane that leads there a share
+    of those for whom links behind the node have fewer cells than their length, for the sake of speed."""
     lanes, lacking = Counter[int](), Counter[int]()
     for link in links:
         lanes[link.end] += len(link.lanes)
@@ -438,7 +445,7 @@ def buffers(links: Sequence[Link], nodes: int, options: Options) -> list[int]:
 
 
 def middle(lanes: Sequence[Lane]) -> list[Point]:
-    """The line between the lanes of a link, or the last lane's where they have not as many points."""
+    """The line halfway between the lanes of a link; the last lane's own where they have unequal numbers of points."""
     if len({len(lane.shape) for lane in lanes}) > 1:
         return lanes[-1].shape
     line: list[Any] = [
@@ -451,9 +458,9 @@ def middle(lanes: Sequence[Lane]) -> list[Point]:
 def residences(
     edges: Sequence[Edge], net: SumoNet, links: Sequence[Link], nodes: Sequence[str], options: Options, flows: Flows
 ) -> list[int]:
-    """Steps in a buffer for each of the nodes, which are junctions' names: the given ones at signals and real
-    junctions, 1 elsewhere. At real junctions without a light, and where streets meet a roundabout, more, as many as its
-    vehicles lose on average that turn or have to look out."""
+    """The steps that a vehicle takes in each node (nodes: names of junctions): those of the options at signals and real
+    junctions, 1 elsewhere. At real junctions without a light, and where streets meet a roundabout, more: as many as
+    vehicles lose there on average."""
     into, out = Counter(edge.end for edge in edges), Counter(edge.begin for edge in edges)
     real = {name for name in nodes if into[name] >= 2 and out[name] >= 2 and into[name] + out[name] >= 5}
     ring = {name for edge in edges if edge.name in net.roundabouts for name in (edge.begin, edge.end)}
@@ -465,14 +472,15 @@ def residences(
 
 
 def longer_here(link: Link, options: Options) -> float:
-    """The seconds that a free link takes longer here than in SUMO, as lengths and speeds are whole cells."""
+    """The seconds that a vehicle alone takes longer on a link than in SUMO, as lengths and speeds are whole cells;
+    below 0 where it is faster."""
     free = link.limit - options.dawdle / 1000
     return link.cells / free - link.metres / link.speed if free and link.speed else 0.0
 
 
 def losses(net: SumoNet, names: Sequence[str], flows: Flows, longer: Mapping[str, float]) -> dict[str, int]:
-    """Whole seconds that vehicles lose at the junctions of these names, on average; what rounding owes is carried on to
-    the next."""
+    """Whole seconds that vehicles lose on average at junctions, by their names; what rounding leaves is carried on to
+    the next junction. longer: as of losses.lost."""
     connections, found, owed = connections_of(net), {}, 0.0
     for name in names:
         total, seconds = lost(connections[name], net, flows, longer)

@@ -21,8 +21,9 @@ MOST_BEFORE = 4  # lanes before one, on which its detector may lie
 def kept_programs(
     net: SumoNet, network: Network, lights: Iterable[tuple[str, int]], flows: Flows
 ) -> list[Json]:
-    """Of each program that is not seconds alone: its light, kind, offset, phases, parameters, ways and lanes for its
-    detectors, and for the light's nodes what says who gives way. Those that are not in force come last."""
+    """What a map keeps of each program that is not static: its light, kind, offset, phases, parameters, ways and lanes
+    for its detectors, and for each node of the light what says who gives way. lights: (light, node). Programs that are
+    not in force come last."""
     nodes = defaultdict(list)
     for light, node in lights:
         if net.programs[light].kind != STATIC or light in net.earlier:
@@ -56,7 +57,7 @@ def kept_programs(
 def fixed_programs(
     net: SumoNet, network: Network, lights: Iterable[tuple[str, int]], flows: Flows, wanted: Container[str]
 ) -> list[Json]:
-    """Of some lights that are timed by seconds alone, what is kept of others but for their detectors: so that they can
+    """Of those of lights that are in wanted and static, what kept_programs keeps but for detectors: so that they can
     wait for buses."""
     nodes = defaultdict(list)
     for light, node in lights:
@@ -79,7 +80,7 @@ def fixed_programs(
 def lights_of_riders(
     entered: Iterable[Command], driven: Iterable[Vehicle], types: Types, network: Network
 ) -> set[str]:
-    """The lights that vehicles pass which have a line or are of another class than cars."""
+    """The names of lights that vehicles pass which have a line of public transport, or another class than passenger."""
     light_at = {(link, following): turn.light for (link, _, following), turn in network.turns.items() if turn.light}
     found: set[str] = set()
     for command, vehicle in zip(entered, driven, strict=True):
@@ -89,13 +90,13 @@ def lights_of_riders(
 
 
 def way_of(one: Connection, net: SumoNet) -> list[Any]:
-    """Its place in a state, its lanes, whether it turns back, and where it leads."""
+    """[place in the light's state, lane, next lane, whether it turns back, SUMO's direction] of a connection."""
     back = net.edges[one.source].begin == net.edges[one.target].end
     return [one.index, f"{one.source}_{one.source_lane}", f"{one.target}_{one.target_lane}", back, one.direction]
 
 
 def lanes_before(net: SumoNet) -> dict[tuple[str, int], list[Connection]]:
-    """The connections that lead to each lane."""
+    """The connections that lead to each lane, (edge, index)."""
     found = defaultdict(list)
     for one in net.connections:
         found[one.target, one.target_lane].append(one)
@@ -103,8 +104,9 @@ def lanes_before(net: SumoNet) -> dict[tuple[str, int], list[Connection]]:
 
 
 def lane_of(edge: str, index: int, net: SumoNet, before: dict[tuple[str, int], list[Connection]]) -> list[Any]:
-    """Its name, its speed, whether its edge has no other, and the metres of it and of those before it that alone lead
-    to it, without a light."""
+    """[name, speed in metres a second, whether it is its edge's only lane, [[name, metres] of it and of those before
+    it]] of a lane at a light; a lane before counts where it alone leads there, without a light. before: as lanes_before
+    gives it."""
     lane = next(one for one in net.edges[edge].lanes if one.index == index)
     stretches: list[list[Any]] = [[f"{edge}_{index}", lane.metres]]
     key = edge, index
@@ -116,8 +118,8 @@ def lane_of(edge: str, index: int, net: SumoNet, before: dict[tuple[str, int], l
 
 
 def node_of(number: int, connections: Sequence[Connection], net: SumoNet, flows: Flows, name: str) -> Json:
-    """Its connections that its light controls or none does, who gives way to whom, and the flows. Without all three
-    nothing is known of who gives way."""
+    """What says who gives way at a node: its connections that its light controls or none does, who gives way to whom,
+    and the flows. All three are empty where one of them is not known. name: of its junction."""
     light = light_of(connections, net)
     own = [one for one in connections if one.light in (light, None)]
     known = bool(flows) and bool(net.yields.get(name)) and all(one.request is not None for one in own)

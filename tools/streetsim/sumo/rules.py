@@ -1,4 +1,4 @@
-"""What is other here than in SUMO, as far as it concerns a network."""
+"""Reports what is otherwise here than in SUMO, as far as it concerns a network."""
 from collections import Counter, defaultdict
 
 from streetsim.base import limits
@@ -19,7 +19,7 @@ STATES, SHOWN_STATES = set("Mm=sw-"), set("GgrRyYuUoOs")
 
 
 def warn_of_rules(net: SumoNet, network: Network, report: Report) -> None:
-    """Reports all of them."""
+    """Reports all that is otherwise here than in SUMO, by the functions of this module."""
     warn_of_classes(net, network, report)
     warn_of_lengths(network, report)
     warn_of_speeds(network, report)
@@ -29,7 +29,7 @@ def warn_of_rules(net: SumoNet, network: Network, report: Report) -> None:
 
 
 def warn_of_classes(net: SumoNet, network: Network, report: Report) -> None:
-    """Lanes that are closed to the classes."""
+    """Reports lanes that are closed to the classes and left out."""
     if net.closed_lanes:
         classes = " and ".join(network.options.classes)
         report.warn(
@@ -40,7 +40,7 @@ def warn_of_classes(net: SumoNet, network: Network, report: Report) -> None:
 
 
 def warn_of_lengths(network: Network, report: Report) -> None:
-    """Edges that are shorter than a cell, or become longer by more than a tenth."""
+    """Reports edges that are shorter than a cell, or become longer by more than a tenth."""
     short = sorted({link.edge for link in network.links if link.metres < limits.CELL_METRES})
     if short:
         report.warn(
@@ -58,7 +58,8 @@ def warn_of_lengths(network: Network, report: Report) -> None:
 
 
 def warn_of_speeds(network: Network, report: Report) -> None:
-    """Speeds near which no limit is: their links have other cells, so that they take as long as in SUMO."""
+    """Reports speeds near which there is no limit in cells a step: their links have more or fewer cells, so that they
+    take as long as in SUMO."""
     links_of = defaultdict(list)
     for link in network.links:
         links_of[link.speed, link.limit].append(link)
@@ -76,17 +77,17 @@ def warn_of_speeds(network: Network, report: Report) -> None:
 
 
 def usual_cells(link: Link) -> int:
-    """The cells of a link's length."""
+    """The cells of a link by its length."""
     return limits.cells_of(link.metres)
 
 
 def cells_here(link: Link) -> int:
-    """The cells that a link has, by its length or its speed."""
+    """The cells that a link has, which may differ for the sake of its speed."""
     return link.cells
 
 
 def warn_of_merges(net: SumoNet, report: Report) -> None:
-    """Fast roads into one: SUMO's vehicles make room for each other there, and here they do not."""
+    """Reports where fast roads merge: SUMO's vehicles make room for each other there, and here they do not."""
     into, out = Counter(edge.end for edge in net.edges.values()), Counter(edge.begin for edge in net.edges.values())
     lit = {net.edges[connection.source].end for connection in net.connections if connection.light}
     merged = [
@@ -104,7 +105,7 @@ def warn_of_merges(net: SumoNet, report: Report) -> None:
 
 
 def warn_of_lanes(net: SumoNet, network: Network, report: Report) -> None:
-    """Connections that give way, turns and links that SUMO does not have, and lanes that are joint."""
+    """Reports connections that give way, turns and parallel links that SUMO does not have, and lanes that are joint."""
     minor = sum(connection.state in "m=sw" and not connection.light for connection in net.connections)
     if minor:
         told = f"{minor} connections have to give way in SUMO; here those that routes use do, by rounds before each run"
@@ -127,7 +128,7 @@ def warn_of_lanes(net: SumoNet, network: Network, report: Report) -> None:
 
 
 def warn_of_unknown(net: SumoNet, report: Report) -> None:
-    """Junctions, and states of connections and lights, for which nothing is done here."""
+    """Reports types of junctions, states of connections and of lights, and rings, for which nothing is done here."""
     ends = {edge.end for edge in net.edges.values()}
     junctions = defaultdict(list)
     for name, kind in net.types.items():
@@ -153,7 +154,8 @@ def warn_of_unknown(net: SumoNet, report: Report) -> None:
 
 
 def rings_that_yield(net: SumoNet) -> list[list[str]]:
-    """The short rings of edges in one direction of which each gives way, where streets enter, to these."""
+    """Short rings of one-way edges (RING_EDGES, RING_METRES) in which each edge gives way, where streets enter, to
+    these; the names of each ring's edges."""
     ways = {(edge.begin, edge.end) for edge in net.edges.values()}
     following: dict[str, str] = {}
     for one in net.connections:

@@ -1,4 +1,4 @@
-"""Signal commands, made of SUMO's signal programs."""
+"""Makes signal commands of SUMO's signal programs."""
 from collections import defaultdict
 from collections.abc import Iterable, Iterator, Mapping, Sequence
 from dataclasses import dataclass, field
@@ -33,7 +33,8 @@ FINE = GRAINS[:2]
 
 @dataclass(frozen=True, slots=True)
 class LitNode:
-    """A node with a light. Without what was found of who gives way, a share of each permissive green is shown."""
+    """A node with a light. Where found is empty, a share of each permissive green is shown: of a green in which
+    vehicles give way."""
 
     node: int
     turns: Sequence[AtLight]
@@ -45,17 +46,18 @@ class LitNode:
     found: Mapping[int, Movement] = field(default_factory=dict)  # by request: who gives way there
 
     def states(self) -> list[str]:
-        """The light's state in each second of its cycle."""
+        """The light's state, SUMO's letters, in each second of its cycle."""
         return each_second(self.light, self.program, self.report)
 
     def told(self, states: Sequence[str]) -> Told:
-        """Of each permissive green what is shown; states: as `states` gives them."""
+        """How many seconds of each permissive green are shown, and in how many parts; states: as states gives them."""
         return by_gaps(self.found) if self.found else by_share(self.light, self.turns, states, self.permissive)
 
 
 def movements(net: SumoNet, network: Network, flows: Flows, report: Report) -> dict[str, dict[int, Movement]]:
-    """The connections of each junction with a light over its cycle, {junction: {request: movement}}; none where nothing
-    is known of who gives way to whom, or of flows, which are the routes' vehicles an hour from edge to edge."""
+    """The connections of each junction with a light over its cycle, {junction: {request: movement}}; empty without
+    flows, and without the junctions of which it is not known who gives way to whom. flows: vehicles an hour by (edge,
+    next edge)."""
     limits_of = {link.edge: link.limit for link in network.links}
     found = {}
     for junction, connections in connections_of(net).items() if flows else ():
@@ -72,7 +74,8 @@ def movements_of_junction(
     limits_of: Mapping[str, int],
     report: Report,
 ) -> dict[int, Movement]:
-    """The movements of one junction, {request: movement}; none where nothing is known of who gives way to whom."""
+    """The movements of one junction, {request: movement}; empty where it has no light, or it is not known who gives way
+    to whom. limits_of: cells a step, by edge."""
     light = light_of(connections, net)
     ours = [connection for connection in connections if connection.light in (light, None)]
     if not light or not net.yields.get(junction) or any(connection.request is None for connection in ours):
@@ -85,7 +88,8 @@ def movements_of_junction(
 
 
 def light_of(turns: Iterable[Connection], net: SumoNet) -> str | None:
-    """The light that is used at a node, of those of its turns or connections: the first that has a program."""
+    """The name of the light that counts at a node, of those of its turns or connections: the first by name that has a
+    program. None where none has."""
     lights = {turn.light for turn in turns if turn.light}
     return min((light for light in lights if light in net.programs and net.programs[light].phases), default=None)
 
@@ -93,8 +97,8 @@ def light_of(turns: Iterable[Connection], net: SumoNet) -> str | None:
 def signals(
     net: SumoNet, network: Network, movements_at: Mapping[str, Mapping[int, Movement]], report: Report
 ) -> list[tuple[str, Command]]:
-    """A signal command for each node with a light, (the light's name, command), or a line for each phase of a program
-    that does not fit in one plan."""
+    """The signal commands, (light, command): one for each node with a light, or one for each phase of a program that
+    does not fit in one plan. movements_at: as movements gives them."""
     turns_at = defaultdict(list)
     for (link, lane, following), turn in network.turns.items():
         turns_at[network.links[link].end].append((link, lane, following, turn))
@@ -121,12 +125,12 @@ def signals(
 
 
 class TooLong(Fault):
-    """A program that does not fit in the phases of one plan."""
+    """A program that does not fit in the phases of one plan of the simulator."""
 
 
 def signal_lines(own: LitNode, begin: int, last: int) -> list[Command]:
-    """The signal command of a node; of a program that does not fit in one plan a line for each phase from a begin to a
-    last second, as a plan of one phase stays until the next."""
+    """The signal command of a node; of a program that does not fit in one plan a command for each phase, with its clock
+    ("at"), from begin to last (clocks), as a plan of one phase stays until the next."""
     try:
         return [signal(own)]
     except TooLong:
@@ -137,13 +141,13 @@ def signal_lines(own: LitNode, begin: int, last: int) -> list[Command]:
 
 
 def cycle_told(own: LitNode) -> str:
-    """What is said of a program that does not fit in one plan."""
+    """What is said of a light whose program does not fit in one plan."""
     return f"a cycle of {len(own.states()):,} s does not fit in one plan"
 
 
 def phase_lines(own: LitNode, begin: int) -> Iterator[tuple[int, Command]]:
-    """The signal commands of a node's phases from a begin on, (clock, command), without end: a plan of one phase stays
-    until the next is sent."""
+    """The signal commands of a node's phases from the clock begin on, (clock, command), without end: a plan of one
+    phase stays until the next is sent."""
     states = own.states()
     greens = green_seconds(own, states, own.told(states), 1, True)
     place = (begin + round(-own.program.offset)) % len(greens)
@@ -157,7 +161,8 @@ def phase_lines(own: LitNode, begin: int) -> Iterator[tuple[int, Command]]:
 
 
 def signal(own: LitNode) -> Command:
-    """The signal command of one node; TooLong where its program does not fit in one plan."""
+    """The signal command of one node; TooLong where its program does not fit in one plan. What is shown otherwise than
+    in SUMO is reported."""
     light, report, states = own.light, own.report, own.states()
     check_states(light, states, [turn for *_, turn in own.turns])
     if len(states) > limits.PHASES * limits.PHASE_STEPS:
@@ -200,8 +205,8 @@ def signal(own: LitNode) -> Command:
 
 
 def each_second(light: str, program: Program, report: Report) -> list[str]:
-    """The program's state in each second of its cycle; durations are rounded by running sum, so that the cycle stays.
-    Fault where it is no second long, or far too long."""
+    """The program's state in each second of its cycle; durations are rounded by their running sum, so that the cycle
+    stays. Fault where the cycle is shorter than half a second, or longer than LONGEST."""
     states: list[str] = []
     clock = 0.0
     if (cycle := sum(duration for duration, _ in program.phases)) > LONGEST:
@@ -217,15 +222,15 @@ def each_second(light: str, program: Program, report: Report) -> list[str]:
 
 
 def check_states(light: str, states: Sequence[str], turns: Iterable[Turn | MapTurn | Connection]) -> None:
-    """Refuses a program whose states do not have a place for each of some turns."""
+    """Fault where a state of a program has no place for the index of one of some turns of this light."""
     for turn in turns:
         if turn.light == light and any(turn.index >= len(state) for state in states):
             raise Fault(f"light {light!r}: a state is shorter than link index {turn.index}")
 
 
 def by_gaps(found: Mapping[int, Movement]) -> Told:
-    """For each index of a light's state the seconds of each permissive green that are shown and their parts, {index:
-    {first second: (seconds, parts)}}, by what was found of who gives way; of those that share an index the most."""
+    """{index of a light's state: {first second of a permissive green: (seconds of it that are shown, in how many
+    parts)}}, by what was found of who gives way; of movements that share an index the most."""
     told: defaultdict[int | None, dict[int, tuple[int, int]]] = defaultdict(dict)
     for movement in found.values():
         own = told[movement.index]
@@ -235,7 +240,7 @@ def by_gaps(found: Mapping[int, Movement]) -> Told:
 
 
 def by_share(light: str, turns: Sequence[AtLight], states: Sequence[str], permissive: float | None) -> Told:
-    """The same by the last share of each permissive green, 0 to 1, the usual one where none is given."""
+    """The same by the last share (0 to 1) of each permissive green; permissive: the share, None: DEFAULT_SHARE."""
     share = DEFAULT_SHARE if permissive is None else permissive
     told: dict[int | None, dict[int, tuple[int, int]]] = {}
     for index in {turn.index for *_, turn in turns if turn.light == light}:
@@ -245,7 +250,8 @@ def by_share(light: str, turns: Sequence[AtLight], states: Sequence[str], permis
 
 
 def green_seconds(own: LitNode, states: Sequence[str], told: Told, grain: int, middle: bool) -> list[Green]:
-    """The green turns of each second, as `shown_green` says. Turns that the light does not control are always green."""
+    """The green turns in each second of the cycle. told: of by_gaps or by_share; grain, middle: as of shown_green.
+    Turns that the light does not control are always green."""
     greens: list[set[TurnKey]] = [set() for _ in states]
     for link, lane, following, turn in own.turns:
         shown = (
@@ -262,10 +268,10 @@ def green_seconds(own: LitNode, states: Sequence[str], told: Told, grain: int, m
 def shown_green(
     states: str, told: Mapping[int, tuple[int, int]], turn: Turn | MapTurn, grain: int, middle: bool
 ) -> list[bool]:
-    """For each second whether a turn shows green; states: its own, a letter a second. Of each permissive green only so
-    many seconds as are told, in so many parts. Of each other green that no permissive one goes before seconds are left
-    out, as SUMO's queues start later and turn slower: in its middle, or else at its begin. All is rounded down to a
-    grain of seconds."""
+    """For each second whether a turn shows green; states: the letter of this turn in each second. Of each permissive
+    green so many seconds are shown as told says, in so many parts. Of each other green some seconds are left out, as
+    SUMO's queues start later and turn slower: in its middle, or (middle False) at its begin. All is rounded down to
+    grain seconds."""
     count = len(states)
     shown = [state in GREEN for state in states]
     greens, reds = runs_of(states, OPEN).items(), runs_of(states, STOPPED).items()
@@ -285,9 +291,9 @@ def shown_green(
 
 
 def hidden(length: int, turn: Turn | MapTurn, grain: int, middle: bool) -> range:
-    """The seconds of a green of such a length that are not shown, from its begin: in its middle, or at its begin. Of a
-    short one they are rounded to the nearest: a second of seven lets a quarter more pass, which a search for plans
-    would find."""
+    """The seconds of a green of length seconds that are not shown, counted from its begin: in its middle, or at its
+    begin. Those of a short green are rounded to the nearest grain: a second of seven lets a quarter more pass, which a
+    search for plans would find."""
     own = length, turn.speed, turn.limit
     begin, end = hidden_middle(*own) if middle else (0, hidden_start(*own))
     nearest = grain // 2 if length < TWO_PARTS else 0
@@ -296,7 +302,8 @@ def hidden(length: int, turn: Turn | MapTurn, grain: int, middle: bool) -> range
 
 
 def run_lengths(greens: Iterable[Green]) -> list[tuple[int, Green]]:
-    """Phases of equal greens, (seconds, green), of at most the longest duration; greens: of each second."""
+    """Phases, (seconds, green turns), of the green turns of each second: equal ones that follow each other are a phase,
+    of PHASE_STEPS seconds at most."""
     phases = []
     for green, run in groupby(greens):
         length = len(list(run))
@@ -307,8 +314,8 @@ def run_lengths(greens: Iterable[Green]) -> list[tuple[int, Green]]:
 
 
 def joined(phases: Iterable[tuple[int, Green]]) -> list[tuple[int, Green]]:
-    """As many phases as there may be: the shortest goes to the one before it, as long as that is not too long; TooLong
-    where that does not do."""
+    """The phases, (seconds, green turns), made fewer until they fit in a plan: the shortest is added to the one before
+    it, whose greens it gets. TooLong where phases would be above PHASE_STEPS."""
     made = list(phases)
     while len(made) > limits.PHASES:
         fitting = [at for at in range(1, len(made)) if made[at - 1][0] + made[at][0] <= limits.PHASE_STEPS]

@@ -24,7 +24,7 @@ LEAST = 30  # metres, below which an edge has no part of its own before or behin
 
 @dataclass(slots=True, frozen=True)
 class Slow:
-    """A lower limit on a stretch of an edge."""
+    """A lower limit on a stretch of an edge, from begin to end in metres."""
 
     edge: str
     begin: int  # metres
@@ -32,7 +32,7 @@ class Slow:
     kmh: int
 
     def text(self) -> str:
-        """As `slow_of` reads it."""
+        """The limit as the text that slow_of reads."""
         return f"{self.edge}:{self.begin}-{self.end}:{self.kmh}"
 
 
@@ -47,7 +47,7 @@ class Part:
 
 
 def slow_of(text: str) -> Slow:
-    """The limit that EDGE:METRES-METRES:KMH asks for; Fault where the text is none."""
+    """The limit that a text EDGE:METRES-METRES:KMH asks for; Fault where it has another form."""
     found = FORM.fullmatch(text)
     if not found or int(found[2]) >= int(found[3]) or int(found[4]) not in LIMITS:
         many = f"{LIMITS[0]} to {LIMITS[-1]}"
@@ -56,8 +56,8 @@ def slow_of(text: str) -> Slow:
 
 
 def parts_of(slow: Slow, metres: float) -> list[Part]:
-    """The parts of an edge of so many metres, in order; none shorter than LEAST stands before or behind the slow
-    one."""
+    """The parts of an edge of so many metres, in order; a part before or behind the slow one that would be shorter than
+    LEAST belongs to the slow one."""
     begin = slow.begin if slow.begin >= LEAST else 0
     end = slow.end if metres - slow.end >= LEAST else metres
     places = list(dict.fromkeys((0, begin, end, metres)))
@@ -67,8 +67,8 @@ def parts_of(slow: Slow, metres: float) -> list[Part]:
 def slowed(
     net: SumoNet, vehicles: Sequence[Vehicle], texts: Iterable[str], report: Report
 ) -> tuple[SumoNet, list[Vehicle]]:
-    """The network with edges in parts, and the vehicles with these in their routes; texts: of limits, one for an
-    edge."""
+    """The network with edges in parts, and the vehicles with these parts in their routes. texts: limits,
+    EDGE:METRES-METRES:KMH, one for an edge at most; Fault where one cannot be had."""
     made, parts = net, dict[str, list[Part]]()
     for slow in map(slow_of, texts):
         check(slow, net, parts)
@@ -79,7 +79,8 @@ def slowed(
 
 
 def check(slow: Slow, net: SumoNet, known: Iterable[str]) -> None:
-    """Refuses a limit that the network cannot have."""
+    """Fault where a network cannot have a limit: no such edge, a stretch beyond it, a limit above its own, a second
+    limit (known: edges that have one), or a name of a part that is taken."""
     where = f"{slow.kmh} km/h on {slow.edge}"
     if slow.edge not in net.edges:
         raise Fault(f"{where}: the import has no edge {slow.edge!r}")
@@ -95,14 +96,14 @@ def check(slow: Slow, net: SumoNet, known: Iterable[str]) -> None:
 
 
 def driven_over(vehicle: Vehicle, parts: dict[str, tuple[str, ...]]) -> Vehicle:
-    """The vehicle with the parts in the place of each edge that has some."""
+    """The vehicle whose route has, in place of each edge, the parts that it has; parts: names by edge."""
     if parts.keys().isdisjoint(vehicle.edges):
         return vehicle
     return replace(vehicle, edges=tuple(name for edge in vehicle.edges for name in parts.get(edge, (edge,))))
 
 
 def with_parts(net: SumoNet, slow: Slow, parts: Sequence[Part], report: Report) -> SumoNet:
-    """The network with one edge in parts, whose names are free."""
+    """The network with one edge in parts; the names of the parts must be free."""
     whole, last = net.edges[slow.edge], parts[-1].name
     made = {part.name: edge_of(part, parts, whole, slow) for part in parts}
     edges: dict[str, Edge] = {}
@@ -132,7 +133,7 @@ def with_parts(net: SumoNet, slow: Slow, parts: Sequence[Part], report: Report) 
 
 
 def edge_of(part: Part, parts: Sequence[Part], whole: Edge, slow: Slow) -> Edge:
-    """A part as an edge of its own."""
+    """A part as an edge of its own; whole: the edge before it was cut."""
     begin = whole.begin if part == parts[0] else part.name
     end = whole.end if part == parts[-1] else parts[parts.index(part) + 1].name
     lanes = [lane_of(lane, part, parts[-1].end, slow) for lane in whole.lanes]
@@ -140,14 +141,14 @@ def edge_of(part: Part, parts: Sequence[Part], whole: Edge, slow: Slow) -> Edge:
 
 
 def lane_of(lane: Lane, part: Part, metres: float, slow: Slow) -> Lane:
-    """A lane of a part; metres: of the whole edge."""
+    """The lane of a part, of a lane of the whole edge; metres: of the whole edge."""
     speed = min(lane.speed, slow.kmh / KMH) if part.slow else lane.speed
     begin, end = part.begin / metres, part.end / metres
     return Lane(lane.index, speed, (end - begin) * lane.metres, cut(lane.shape, begin, end))
 
 
 def cut(shape: Sequence[Point], begin: float, end: float) -> list[Point]:
-    """A line from one share of its length to another, 0 to 1."""
+    """The piece of a line between two shares (0 to 1) of its length."""
     ways = list(accumulate((dist(*pair) for pair in pairwise(shape)), initial=0.0))
     first, last = begin * ways[-1], end * ways[-1]
     inside = [point for point, way in zip(shape, ways, strict=True) if first < way < last]
@@ -155,7 +156,7 @@ def cut(shape: Sequence[Point], begin: float, end: float) -> list[Point]:
 
 
 def point_at(shape: Sequence[Point], ways: Sequence[float], way: float) -> Point:
-    """The point of a line after some of its way; ways: of its points."""
+    """The point of a line after way metres of it; ways: the metres from its begin to each of its points."""
     at = next((at for at in range(1, len(ways)) if ways[at] >= way), len(ways) - 1)
     (x, y), (other_x, other_y), metres = shape[at - 1], shape[at], ways[at] - ways[at - 1]
     share = (way - ways[at - 1]) / metres if metres else 0.0
@@ -163,7 +164,8 @@ def point_at(shape: Sequence[Point], ways: Sequence[float], way: float) -> Point
 
 
 def moved(one: SumoDetector, edge: str, parts: Sequence[Part], report: Report) -> SumoDetector:
-    """A detector, on the part of the edge on which it begins if it lies there."""
+    """A detector, put on the part on which it begins where it lies on the edge; one that reaches beyond that part is
+    cut, which is reported. parts: of the edge, in order."""
     name, _, index = one.lane.rpartition("_")
     if name != edge:
         return one

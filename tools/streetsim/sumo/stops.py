@@ -1,4 +1,4 @@
-"""Stops of SUMO's files: bus stops, who stops where and for how long, and their places on the cells of an import."""
+"""SUMO's stops: bus stops, which vehicle stops where and for how long, and their places on the cells of an import."""
 from __future__ import annotations
 
 from collections import defaultdict
@@ -30,7 +30,8 @@ LEFT_OUT = "its lane is left out, as it is closed to the classes"
 
 @dataclass(slots=True, frozen=True)
 class Stop:
-    """A stop of a vehicle, as its file tells it."""
+    """A stop of a vehicle, as its file tells it: at least duration seconds, and not before the clock until (None: not
+    told). why: the reason why it cannot be made; empty where it can."""
 
     where: str  # file and element, for what is told
     name: str  # of the bus stop; none where the lane is told
@@ -40,7 +41,7 @@ class Stop:
     why: str = ""  # it can not be made
 
     def later(self, shift: float) -> Stop:
-        """The same so many seconds later."""
+        """The stop with its until so many seconds later; without until it stays as it is."""
         return self if self.until is None else replace(self, until=self.until + round(shift))
 
 
@@ -57,12 +58,12 @@ class Spot:
 
 @dataclass(slots=True)
 class Found:
-    """The stops of a vehicle that have a place on its way."""
+    """The stops of a vehicle that have a place on its way, each with this place."""
 
     stops: list[tuple[Stop, Spot]] = field(default_factory=list)
 
     def lanes(self) -> dict[int, tuple[str, int]]:
-        """By place in the route the lane at which the vehicle stops first there."""
+        """The lane, (edge, index), at which the vehicle stops first on an edge, by the edge's place in its route."""
         found: dict[int, tuple[str, int]] = {}
         for _, spot in self.stops:
             found.setdefault(spot.at, (spot.edge, spot.index))
@@ -70,7 +71,8 @@ class Found:
 
 
 def read_bus_stop(path: FilePath, element: Element, net: SumoNet) -> None:
-    """Adds a bus stop; Fault where another one has its name, or the network has no such lane."""
+    """Adds a bus stop to the network; Fault where another one has its name, the network has no such lane, or it lies
+    beyond its lane."""
     name, lane = attribute(path, element, "id", filled), attribute(path, element, "lane", filled)
     if name in net.bus_stops:
         raise Fault(f"{told(path, element)}: a second stop of this name")
@@ -82,11 +84,13 @@ def read_bus_stop(path: FilePath, element: Element, net: SumoNet) -> None:
 
 
 def metres_of(path: FilePath, element: Element, name: str) -> float | None:
+    """An attribute of an element as a number of metres; None where it is not written."""
     return optional(path, element, name, number, None)
 
 
 def length_of(lane: str, net: SumoNet, where: str) -> float:
-    """The metres of a lane; 0 where it is left out; Fault where the network has none of its name."""
+    """The metres of a lane; 0 where it is left out, as it is not for the classes. Fault where the network has no lane
+    of this name; where: the element, for the Fault."""
     edge, _, index = lane.rpartition("_")
     if lane in net.closed_lanes:
         return 0.0
@@ -98,12 +102,13 @@ def length_of(lane: str, net: SumoNet, where: str) -> float:
 
 
 def stops_in(path: FilePath, owner: Element, net: SumoNet) -> tuple[Stop, ...]:
-    """The stops that stand in an element, without those of a route in it."""
+    """The stops that stand directly in an element; those of a route inside it are not among them."""
     return tuple(stop_of(path, owner, one, net) for one in owner if one.tag == "stop")
 
 
 def stop_of(path: FilePath, owner: Element, element: Element, net: SumoNet) -> Stop:
-    """A stop of an element; Fault where it names a lane that the network does not have, or no place."""
+    """The stop of a <stop> in an element (owner); Fault where it names a lane or edge that the network does not have,
+    or no place at all."""
     where = f"{told(path, owner)}: <stop>"
     name = next((element.get(kind, "") for kind in BUS_STOPS if element.get(kind)), "")
     duration = optional(path, element, "duration", seconds, None)
@@ -122,7 +127,7 @@ def stop_of(path: FilePath, owner: Element, element: Element, net: SumoNet) -> S
 
 
 def why_not(element: Element) -> str:
-    """Why a stop can not be made, by its attributes; nothing where it can."""
+    """Why a stop cannot be made, by its attributes; empty where it can."""
     if element.get("parking", "false").lower() in (*TRUE, "opportunistic"):
         return IN_BAY
     if kind := next((kind for kind in ELSEWHERE if element.get(kind)), ""):
@@ -135,7 +140,8 @@ def why_not(element: Element) -> str:
 
 
 def place_of(path: FilePath, element: Element, net: SumoNet, where: str) -> BusStop:
-    """The place of a stop that tells its lane, or its edge: the first lane of it that is kept."""
+    """The place of a stop that names a lane, or an edge: then the first lane of it that is kept. Fault where it names
+    neither."""
     lane = element.get("lane", "")
     if not lane:
         edge = element.get("edge", "")
@@ -157,13 +163,13 @@ def place_of(path: FilePath, element: Element, net: SumoNet, where: str) -> BusS
 
 
 def edge_of(stop: Stop, net: SumoNet) -> str:
-    """The edge where a stop lies; an empty text where it has no place."""
+    """The name of the edge where a stop lies; empty where it has no place."""
     place = net.bus_stops.get(stop.name) if stop.name else stop.place
     return place.lane.rpartition("_")[0] if place else ""
 
 
 class Stops:
-    """The stops of an import: places those of each vehicle, and tells which can not be made."""
+    """The stops of an import: gives those of each vehicle their cells, and reports those that cannot be made."""
 
     def __init__(self, net: SumoNet, types: Types, report: Report) -> None:
         self.net, self.types, self.report = net, types, report
@@ -171,7 +177,8 @@ class Stops:
         self.visits: list[Visit] = []
 
     def on(self, name: str, edges: Sequence[str], stops: Iterable[Stop]) -> Found:
-        """Those of a vehicle that have a place on its route, each on the edge of the one before it or a later one."""
+        """The stops of a vehicle that have a place on its route (edges), each on the edge of the stop before it or on a
+        later one; the others are kept in unmade, by reason. name: of the vehicle."""
         found, at, before = Found(), 0, 0.0
         for stop in stops:
             place = self.place(stop)
@@ -193,13 +200,14 @@ class Stops:
         return found
 
     def place(self, stop: Stop) -> BusStop | None:
-        """The place of a stop; Fault where no file has the bus stop that it names."""
+        """The place of a stop; None where it has none. Fault where it names a bus stop that no file has."""
         if stop.name and stop.name not in self.net.bus_stops and not stop.why:
             raise Fault(f"{stop.where}: there is no busStop {stop.name!r}")
         return self.net.bus_stops.get(stop.name) if stop.name else stop.place
 
     def add(self, vehicle: tuple[int, str, str], plan: Sequence[int], found: Found, network: Network) -> None:
-        """The visits of a vehicle, (its number, name and type), on the links of its plan."""
+        """Adds the visits of a vehicle (its number, name and type) on the links of its plan; stops that these links do
+        not reach are kept in unmade, by reason."""
         number, name, kind = vehicle
         for stop, spot in found.stops:
             link, lane = network.place_of[spot.edge, spot.index]
@@ -217,14 +225,14 @@ class Stops:
             self.visits.append(visit)
 
     def losses(self, kind: str, link: Link) -> tuple[float, float]:
-        """Seconds that SUMO's vehicle of a type loses as it brakes, and as it starts beyond those of one here, which
-        gains a cell a second in each."""
+        """(seconds that SUMO's vehicle of a type loses as it brakes; seconds that it loses as it starts beyond one of
+        streetsim's, which gains a cell a second in each second) on a link."""
         speed = min(link.speed, self.types.kinds.get(kind, Kind()).speed or link.speed)
         accel, decel = self.types.pace.get(kind, PACE)
         return round(speed / 2 / decel, 2), max(0.0, round(speed / 2 / accel - (link.limit - 1) / 2, 2))
 
     def tell(self) -> None:
-        """Reports what is made and, by reason, what is not."""
+        """Reports how many stops are made, and by reason those that are not."""
         for why, names in self.unmade.items():
             self.report.warn(f"{len(names):,} stops of vehicles are not made, {why}: {some(names)}", names, do_of(why))
         if self.visits:
@@ -233,22 +241,22 @@ class Stops:
 
 
 def do_of(why: str) -> str:
-    """What to do where stops are not made."""
+    """What the user can do where stops are not made for a reason."""
     if why == LEFT_OUT:
         return "--classes NAMES keeps lanes of other classes too"
     return "who stands in others' way: streetsim-run --close, for as long"
 
 
 def called(stop: Stop) -> str:
-    """A stop as it is told: by its name, or by lane and metres."""
+    """How a stop is named to the user: by its name, or by lane and metres."""
     if stop.name or stop.place is None:
         return stop.name or "a stop"
     return f"{stop.place.lane}:{stop.place.end:g}"
 
 
 def cells_of(link: Link, spot: Spot) -> tuple[int, int] | None:
-    """The first and the last cell in which a front stands: so that one cell lies beyond it, which is closed meanwhile;
-    none where the link has no two."""
+    """The first and the last cell in which the front of a vehicle stands at a stop: one cell always lies beyond it,
+    which is closed meanwhile. None where the link has fewer than two cells."""
     size = link.metres / link.cells
     if link.cells < 2:
         return None

@@ -1,4 +1,5 @@
-"""The programs of a network's lights, with movements that conflict, and a warning where two main ones have green."""
+"""The programs of a network's lights with the movements that conflict, and a warning where two of these have main green
+(G) together."""
 from collections import defaultdict
 from collections.abc import Iterable, Iterator, Sequence
 
@@ -9,8 +10,8 @@ from streetsim.sumo.net import SumoNet, read_net, read_program
 
 
 def timings_of(net: SumoNet) -> Iterator[Timing]:
-    """The program of each light that connections go by; those whose states are too short for their connections are
-    left out."""
+    """The program of each light that connections name, by the light's name; lights without phases, or with states that
+    are too short for their connections, are left out."""
     at_light = defaultdict(list)
     for connection in net.connections:
         if connection.light:
@@ -31,7 +32,8 @@ def timings_of(net: SumoNet) -> Iterator[Timing]:
 
 
 def timings_of_files(net_path: str, additional: Iterable[str], classes: Sequence[str]) -> list[Timing]:
-    """The programs of the lights of a network and its additional files, of which the last of a light counts."""
+    """The programs of the lights of a network and of additional files; the last program of a light counts. classes:
+    whose lanes are kept."""
     net = read_net(net_path, classes, Report())
     for path in additional:
         for element in elements(path, None):
@@ -41,7 +43,7 @@ def timings_of_files(net_path: str, additional: Iterable[str], classes: Sequence
 
 
 def conflict(net: SumoNet, light: str, pair: tuple) -> bool:
-    """Whether two connections of a light are foes at one junction."""
+    """Whether two connections, both of one light, are foes at one junction: their vehicles would meet."""
     one, other = pair
     junction = net.edges[one.source].end
     if net.edges[other.source].end != junction or one.request is None or other.request is None:
@@ -51,7 +53,7 @@ def conflict(net: SumoNet, light: str, pair: tuple) -> bool:
 
 
 def warn_of_clashes(net: SumoNet, report: Report) -> None:
-    """Lights that show main greens to movements that conflict: here both go at once."""
+    """Reports lights that show main green (G) to movements that conflict: here both go at once."""
     for timing in timings_of(net):
         told = [f"{called(net, one)} and {called(net, other)}" for one, other, _ in timing.clashes()]
         if told:
@@ -63,7 +65,7 @@ def warn_of_clashes(net: SumoNet, report: Report) -> None:
 
 
 def called(net: SumoNet, movement: Movement) -> str:
-    """A movement by its streets' names, with the edges."""
+    """How a movement is named to the user: by its streets, and where these have names by its edges too."""
     streets = [net.edges[edge].street or edge for edge in (movement.edge, movement.to)]
     ids = f" ({movement.edge} to {movement.to})"
     return f"{streets[0]} into {streets[1]}{ids if streets != [movement.edge, movement.to] else ''}"

@@ -1,4 +1,4 @@
-"""Reads SUMO vehicle types and gives their vehicles sizes: how many cells each takes."""
+"""Reads SUMO's vehicle types, and gives vehicles their sizes: how many cells each takes."""
 import random
 from collections import Counter, defaultdict
 from dataclasses import dataclass
@@ -68,7 +68,7 @@ TAGS = ("vType", "vTypeDistribution")
 
 @dataclass(slots=True, frozen=True)
 class Kind:
-    """A vehicle type."""
+    """A vehicle type, as far as it is kept."""
 
     vclass: str = "passenger"
     length: float = USUAL[0]  # metres
@@ -77,7 +77,8 @@ class Kind:
 
 
 def class_of(path: FilePath, element: Element) -> str:
-    """The vehicle class of a type, by the name that SUMO has for it; Fault where it has none."""
+    """The vehicle class of a type, under SUMO's present name; passenger where none is written. Fault where SUMO has no
+    such class."""
     name = element.get("vClass") or "passenger"
     name = FORMER.get(name, name)
     if name not in CLASSES and name != FREE:
@@ -91,8 +92,8 @@ def weights_of(text: str) -> list[float]:
 
 
 class Types:
-    """The vehicle types that files tell, with the metres of road that a vehicle takes with the gap ahead of it; and the
-    distributions, from which the type of each vehicle is drawn."""
+    """The vehicle types that files tell, with the metres of road that a vehicle takes together with the gap ahead of
+    it, and the distributions from which the type of a vehicle is drawn."""
 
     def __init__(self, seed: int, report: Report) -> None:
         """seed: of the draws from distributions."""
@@ -107,7 +108,7 @@ class Types:
         self.unknown: set[str] = set()
 
     def read(self, path: FilePath, element: Element) -> None:
-        """Adds a type or a distribution of types."""
+        """Adds a <vType> or a <vTypeDistribution>."""
         if element.tag == "vType":
             self.read_type(path, element)
         else:
@@ -138,7 +139,8 @@ class Types:
         return name
 
     def read_mix(self, path: FilePath, element: Element) -> None:
-        """Adds a distribution, with the types that stand in it; Fault where it names an unknown one, or has none."""
+        """Adds a distribution, with the types that stand in it; Fault where it names an unknown type, or has no
+        type."""
         names, weights = (element.get("vTypes") or "").split(), []
         shares = attribute(path, element, "probabilities", weights_of) if element.get("probabilities") else []
         for place, name in enumerate(names):
@@ -154,8 +156,8 @@ class Types:
         self.mixes[self.new_name(path, element)] = names, weights
 
     def drawn(self, name: str | None) -> str:
-        """The type that a vehicle has: the one that is named, or one of the distribution that is named; the usual one
-        where none is named, or one that no file tells."""
+        """The type that a vehicle has: the one that is named, or one drawn from the distribution that is named. DEFAULT
+        where name is None, or no file tells it, which is noted in unknown."""
         if name in self.mixes:
             names, weights = self.mixes[name]
             return self.draws.choices(names, weights)[0]
@@ -165,8 +167,8 @@ class Types:
 
 
 class Sizes:
-    """Gives vehicles their sizes in the order of departure. What a size lacks or has too much is carried on to the next
-    vehicle of the type: else all trucks of 9.6 m took one cell."""
+    """Gives vehicles their sizes in order of departure. What rounding leaves is carried on to the next vehicle of the
+    type: without that, all trucks of 9.6 m would take one cell."""
 
     def __init__(self, types: Types) -> None:
         self.types = types
@@ -176,7 +178,7 @@ class Sizes:
         self.too_long: Counter[str] = Counter()  # vehicles by type
 
     def of(self, name: str) -> int:
-        """The cells that the next vehicle of a type takes."""
+        """The cells, 1 to the most, that the next vehicle of a type takes."""
         metres = self.types.metres[name]
         wished = min(limits.SIZE, max(1.0, metres / limits.CELL_METRES)) + self.rests[name]
         size = int(wished + 0.5)
@@ -188,8 +190,8 @@ class Sizes:
         return size
 
     def tell(self, report: Report) -> None:
-        """Reports how many took which size and the metres of all, where some are longer than a cell; what does not
-        fit."""
+        """Reports how many vehicles took which size, where some take more than a cell; types that no file tells; and
+        vehicles that are too long for the most cells."""
         if self.types.unknown:
             report.warn(f"vehicle types that no file tells are taken for cars: {some(sorted(self.types.unknown))}")
         if self.too_long:

@@ -46,7 +46,8 @@ LEAST_STOPPED = 0.4  # vehicles in a red, below which none go
 
 
 def hourly_flows(vehicles: Iterable[Any]) -> dict[Way, float]:
-    """Vehicles an hour from each edge to each next one, over the time in which vehicles depart."""
+    """Vehicles an hour by (edge, next edge), over the time in which vehicles depart, which counts as 900 s at least.
+    vehicles: anything with edges and depart."""
     flows: Counter[Way] = Counter()
     for vehicle in vehicles:
         flows.update(pairwise(vehicle.edges))
@@ -57,7 +58,7 @@ def hourly_flows(vehicles: Iterable[Any]) -> dict[Way, float]:
 
 @dataclass(slots=True, eq=False)
 class Movement:
-    """A connection over a light's cycle."""
+    """A connection over one cycle of its light: when it has green, to whom it gives way, and how many vehicles pass."""
 
     way: Way
     lane: tuple[str, int]  # edge, lane
@@ -84,12 +85,12 @@ class Movement:
 
     @property
     def waits(self) -> bool:
-        """Whether its vehicles wait for gaps: it has permissive greens, and foes."""
+        """Whether its vehicles wait for gaps: it has permissive greens (in which it gives way), and foes."""
         return bool(self.runs and self.foes)
 
     @property
     def shown_open(self) -> int:
-        """The seconds of its permissive greens that are shown."""
+        """How many seconds of its permissive greens are shown, in all."""
         return sum(self.shown[start] for start in self.runs)
 
 
@@ -100,8 +101,9 @@ def movements_of(
     flows: Mapping[Way, float],
     limits_of: Mapping[str, int],
 ) -> dict[int, Movement]:
-    """The movements of a junction, by the connections' requests. states: of its light, by second; yields: by request
-    those that it gives way to; flows: vehicles an hour; limits_of: cells a step, by edge."""
+    """The movements of a junction, by the connections' requests. states: of its light, one for each second; yields: by
+    request those that it gives way to; flows: vehicles an hour by (edge, next edge); limits_of: cells a step, by
+    edge."""
     sharing = Counter((connection.source, connection.target) for connection in connections)
     found = {}
     for connection in connections:
@@ -119,8 +121,9 @@ def movements_of(
 
 
 def set_lane(movement: Movement, movements: Collection[Movement]) -> None:
-    """Tells a movement of its lane, and in how many parts its seconds are shown: in two where others on its lane need
-    not wait, at an edge of several lanes."""
+    """Sets what a movement knows of its lane, of all movements of the junction: who shares it, how many lanes its edge
+    has, and in how many parts its seconds are shown (two where others on its lane need not wait, at an edge of several
+    lanes)."""
     movement.lanes = len({other.lane for other in movements if other.way[0] == movement.way[0]})
     movement.sharing = [other for other in movements if other.lane == movement.lane]
     movement.parts = 2 if movement.lanes > 1 and any(one.flow and not one.runs for one in movement.sharing) else 1
@@ -131,8 +134,8 @@ def set_lane(movement: Movement, movements: Collection[Movement]) -> None:
 
 
 def movement_of(connection: Connection, states: Sequence[str], flow: float, limit: int) -> Movement:
-    """The movement of a connection, alone; states: of its light, by second; flow: vehicles an hour; limit: of its link,
-    cells a step."""
+    """The movement of one connection, without its foes and lane. states: of its light, one for each second; flow:
+    vehicles an hour; limit: of its link, cells a step."""
     lit, cycle = connection.light is not None, len(states)
     own = "".join(state[connection.index] for state in states) if lit else "G" * cycle
     return Movement(
@@ -153,18 +156,19 @@ def movement_of(connection: Connection, states: Sequence[str], flow: float, limi
 
 
 def seconds_of(states: str, shown: str) -> int:
-    """The seconds of a cycle, as bits, that show one of some states."""
+    """The seconds of a cycle, as bits, whose state is one of shown; states: a letter for each second."""
     return sum(1 << second for second, state in enumerate(states) if state in shown)
 
 
 def seconds_from(start: int, length: int, cycle: int) -> int:
-    """So many seconds from one on, round the cycle, as bits."""
+    """length seconds from start on, round the cycle, as bits."""
     bits = ((1 << min(length, cycle)) - 1) << start % cycle
     return (bits | bits >> cycle) & ((1 << cycle) - 1)
 
 
 def runs_of(states: str, shown: str) -> dict[int, int]:
-    """The unbroken runs round the cycle of seconds that show one of some states: {first second: length}."""
+    """The unbroken runs of seconds, round the cycle, whose state is one of shown: {first second: length}; states: a
+    letter for each second."""
     count = len(states)
     if all(state in shown for state in states):
         return {0: count}
@@ -176,13 +180,13 @@ def runs_of(states: str, shown: str) -> dict[int, int]:
 
 
 def red_before(states: str, start: int) -> int:
-    """The seconds without green that end where a green begins; not all of the cycle may be red."""
+    """How many seconds without green end where a green begins, at start. Some second must have green."""
     return next(steps for steps in range(len(states)) if states[start - steps - 1] in SHOWN)
 
 
 def meetings(movement: Movement, start: int, length: int) -> list[Meeting]:
-    """The seconds of a permissive green, from its first and so many, by those that are green then of whom it gives way
-    to."""
+    """The seconds (as bits) of a permissive green of length seconds from start, grouped by the foes that have green in
+    them."""
     found: defaultdict[tuple[Movement, ...], int] = defaultdict(int)
     for second in range(start, start + length):
         place = second % movement.cycle
@@ -191,19 +195,20 @@ def meetings(movement: Movement, start: int, length: int) -> list[Meeting]:
 
 
 def headway(speed: float) -> float:
-    """Seconds between vehicles of a queue that pass a junction in SUMO at a speed, in metres a second."""
+    """Seconds between vehicles of a queue that pass a junction in SUMO; speed: metres a second, above 0."""
     return BEHIND + ROOM / speed
 
 
 def green_here(vehicles: float, limit: int) -> int:
-    """The seconds of green in which so many leave a queue here; limit: of their link, cells a step."""
+    """The seconds of green in which so many vehicles leave a queue in streetsim; limit: of their link, cells a step."""
     short = next((second for second, passing in enumerate(SHORT, 1) if passing >= vehicles - 0.1), None)
     return short or round(vehicles * HEADWAYS[limit - 1] - AHEAD)
 
 
 def settle(movements: Sequence[Movement]) -> None:
-    """Finds the seconds shown of each permissive green, and the flows that get through, that fit to each other: a
-    vehicle that waits to turn blocks those behind it on its lane, and so makes room for those on the other side."""
+    """Finds, for the movements of a junction, the seconds of each permissive green that are shown and the flows that
+    get through, until they fit to each other: a vehicle that waits to turn blocks those behind it on its lane, and so
+    makes room for those on the other side. Sets shown and passing of each."""
     lanes = defaultdict(list)
     for movement in movements:
         lanes[movement.lane].append(movement)
@@ -216,7 +221,8 @@ def settle(movements: Sequence[Movement]) -> None:
 
 
 def pass_through(sharing: Sequence[Movement]) -> float:
-    """Goes half way to what the movements of a lane let pass; gives how far it was, in vehicles an hour."""
+    """Brings passing of the movements of one lane half way to what the lane lets pass; gives how far it was, in
+    vehicles an hour."""
     wish = sum(movement.flow for movement in sharing)
     share = min(1.0, capacity(sharing, wish) / wish) if wish else 1.0
     most = max(abs(movement.flow * share - movement.passing) for movement in sharing)
@@ -226,9 +232,9 @@ def pass_through(sharing: Sequence[Movement]) -> float:
 
 
 def seconds_shown(movement: Movement, start: int, length: int) -> int:
-    """The seconds of a permissive green, from its first and so many, in which as many leave a queue as find a gap in
-    all of it: the mean of cycles with less and with more traffic than usual. On the only lane of an edge as many of all
-    on it, as those who need not wait go first until one comes that must."""
+    """How many seconds of a permissive green (length seconds from start) are to be shown, so that as many leave a queue
+    as find a gap in SUMO: the mean of cycles with less, usual and more traffic. At an edge of one lane all of its
+    vehicles count, as those who need not wait pass until one comes that must."""
     usual = sum(foe.passing for foe in movement.foes) * movement.cycle / 3600
     cycles = [(weight, max(0.0, 1 + deviations / max(1.0, usual) ** 0.5)) for weight, deviations in SPREAD]
     if movement.waits and movement.lanes == 1:
@@ -239,8 +245,8 @@ def seconds_shown(movement: Movement, start: int, length: int) -> int:
 
 
 def seconds_after_stop(movement: Movement, start: int) -> int:
-    """The seconds of a red, by its first, that are shown to those who may go after a stop: as many go as find a gap in
-    it."""
+    """How many seconds of a red, by its first second, are shown to those who may go after a stop: as many go as find a
+    gap in it."""
     vehicles, blocked = 0.0, 0
     for foe in movement.foes:
         blocked |= queue_seconds(foe, 1.0)
@@ -251,7 +257,7 @@ def seconds_after_stop(movement: Movement, start: int) -> int:
 
 
 def after_stop(flow: float) -> float:
-    """Vehicles an hour that go after a stop into a flow of so many."""
+    """Vehicles an hour that go after a stop into a stream of flow vehicles an hour."""
     for (low, more), (high, less) in pairwise(AFTER_STOP):
         if flow <= high:
             return more + (less - more) * (flow - low) / (high - low)
@@ -259,8 +265,9 @@ def after_stop(flow: float) -> float:
 
 
 def lane_there(movement: Movement, start: int, length: int, factor: float) -> float:
-    """How many of all on its lane pass in a permissive green in SUMO when the traffic that they give way to is a factor
-    of the usual: while the queue of the others leaves those before the first that waits, and then all, in gaps."""
+    """How many vehicles of a movement's whole lane pass in SUMO in a permissive green of length seconds from start,
+    where the traffic that they give way to is factor times the usual: those before the first that waits, while the
+    others' queue leaves, and then all in gaps."""
     blocked, free, passed = 0, 0, 0.0
     for foe in movement.foes:
         blocked |= lane_queue(movement, foe, factor)
@@ -275,8 +282,8 @@ def lane_there(movement: Movement, start: int, length: int, factor: float) -> fl
 
 
 def lane_queue(movement: Movement, foe: Movement, factor: float) -> int:
-    """As `queue_seconds`, of a foe's lane: of all on it, as those who wait hold up the others, but where most do not go
-    first of these alone."""
+    """As queue_seconds, for the whole lane of a foe, as those who wait hold up the others; where most on it do not go
+    first, of those who do alone."""
     first = [one for one in movement.foes if one.lane == foe.lane]
     most = 2 * sum(one.passing for one in first) >= sum(one.passing for one in foe.sharing)
     seconds = sum(one.passing * time_of(one, most_against(one)) for one in (foe.sharing if most else first))
@@ -284,14 +291,15 @@ def lane_queue(movement: Movement, foe: Movement, factor: float) -> int:
 
 
 def most_against(movement: Movement) -> float:
-    """The most vehicles an hour that it gives way to in a second of a permissive green."""
+    """The greatest flow, vehicles an hour, that a movement gives way to in any second of its permissive greens."""
     groups = (foes for found in movement.meets.values() for _, foes in found)
     return max((sum(foe.passing for foe in foes) for foes in groups), default=0.0)
 
 
 def time_of(movement: Movement, against: float) -> float:
-    """The seconds that one holds up its lane, against a flow of so many vehicles an hour where it waits for gaps. Who
-    follows one that waited may use its gap; others wait for one of their own, in traffic at random."""
+    """The seconds for which a vehicle of a movement holds up its lane, on average; against: vehicles an hour that it
+    gives way to, where it waits. Who follows one that waited may use its gap; others wait for one of their own, in
+    traffic at random."""
     if not movement.waits:
         return movement.headway
     against = min(against, MOST_AGAINST)
@@ -301,18 +309,21 @@ def time_of(movement: Movement, against: float) -> float:
 
 
 def gap_wait(flow: float) -> float:
-    """The mean seconds until a gap comes that one alone can use, in a flow of so many vehicles an hour at random."""
+    """The mean seconds until a gap comes that one vehicle alone can use, in random traffic of flow vehicles an hour; 0
+    without traffic."""
     each = flow / 3600
     return (math.exp(each * FIRST_GAP) - 1) / each - FIRST_GAP if each > 0 else 0.0
 
 
 def until_first(vehicles: float, share: float) -> float:
-    """How many of so many vehicles pass before the first of a share that waits, on the mean."""
+    """How many of so many vehicles pass before the first one that waits, on average; share: of the vehicles that wait,
+    above 0 to 1."""
     return (1 - share) * (1 - (1 - share) ** vehicles) / share
 
 
 def lane_here(movement: Movement, seconds: int, length: int) -> float:
-    """How many of all on its lane pass here where so many seconds are shown at the end of a permissive green."""
+    """How many vehicles of a movement's whole lane pass in streetsim in a permissive green of length seconds, where so
+    many seconds are shown at its end."""
     whole = max(0.0, length - START) / movement.beside  # pass if nobody waits, here as in SUMO
     before = whole * (length - seconds + AHEAD) / (length + AHEAD)
     none = (1 - movement.share) ** before  # that waits has come until then
@@ -321,23 +332,24 @@ def lane_here(movement: Movement, seconds: int, length: int) -> float:
 
 
 def seconds_for(movement: Movement, vehicles: float, length: int) -> int:
-    """The seconds at the end of a permissive green with which so many of its lane pass here, as near as may be."""
+    """How many seconds, at the end of a permissive green of length seconds, let so many vehicles of the lane pass here,
+    as nearly as may be; 1 at least."""
     more = bisect_left(range(1, length), vehicles, key=lambda seconds: lane_here(movement, seconds, length)) + 1
     return min((more, max(1, more - 1)), key=lambda seconds: abs(lane_here(movement, seconds, length) - vehicles))
 
 
 def places(length: int, seconds: int, parts: int) -> list[tuple[int, int]]:
-    """Where so many seconds of a permissive green of some length are shown, as (begin, end) from its begin: at its end,
-    for those that are given way to go first; or in parts with equal waits before them, so that a vehicle that waits
-    holds its lane up for less long."""
+    """Where seconds of a permissive green of length seconds are shown, (begin, end) from its begin: at its end, as
+    those who are given way to go first; or in parts with equal waits before them, so that a vehicle that waits holds
+    its lane up for less long."""
     parts = parts if 2 * parts <= seconds <= 0.9 * length else 1
     wait, shown = (length - seconds) / parts, seconds / parts
     return [(round((at + 1) * wait + at * shown), round((at + 1) * (wait + shown))) for at in range(parts)]
 
 
 def places_in_red(length: int, seconds: int) -> list[tuple[int, int]]:
-    """Where so many seconds of a red of some length are shown to those who may go after a stop, as (begin, end) from
-    its begin: evenly, by twos."""
+    """Where seconds of a red of length seconds are shown to those who may go after a stop, (begin, end) from its begin:
+    evenly spread, by twos."""
     parts = max(1, seconds // 2)
     sizes = [seconds // parts + (at < seconds % parts) for at in range(parts)] if seconds else []
     begins = [int((at + 1) * length / (parts + 1) - size / 2) for at, size in enumerate(sizes)]
@@ -345,7 +357,8 @@ def places_in_red(length: int, seconds: int) -> list[tuple[int, int]]:
 
 
 def finding_gaps(movement: Movement, start: int, factor: float) -> float:
-    """How many find a gap in a permissive green when the traffic that they give way to is a factor of the usual."""
+    """How many vehicles of a movement find a gap in the permissive green that begins at start, where the traffic that
+    they give way to is factor times the usual."""
     blocked, vehicles = 0, 0.0
     for foe in movement.foes:
         blocked |= queue_seconds(foe, factor)
@@ -357,12 +370,13 @@ def finding_gaps(movement: Movement, start: int, factor: float) -> float:
 
 def queue_seconds(foe: Movement, factor: float) -> int:
     """The seconds of the cycle, as bits, in which a foe's queue leaves that has waited for a green, where its traffic
-    is a factor of the usual."""
+    is factor times the usual."""
     return leaving_seconds(foe, foe.passing * factor * foe.headway / 3600)
 
 
 def leaving_seconds(foe: Movement, rate: float) -> int:
-    """The seconds of the cycle, as bits, in which a queue leaves that needs so large a share (rate) of the time."""
+    """The seconds of the cycle, as bits, in which a foe's queue leaves; rate: the share (0 to 1) of the time that it
+    needs to pass."""
     seconds, rate = 0, min(rate, 0.99)
     for start, red in foe.begins if foe.passing else ():
         seconds |= seconds_from(start, round(LOST + red * rate / (1 - rate)), foe.cycle)
@@ -370,15 +384,15 @@ def leaving_seconds(foe: Movement, rate: float) -> int:
 
 
 def gap_capacity(flow: float) -> float:
-    """Vehicles an hour that find a gap in a flow of so many; infinite where there is none."""
+    """Vehicles an hour that find a gap in a stream of flow vehicles an hour; infinite where that is 0."""
     if flow <= 0:
         return math.inf
     return flow * math.exp(-flow * CRITICAL_GAP / 3600) / -math.expm1(-flow * FOLLOW_UP / 3600)
 
 
 def capacity(sharing: Sequence[Movement], wish: float) -> float:
-    """Vehicles an hour that a lane lets pass, by its movements, of so many that wish to: until the first comes that
-    waits to turn, and then in the seconds that are shown to it."""
+    """Vehicles an hour that a lane lets pass, by its movements, of wish that want to (above 0): all until the first
+    comes that waits to turn, and then those of the seconds that are shown to it."""
     cycle, green = sharing[0].cycle, 0
     for movement in sharing:
         green |= movement.green
@@ -395,27 +409,28 @@ def capacity(sharing: Sequence[Movement], wish: float) -> float:
 
 
 def leaving(green: float, speed: float) -> float:
-    """Vehicles that leave a queue in SUMO in so many seconds of green; speed: inside the junction, metres a second."""
+    """How many vehicles leave a queue in SUMO in green seconds, one at least; speed: inside the junction, metres a
+    second."""
     return max(1.0, (green - speed / (2 * ACCELERATION) + EARLY) / headway(speed))
 
 
 def passing_here(seconds: int, limit: int) -> float:
-    """Vehicles that leave a queue here in so many seconds of green, one at least; limit: of their link, cells a
-    step."""
+    """How many vehicles leave a queue in streetsim in so many seconds of green (1 or more); limit: of their link, cells
+    a step."""
     return SHORT[seconds - 1] if seconds <= len(SHORT) else (seconds + AHEAD) / HEADWAYS[limit - 1]
 
 
 def hidden_start(length: int, speed: float, limit: int) -> int:
-    """The seconds at the begin of a green that are not shown, so that as many pass here as in SUMO, where a queue
-    starts later and turns are slower."""
+    """How many seconds at the begin of a green of length seconds are not shown, so that as many pass here as in SUMO,
+    where a queue starts later and turns are slower. speed: metres a second; limit: cells a step."""
     return max(0, length - green_here(leaving(length, speed), limit))
 
 
 @cache
 def hidden_middle(length: int, speed: float, limit: int) -> tuple[int, int]:
-    """The same from half of a green on, as (begin, end) from its begin: who has waited alone for its begin goes at
-    once, as in SUMO. As a queue starts twice they are more seconds; one alone does not hold it up. A short green has
-    them at its begin."""
+    """The (begin, end) of the seconds that are not shown from half of a green on, for the same reason: who has waited
+    alone for its begin then goes at once, as in SUMO. As a queue starts twice they are more seconds. A green below
+    TWO_PARTS has them at its begin."""
     if length < TWO_PARTS:
         return 0, hidden_start(length, speed, limit)
     half, vehicles = length // 2, leaving(length, speed)
@@ -430,8 +445,8 @@ def hidden_middle(length: int, speed: float, limit: int) -> tuple[int, int]:
 
 
 def equivalents(movements: Iterable[Movement]) -> dict[Way, float]:
-    """In how many places a vehicle counts on its lane that waits for a gap, {(edge, next edge): vehicles}: as many
-    others could pass in the whole of its green for each that passes."""
+    """For how many vehicles one counts on its lane that waits for a gap, {(edge, next edge): vehicles}: as many others
+    could pass in its green for each that passes."""
     found: dict[Way, float] = {}
     for movement in movements:
         if movement.waits:
