@@ -171,6 +171,7 @@ def gap_by(clock: int, read: Callable[[int], Rows], first: int) -> Callable[[int
     second is taken to have left in its middle."""
 
     def gap(detector: int) -> float:
+        """Seconds since the detector at a place last saw anybody; infinite where its rows have nobody."""
         for row in reversed(read(first + detector).rows):
             if row.occupied:
                 return clock - row.start - 1.0
@@ -187,6 +188,7 @@ def present_by(clock: int, lane: Callable[[Place], Lane | None], areas: Sequence
     known: dict[Place, Lane | None] = {}
 
     def present(number: int) -> bool:
+        """Whether anybody is on the area at a place."""
         area = areas[number]
         place = area.link, area.lane
         if place not in known:

@@ -1,4 +1,5 @@
-"""What a map keeps of a program that detectors drive, as both kinds of lights, actuated and NEMA, read it."""
+"""What a map keeps of a program that detectors drive, read back: what both kinds of lights, actuated and NEMA, have in
+common."""
 from __future__ import annotations
 
 from collections.abc import Iterable, Mapping

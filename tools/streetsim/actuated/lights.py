@@ -1,4 +1,5 @@
-"""The lights of a run that detectors drive: what its map keeps of their programs, and why others go by their list."""
+"""Which lights of a run detectors drive, by what its map keeps of their programs; and why others show the seconds that
+their program lists."""
 from __future__ import annotations
 
 from collections import Counter

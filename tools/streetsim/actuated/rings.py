@@ -1,4 +1,5 @@
-"""The NEMA lights of a run, of what its map keeps of their programs; after the init of SUMO 1.15's NEMAController."""
+"""The NEMA lights of a run, read from what its map keeps of their programs; after the init of SUMO 1.15's
+NEMAController."""
 from __future__ import annotations
 
 from collections.abc import Iterable, Mapping

@@ -88,9 +88,11 @@ class ZippedText:
         self.raw.close()
 
     def __enter__(self) -> ZippedText:
+        """Gives the file itself, which is open since it was made."""
         return self
 
     def __exit__(self, *_: object) -> None:
+        """Closes the file."""
         self.close()
 
 
@@ -178,6 +180,7 @@ def only(convert: Callable[[str], Number], holds: Callable[[Number], bool]) -> C
     """A conversion of a text to a number for which something holds; ValueError for other numbers."""
 
     def converted(text: str) -> Number:
+        """The number of a text; ValueError where the condition does not hold for it."""
         value = convert(text)
         if not holds(value):
             raise ValueError(text)

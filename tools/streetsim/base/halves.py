@@ -1,6 +1,7 @@
-"""What is being written: files and folders of other names until they are whole, and what a killed tool left of them.
+"""Files and folders that are being written: they have other names until they are whole; and what a killed tool left of
+them is removed.
 
-A tool holds a lock on what it writes, which ends with it however it ends; so what is not held was left, and is removed.
+A tool holds a lock on what it writes, which ends with it however it ends; so what is not held was left.
 """
 import contextlib
 import fcntl

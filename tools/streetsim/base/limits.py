@@ -1,4 +1,4 @@
-"""What streetsim takes at most, and its units."""
+"""The greatest numbers that the program streetsim takes, and its units."""
 CELL_METRES = 7.5
 GAP_METRES = 2.5  # the part of a vehicle's cells that is the gap ahead of it: SUMO's default, so a car is 5 m long
 CELL_KMH = 27  # one cell a step of one second

@@ -144,6 +144,7 @@ class Stopping:
     second one ends the tool as anywhere."""
 
     def __init__(self) -> None:
+        """Nothing is asked for yet, and Ctrl-C is not taken over."""
         self.asked = False
 
     def __enter__(self) -> Self:

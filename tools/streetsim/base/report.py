@@ -11,6 +11,7 @@ class Report:
     """What an import says, gathered while it goes."""
 
     def __init__(self) -> None:
+        """Nothing has been said yet."""
         self.warnings: list[str] = []
         # By warning: its weight, the names that it is of, what to do.
         self.more: dict[str, tuple[str, tuple[str, ...], str]] = {}

@@ -1,4 +1,5 @@
-"""The words of a command: what is wrong with them is told in one line; times and lists are read as SUMO reads them."""
+"""The words of a command, which are its arguments: what is wrong with them is told in one line; times and lists are
+read as SUMO reads them."""
 import argparse
 import os
 import re
@@ -19,6 +20,7 @@ class Parser(argparse.ArgumentParser):
     A word that begins with - and is no option is a value, as many of SUMO's edges begin so."""
 
     def __init__(self, *args: Any, **more: Any) -> None:
+        """All arguments are those of ArgumentParser."""
         super().__init__(*args, **more)
         self._negative_number_matcher = re.compile("-[^-]")  # what argparse takes for a value all the same
 
@@ -49,6 +51,7 @@ def within(least: int, most: int) -> Callable[[str], int]:
     otherwise."""
 
     def number(text: str) -> int:
+        """The number of a text; ArgumentTypeError where it is out of the range."""
         if not text.isdecimal() or not least <= int(text) <= most:
             raise argparse.ArgumentTypeError(f"{text!r} is not {least} to {most:,}")
         return int(text)
@@ -61,6 +64,7 @@ def time_within(least: int, most: int) -> Callable[[str], int]:
     3600, 01:00:00 or 0:01:00:00; ArgumentTypeError otherwise."""
 
     def time(text: str) -> int:
+        """The seconds of a text; ArgumentTypeError where they are out of the range or not whole."""
         value = whole_seconds(text)
         if value is None or not least <= value <= most:
             raise argparse.ArgumentTypeError(f"{text!r} is not {least} to {most:,} s, in seconds or as HH:MM:SS")

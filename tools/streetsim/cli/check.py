@@ -27,7 +27,7 @@ MOST = 3  # differences that the line names
 
 
 def parser() -> Parser:
-    """The words that streetsim-check takes."""
+    """The parser of the words that streetsim-check takes."""
     made = Parser(
         prog="streetsim-check",
         description="Runs again what made a page of streetsim-report --sealed, a folder of streetsim-run or one of "

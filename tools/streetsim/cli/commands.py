@@ -19,6 +19,7 @@ def start(module: str) -> NoReturn:
     main = import_module(f"streetsim.cli.{module}").main
 
     def begun(words: list[str]) -> int:
+        """Gives Ctrl-C back to Python, and runs the tool; gives its status."""
         if hears:
             signal.signal(signal.SIGINT, signal.default_int_handler)
         return main(words)

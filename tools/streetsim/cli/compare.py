@@ -16,7 +16,7 @@ from streetsim.results.compare import compare_edges, compare_trips, edges_of, re
 
 
 def parser() -> argparse.ArgumentParser:
-    """The words that streetsim-compare takes."""
+    """The parser of the words that streetsim-compare takes."""
     made = Parser(
         prog="streetsim-compare",
         description="Compares a run with SUMO's tripinfo and, if given, edgeData of the same periods; or with counts.",

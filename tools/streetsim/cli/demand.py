@@ -18,7 +18,7 @@ from streetsim.routes.loading import read_town
 
 
 def parser() -> argparse.ArgumentParser:
-    """The words that streetsim-demand takes."""
+    """The parser of the words that streetsim-demand takes."""
     made = Parser(
         prog="streetsim-demand",
         description="Makes vehicles with routes of counts of edges and turns, of matrices between zones, or of flows "
@@ -96,6 +96,7 @@ def main(arguments: Sequence[str]) -> int:
     with Slow(f"reading {words.net}") as shown:
 
         def told(text: str) -> None:
+            """Shows on the terminal what is done just now."""
             shown.text = text
 
         town = read_town(words.net, words.additional, options_of(words), Report())

@@ -9,7 +9,7 @@ from streetsim.base.words import Parser
 
 
 def parser() -> Parser:
-    """The words that streetsim-example takes."""
+    """The parser of the words that streetsim-example takes."""
     made = Parser(
         prog="streetsim-example",
         description="Puts the files of an example into a folder; without a name, says which examples there are.",

@@ -12,7 +12,7 @@ from streetsim.results.reading import read_any
 
 
 def parser() -> Parser:
-    """The words that streetsim-export takes."""
+    """The parser of the words that streetsim-export takes."""
     made = Parser(
         prog="streetsim-export",
         description="Writes the edges and junctions of a run with flow, speed, control delay, level of service, "

@@ -18,7 +18,7 @@ from streetsim.sumo.types import CLASSES
 
 
 def parser() -> argparse.ArgumentParser:
-    """The words that streetsim-import takes."""
+    """The parser of the words that streetsim-import takes."""
     made = Parser(
         prog="streetsim-import",
         description="Makes load, signal and enter lines, and a map of the names, of a SUMO network and its routes.",

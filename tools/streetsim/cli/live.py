@@ -26,7 +26,7 @@ CLAIM = "its translation for browsers, the browser and the page's script are tes
 
 
 def parser() -> Parser:
-    """The words that streetsim-live takes."""
+    """The parser of the words that streetsim-live takes."""
     made = Parser(
         prog="streetsim-live",
         description="A page that runs a simulation: watch it, change signal plans, close lanes, take vehicles out, "

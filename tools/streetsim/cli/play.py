@@ -13,7 +13,7 @@ second = time_within(0, limits.CLOCK)
 
 
 def parser() -> Parser:
-    """The words that streetsim-play takes."""
+    """The parser of the words that streetsim-play takes."""
     made = Parser(
         prog="streetsim-play",
         description="Makes one HTML file, without anything from outside, that plays the vehicles of a run, "

@@ -17,7 +17,7 @@ second = time_within(0, limits.CLOCK)
 
 
 def parser() -> Parser:
-    """The words that streetsim-plot takes: the kind of picture first, and those of the kind."""
+    """The parser of the words that streetsim-plot takes: the kind of picture first, and those of the kind."""
     made = Parser(prog="streetsim-plot", description="Draws pictures of what streetsim-run wrote.")
     kinds = made.add_subparsers(dest="kind", required=True)
     for kind, words in (

@@ -37,7 +37,7 @@ PICTURE = {"first": 0, "last": 600}  # seconds of the corridor's picture
 
 
 def parser() -> Parser:
-    """The words that streetsim-report takes."""
+    """The parser of the words that streetsim-report takes."""
     made = Parser(
         prog="streetsim-report",
         description="Makes one HTML page, without anything from outside, of folders that streetsim-run wrote with "

@@ -32,7 +32,7 @@ KEPT = (
 
 
 def parser() -> argparse.ArgumentParser:
-    """The words that streetsim-route takes."""
+    """The parser of the words that streetsim-route takes."""
     made = Parser(
         prog="streetsim-route",
         description="Finds routes for trips by feedback between a router and runs, until nobody gains much by another "

@@ -16,7 +16,7 @@ ELSEWHERE = ("run", "map", "out", "program", "workers", "jobs", "seeds")
 
 
 def parser() -> argparse.ArgumentParser:
-    """The words that streetsim-run takes."""
+    """The parser of the words that streetsim-run takes."""
     made = Parser(
         prog="streetsim-run",
         description="Runs a file that streetsim-import made, and writes counts, trips, queues, a summary "

@@ -159,10 +159,12 @@ def run_seeds(words: argparse.Namespace, making: Making, run: Run, mapping: Map,
         write_inputs(words, folder, run, mapping)
 
         def run_seed(seed: int, tell: Callable[[tuple[int, Census | None]], object]) -> Figures:
+            """Makes the run of a seed, in a process of its own."""
             place = f"{folder}/seed-{seed}"
             os.mkdir(place)
 
             def told(clock: int, census: Census | None) -> None:
+                """Passes on to the first process how far the run is."""
                 tell((clock, census))
 
             return one_run(making, seeded(run, seed), mapping, settings, place, told)

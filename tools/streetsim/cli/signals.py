@@ -30,7 +30,7 @@ RESERVE = 80  # a chance of slowing down, of 1,000, by which a tenth fewer pass 
 
 
 def parser() -> Parser:
-    """The words that streetsim-signals takes."""
+    """The parser of the words that streetsim-signals takes."""
     made = Parser(
         prog="streetsim-signals",
         description="Finds signal plans by simulation: cycles, splits and offsets under which trips are shorter. "
@@ -292,11 +292,13 @@ def searched(
     with Stopping() as stopping:
 
         def values(plans: Sequence[Plan]) -> Generator[float, None, None]:
+            """The mean trip, in seconds, of each plan over the seeds of the search, in the plans' order."""
             means = runner.means(plans, seeds)
             for _ in plans:
                 yield fmean(next(means) for _ in seeds)
 
         def told(search: Search) -> bool:
+            """Shows how far the search is; gives whether the user has asked for an end."""
             meanwhile.show(search.simulations, best_line(search))
             return stopping.asked
 

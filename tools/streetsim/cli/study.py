@@ -26,7 +26,7 @@ ELSEWHERE = ("study", "out", "program", "jobs", "cluster")
 
 
 def parser() -> Parser:
-    """The words that streetsim-study takes."""
+    """The parser of the words that streetsim-study takes."""
     made = Parser(
         prog="streetsim-study",
         description="Runs each variant of a study with each seed, and writes the differences of their mean trips with "

@@ -99,6 +99,7 @@ def pairs_of_zones(graph: Graph, zones: Mapping[str, Zone], wanted: Iterable[tup
     """The pairs of zones that are wanted, (source, target) by name; edges of weight 0 are left out."""
 
     def numbers(weights: Mapping[str, float]) -> dict[int, float]:
+        """Edges by number with their weights; those of weight 0 are left out."""
         return {graph.number[name]: weight for name, weight in weights.items() if weight}
 
     return [

@@ -1,4 +1,5 @@
-"""Vehicles of each way and slice that fit counts best: sparse least squares with bounds."""
+"""Finds the vehicles of each way and slice (period of departure) that fit counts best: sparse least squares with
+bounds."""
 from collections.abc import Sequence
 from dataclasses import dataclass
 from typing import Any
@@ -47,6 +48,7 @@ def solved(problem: Problem) -> Any:
     target = problem.counted / problem.deviation
 
     def value(of: Any) -> tuple[float, Any]:
+        """Half the sum of squares, and its slope, for vehicles over the root of those that are expected."""
         apart, from_expected = scaled @ of - target, of - root
         return 0.5 * float(apart @ apart + from_expected @ from_expected), across @ apart + from_expected
 

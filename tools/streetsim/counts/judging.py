@@ -1,4 +1,5 @@
-"""How well what passed fits what was counted: GEH, totals, r and slope, by hour and by screen line."""
+"""How well the vehicles that passed, in a run or on paper, fit those that were counted: GEH, totals, r and slope, by
+hour and by screen line."""
 from collections import defaultdict
 from collections.abc import Iterable, Iterator, Sequence
 from dataclasses import dataclass

@@ -45,6 +45,7 @@ def tags(path: FilePath, roots: Collection[str]) -> Iterator[Tag]:
     parser = expat.ParserCreate()
 
     def begin(name: str, attributes: dict[str, str]) -> None:
+        """Notes the begin of an element; Fault for a root with another name."""
         if not inside and name not in roots:
             raise Fault(f"{path}: the root is <{name}>, expected <{'> or <'.join(roots)}>")
         if inside:

@@ -1,4 +1,4 @@
-"""Ways that turn ratios give, as SUMO's jtrrouter draws them: vehicle by vehicle, turn by turn, until a sink."""
+"""Draws the ways that turn ratios give, as SUMO's jtrrouter does: vehicle by vehicle, turn by turn, until a sink."""
 import random
 from bisect import bisect_right
 from collections import defaultdict

@@ -1,4 +1,4 @@
-"""Ways for the trips of an import, without a simulation."""
+"""Finds ways for the trips of an import, without a simulation."""
 from collections.abc import Iterable, Sequence
 from dataclasses import replace
 
@@ -33,6 +33,7 @@ def vehicles_with_ways(
         free, capacity = times_without_routes(net, graph, replace(options, joint=(), led=(), slow=()))
 
         def search(wishes: Sequence[Wish], costs: Costs) -> list[Found]:
+            """The shortest way of each wish by some costs, in order."""
             router = Router(graph, costs)
             return [router.found(wish) for wish in in_order(wishes)]
 

@@ -1,4 +1,5 @@
-"""Minor streets that face each other at a junction without a light, and wait for each other."""
+"""Finds minor streets that face each other at a junction without a light, and wait for each other: their delays are not
+to be trusted."""
 from collections import Counter, defaultdict
 from collections.abc import Iterable, Sequence
 from itertools import pairwise
@@ -22,6 +23,7 @@ def facing(mapping: Map, plans: Iterable[Sequence[int]], hours: float) -> list[s
     minor = {edge for edge, ways in used.items() if ways <= waits}
 
     def hourly(one: Waiting) -> float:
+        """The vehicles an hour that wait, or those that are waited for, whichever are fewer."""
         own = {(link, following) for link, _, following in one.turns if edges[link] in minor}
         targets = {edges[following] for _, following in own}
         others = {

@@ -70,6 +70,7 @@ def together(parts: Iterable[Totals]) -> Totals:
     count = sum(part.vehicles for part in parts)
 
     def mean(name: str) -> Any:
+        """The mean of a field over all vehicles; none where one of the movements does not know it."""
         values = [getattr(part, name) for part in parts]
         return None if None in values else sum(part.vehicles * value for part, value in zip(parts, values)) / count
 
@@ -127,7 +128,7 @@ class Measures:
         return Crossing(movement, passage.end, place, delay, passage.stops, passage.stood, plan[at + 1])
 
     def interval(self, begin: int, end: int) -> Interval:
-        """What is known from one clock (not included) to another."""
+        """What vehicles lost, the queues, and how far lanes were used, from one clock (not included) to another."""
         found = Interval(begin, end)
         crossings = defaultdict(list)
         for one in self.crossings:

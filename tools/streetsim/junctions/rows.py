@@ -1,4 +1,4 @@
-"""The tables movements.csv, approaches.csv and junctions.csv."""
+"""Makes and writes the rows of the tables movements.csv, approaches.csv and junctions.csv."""
 from collections import defaultdict
 from collections.abc import Collection, Mapping, Sequence
 

@@ -149,8 +149,8 @@ class Sampled:
         return self
 
     def interval(self, begin: int, end: int) -> Interval:
-        """What is known from one clock to another, which are the bounds of an interval of the width that was asked
-        for."""
+        """What vehicles lost, the queues, and how far lanes were used, from one clock to another, which are the bounds
+        of an interval of the width that was asked for."""
         at, found = (begin - self.start) // self.width, Interval(begin, end)
         looks = self.looks[at]
         for movement, count in self.passed[at].items():

@@ -91,6 +91,7 @@ class Map:
     visits: list[Visit] = field(default_factory=list)  # stops that vehicles are to make
 
     def __post_init__(self) -> None:
+        """Finds the links of each edge."""
         for number, link in enumerate(self.links):
             self.links_of.setdefault(link.edge, []).append(number)
 

@@ -1,4 +1,4 @@
-"""The names that people know: of streets, junctions and movements; by direction where there is none."""
+"""The names that people know of streets, junctions and movements; a direction where a street has no name."""
 import csv
 from collections import Counter
 from collections.abc import Callable, Iterable, Mapping, Sequence

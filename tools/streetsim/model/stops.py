@@ -1,4 +1,4 @@
-"""Stops of buses and others: as a map keeps them, and the rows of a run's table of them."""
+"""Stops that buses and others make: as a map keeps them, and the states of the rows of a run's table of them."""
 from __future__ import annotations
 
 from collections.abc import Sequence

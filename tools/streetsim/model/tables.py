@@ -1,4 +1,4 @@
-"""The tables of a run, as CSV under SUMO's names."""
+"""The columns of a run's tables, and how tables are written and read, as CSV."""
 import csv
 from collections.abc import Iterable, Sequence
 from math import isfinite

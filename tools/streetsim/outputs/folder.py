@@ -1,4 +1,4 @@
-"""A run into a folder: its tables, its setting, SUMO's output files and the tables of junctions."""
+"""Makes a run into a folder: its tables, its setting, SUMO's output files and the tables of junctions."""
 import json
 import os
 from collections import defaultdict
@@ -182,6 +182,7 @@ def count_further(made: Recorded) -> None:
     first, settings = made.records, made.settings
 
     def repeat(lanes: Sequence[Place], _tell: object) -> Records:
+        """The records of a further run, which counts some lanes."""
         with made.serving() as sim:
             repeater = Repeater(sim, made.run, made.mapping, settings)
             return repeater.record(first, repeated(settings, lanes), lambda clock: None)

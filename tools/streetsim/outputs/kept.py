@@ -1,4 +1,4 @@
-"""What a run's folder keeps of its run, so that it can be made again without the files that it was made of."""
+"""Keeps in a run's folder the lines of its run, so that it can be made again without the files that it was made of."""
 from collections.abc import Sequence
 
 from streetsim.base.files import Json, whole_file

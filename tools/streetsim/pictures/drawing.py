@@ -1,4 +1,4 @@
-"""How a picture begins, and how it is saved: matplotlib, where it is installed."""
+"""matplotlib, where it is installed: how a picture begins, and how it is saved."""
 import io
 import os
 import sys

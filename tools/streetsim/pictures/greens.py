@@ -1,4 +1,4 @@
-"""The picture of the greens of lights that detectors drive, over time."""
+"""Draws how long the greens of lights that detectors drive lasted, over time."""
 from collections import defaultdict
 from collections.abc import Mapping, Sequence
 from math import ceil

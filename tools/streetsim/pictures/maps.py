@@ -1,4 +1,4 @@
-"""The streets of a run by what is known of them: density, delay, level of service, v/c, flow, queue."""
+"""Draws the streets of a run by what is known of them: density, delay, level of service, v/c, flow, queue."""
 from collections.abc import Iterable, Sequence
 from dataclasses import dataclass
 from typing import Any

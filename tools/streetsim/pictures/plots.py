@@ -1,4 +1,5 @@
-"""Pictures of a run, as PNG, SVG or PDF."""
+"""Draws the pictures of a run but for maps, greens and works: ways along a path, flow over density, queues,
+arrivals."""
 from collections.abc import Sequence
 from dataclasses import dataclass, replace
 from math import inf

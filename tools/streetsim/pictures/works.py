@@ -1,4 +1,4 @@
-"""The picture of queues before road works, over time and place."""
+"""Draws queues before road works, over time and place."""
 from typing import Any
 
 from streetsim.model.folder import Folder

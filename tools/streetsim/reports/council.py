@@ -172,6 +172,7 @@ def worst_movements(movements: Sequence[Told], runs: Runs) -> list[str]:
         return []
 
     def called(one: Told) -> str:
+        """What a movement is called, with its edges and junction."""
         junction, edge, to = one.key
         return f"{names.movement(edge, to)} ({edge} to {to}) at {names.junction_told(junction)}"
 

@@ -1,4 +1,4 @@
-"""Pictures of a page, as SVG: the map by level of service, and queues beside the room that they have."""
+"""Draws the pictures of a page as SVG: the map by level of service, and queues beside the room that they have."""
 from collections.abc import Callable, Mapping, Sequence
 from html import escape
 from math import hypot
@@ -58,6 +58,7 @@ def placing(mapping: Map) -> tuple[Callable[..., str], float]:
     scale = min((WIDE - 60) / max(1.0, right - left), (MOST_HIGH - 60) / max(1.0, high - low))
 
     def at(point: Sequence[float], shift: tuple[float, float] = (0.0, 0.0)) -> str:
+        """Where a point lies in the picture, as text of pixels across and down."""
         return f"{(point[0] - left) * scale + 30 + shift[0]:.1f},{(high - point[1]) * scale + 30 + shift[1]:.1f}"
 
     return at, (high - low) * scale + 60

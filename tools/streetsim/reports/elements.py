@@ -45,6 +45,7 @@ class Reader(HTMLParser):
     """Reads a page's HTML into elements; its handle_ methods are called by HTMLParser."""
 
     def __init__(self) -> None:
+        """A reader of one page, before its begin."""
         super().__init__(convert_charrefs=True)
         self.found: list[Element] = []
         self.heads = {name: "" for name in HEADS}

@@ -1,4 +1,4 @@
-"""The whole table of a report, for --csv."""
+"""The table that streetsim-report writes for --csv: all junctions and movements."""
 from collections.abc import Iterator, Sequence
 
 from streetsim.model.tables import Entry

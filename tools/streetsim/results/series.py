@@ -197,8 +197,8 @@ def longest_queues(folder: Folder, most: int) -> tuple[list[tuple[str, dict[int,
 
 
 def flows(folder: Folder, edges: Sequence[str]) -> list[tuple[float, float]]:
-    """(vehicles a kilometre, vehicles an hour) of each row of counts.csv over a whole period with traffic; edges: those
-    wanted, all where it is empty."""
+    """(vehicles a kilometre and lane, vehicles an hour and lane) of each row of counts.csv over a whole period with
+    traffic; edges: those wanted, all where it is empty."""
     return [
         (float(row["occupancy_percent"]) / 100 / limits.CELL_METRES * 1000, float(row["vehicles_per_hour"]))
         for row in folder.counts()
@@ -209,8 +209,8 @@ def flows(folder: Folder, edges: Sequence[str]) -> list[tuple[float, float]]:
 
 
 def middle_flows(folder: Folder, edges: Sequence[str]) -> list[tuple[float, float]]:
-    """(vehicles a kilometre, vehicles an hour) of the middle third of each lane, of each whole period with traffic
-    there: means over its polls of the vehicles there and of their speeds, added up, over its length (Edie's
+    """(vehicles a kilometre, vehicles an hour) of the middle third of each lane by itself, of each whole period with
+    traffic there: means over its polls of the vehicles there and of their speeds, added up, over its length (Edie's
     definitions). edges: those wanted, all where it is empty; Fault where nothing was polled."""
     links = folder.mapping.links
     polls: Counter[int] = Counter()

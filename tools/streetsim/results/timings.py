@@ -1,4 +1,4 @@
-"""The programs of the lights of a run, as its folder keeps them, where they are those that it had."""
+"""The programs of the lights of runs, as their folder keeps them; those that the runs did not have are left out."""
 import os
 from collections.abc import Iterator
 

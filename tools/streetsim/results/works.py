@@ -1,4 +1,4 @@
-"""What stood before the works of a run, over time and place, by its polls."""
+"""What stood before the works of a run, over time and place, by its table of works and its polls."""
 from collections import Counter
 from collections.abc import Sequence
 from dataclasses import dataclass
