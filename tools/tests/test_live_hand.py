@@ -95,8 +95,10 @@ class HandCase(PageCase):
 
     def open_light(self, browser, address):
         self.open(browser, address)
-        browser.execute_script("at('compare').checked = true; at('compare').onchange(); choose({ node: 0 })")
-        self.idle(browser)
+        browser.execute_script("at('compare').checked = true; at('compare').onchange()")
+        stop_line = browser.execute_script(OF_MAP, 0, 0.5, 1, "map")
+        self.pull(browser, stop_line, stop_line)
+        self.assertEqual(self.text(browser, "title"), "Light at X")
 
     def text(self, browser, name):
         return browser.execute_script("return at(arguments[0]).textContent", name)
@@ -128,8 +130,25 @@ class HandCase(PageCase):
         self.click(browser, "Set the plan")
         plan = self.plan(browser)
         self.assertEqual((plan["offset"], sum(seconds for seconds, _ in plan["phases"])), (3, 50))
-        green = sum(seconds for seconds, greens in plan["phases"] if [0, 0, 5] in greens)
-        self.assertEqual(green, 27)
+        self.assertEqual(self.green(plan), 27)
+
+    def green(self, plan):
+        """Seconds in which the way from west to east is green."""
+        return sum(seconds for seconds, greens in plan["phases"] if [0, 0, 5] in greens)
+
+    def check_phases(self, browser):
+        """A phase is split and taken away; a green is set while it is dragged, by touch."""
+        count = browser.execute_script("return editor.bars.stages().length")
+        self.click(browser, "Split")
+        self.assertEqual(browser.execute_script("return editor.bars.stages().length"), count + 1)
+        self.click(browser, "As it is set")
+        browser.find_element("id", "dragging").click()
+        row = browser.execute_script(ROW, "W", "straight")
+        x, y = self.in_plan(browser, row, 26)
+        each = browser.execute_script("return editor.each")
+        self.pull(browser, [x + each / 2, y], [x - 3.5 * each, y], touch=True)
+        self.assertEqual(self.green(self.plan(browser)), 23)
+        self.assertEqual(browser.execute_script("return session.changes.length"), 1)
 
     def check_undone(self, browser):
         """The difference is that of two runs of the program by lines; undone, there is none."""
@@ -143,7 +162,11 @@ class HandCase(PageCase):
             self.assertEqual(gain["seconds"], (counted[0][0] - counted[1][0]) / counted[1][2])
             self.assertEqual(gain["ended"], counted[1][1] - counted[0][1])
         self.assertIn("a trip" if abs(gain["seconds"]) >= 0.05 else "no difference", self.text(browser, "gain"))
-        browser.execute_script("at('maps').value = 'both'; at('maps').onchange()")
+        from selenium.webdriver.support.ui import Select
+
+        Select(browser.find_element("id", "maps")).select_by_value("both")
+        self.idle(browser)
+        self.assertGreater(browser.execute_script("return worlds.was.cars.size"), 0)
         self.assertTrue(browser.execute_script("return at('second-map').getBoundingClientRect().width > 200"))
         self.click(browser, "Undo")
         self.assertEqual(browser.execute_script("return [session.changes.length, session.clock]"), [0, 120])
@@ -228,10 +251,16 @@ class HandCase(PageCase):
         streets = ["W, from the west", "E, from the east", "S, from the south", "N, from the north"]
         self.assertEqual(rows, [[street, str(count)] for street, count in zip(streets, by_street, strict=True)])
         self.assertEqual(browser.execute_script("return worlds.now.series.at(-1).queue"), sum(by_street))
+        grounds = []
+        for _ in range(2):
+            self.keys(browser, "d")
+            grounds.append(browser.execute_script("return [theme, getComputedStyle(document.body).backgroundColor]"))
+        self.assertEqual(dict(grounds), {"light": "rgb(255, 255, 255)", "dark": "rgb(20, 23, 28)"})
 
     def check_all(self, browser, address):
         self.open_light(browser, address)
         self.check_plan(browser)
+        self.check_phases(browser)
         self.check_undone(browser)
         self.check_works(browser)
 

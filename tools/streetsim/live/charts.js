@@ -28,7 +28,7 @@ function drawBand(pen, { band, top, sides, span, wide, watched }) {
   const most = values.reduce((one, other) => Math.max(one, other), 1), least = values.reduce((one, other) => Math.min(one, other), 0), high = BAND - 22;
   const y = value => top + 18 + high * (1 - (value - least) / (most - least)), x = clock => CHART_LEFT + (wide - CHART_LEFT - 6) * (clock - span[0]) / Math.max(1, span[1] - span[0]);
   pen.font = "11px sans-serif"; pen.fillStyle = colours().ink; pen.setLineDash([]);
-  pen.fillText(band.words === "queue" ? `standing before ${shortened(junctionText(watched), 28)}` : band.words, 2, top + 11);
+  pen.fillText(band.words === "queue" ? `standing before ${shortened(junctionText(watched), 24)}` : band.words, 2, top + 11);
   pen.fillText(most.toFixed(most < 10 ? band.digits : 0), 2, top + 26); pen.fillText("0", 2, y(0) + 3);
   sides.forEach(([, colour, dashes, word], i) => {
     pen.strokeStyle = pen.fillStyle = colour; pen.setLineDash(dashes); pen.lineWidth = 1.5; pen.beginPath();

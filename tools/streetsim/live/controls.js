@@ -114,10 +114,17 @@ class Pointers {
     const last = this.down.get(event.pointerId);
     this.down.set(event.pointerId, event);
     if (drawing.from) { chosen = drawing.move(this.view.scene, this.place(event)); return; }
-    if (this.down.size === 1) { scene.drag(event.offsetX - last.offsetX, event.offsetY - last.offsetY); this.dragged += Math.abs(event.offsetX - last.offsetX) + Math.abs(event.offsetY - last.offsetY); return; }
+    if (this.down.size === 1) { this.dragBy(event.offsetX - last.offsetX, event.offsetY - last.offsetY); return; }
     const [a, b] = [...this.down.values()], now = Math.hypot(a.offsetX - b.offsetX, a.offsetY - b.offsetY);
     if (this.apart) scene.zoom(now / this.apart);
     this.apart = now;
+  }
+
+  // A hand that rests moves nothing, and the whole network stays in view.
+  dragBy(dx, dy) {
+    if (!dx && !dy) return;
+    scene.drag(dx, dy);
+    this.dragged += Math.abs(dx) + Math.abs(dy);
   }
 
   lift(event) {
