@@ -39,10 +39,11 @@ def start(
     cmd: Sequence[str], port: object = None, numRetries: object = None, label: str = "default", *_: object,
     **__: object,
 ) -> tuple[int, str]:
-    """Starts a run, of the words of SUMO's command line: -c, or -n, -r and -a, --seed and --begin, the outputs
-    --tripinfo-output, --summary-output, --fcd-output and --queue-output, and the words of streetsim-import (--classes,
-    --dawdle, --joint, ..). What the import warns of is told on standard error, and what other options of SUMO's do not
-    do here. Gives the version, as SUMO does."""
+    """Starts a run, by the words of SUMO's command line (the first, SUMO's name, is passed over): -c, or -n, -r and -a,
+    --seed and --begin, the outputs --tripinfo-output, --summary-output, --fcd-output and --queue-output, and the words
+    of streetsim-import (--classes, --dawdle, --joint, ..). Warnings of the import, and options of SUMO's that are not
+    done here, are told on standard error. Gives the version, as SUMO does; FatalTraCIError where the run cannot
+    start."""
     if _running:
         raise TraCIException("a run is under way: close() it first; there is one at a time")
     try:
@@ -61,13 +62,13 @@ def _now() -> Session:
 
 
 def simulationStep(step: float = 0) -> None:
-    """One step, or all steps until a time in seconds is reached; none where it is."""
+    """Makes one step (step 0), or all steps until the clock is at step seconds; none where it is there already."""
     _now().step(step)
     _listeners.step(step)
 
 
 def close(wait: bool = True) -> None:
-    """Ends the run; output files take their names, and all subscriptions and listeners are forgotten."""
+    """Ends the run: output files are written under their names, and all subscriptions and listeners are forgotten."""
     session = _now()
     _running.clear()
     for domain in _domains:
@@ -77,63 +78,68 @@ def close(wait: bool = True) -> None:
 
 
 def load(args: Sequence[str]) -> None:
-    """Ends the run and starts another one, of SUMO's words without its name."""
+    """Ends the run and starts another one; args: the words of SUMO's command line without SUMO's name."""
     close()
     start(["sumo", *args])
 
 
 def isLoaded() -> bool:
+    """Whether a run is under way."""
     return bool(_running)
 
 
 def getVersion() -> tuple[int, str]:
-    """The version of the interface that these calls are of, and a name."""
+    """(number of the TraCI version that these calls are of, "streetsim")."""
     return 20, "streetsim"
 
 
 def getLabel() -> str:
-    """The label of the run."""
+    """The label that the run was started with."""
     _now()
     return _label[0]
 
 
 def switch(label: str) -> None:
-    """Refuses a label that is not the run's; there is one at a time."""
+    """TraCIException where a label is not the run's; there is one run at a time, so nothing is switched."""
     if not _running or label != _label[0]:
         raise TraCIException(f"connection '{label}' is not known.")
 
 
 def getConnection(label: str = "default") -> ModuleType:
-    """This module, with all its domains and calls, for the run of a label; TraCIException where it is another one."""
+    """This module, with all its domains and calls; TraCIException where a label is not the run's."""
     switch(label)
     return sys.modules[__name__]
 
 
 def addStepListener(listener: StepListener) -> int | None:
-    """Calls listener.step(time) after each simulationStep, as long as it gives True; gives its number."""
+    """Has listener.step(time) called after each simulationStep, as long as it gives True. Gives the listener's number;
+    None where it is no StepListener."""
     _now()
     return _listeners.add(listener)
 
 
 def removeStepListener(listenerID: int) -> bool:
-    """Takes a listener off, by its number; whether there was one."""
+    """Takes off the listener of a number; gives whether there was one."""
     _now()
     return _listeners.remove(listenerID)
 
 
 def setOrder(order: int) -> None:
-    """A run has one client, and so no order."""
+    """Does nothing: a run has one client, and so no order."""
 
 
 def hasGUI() -> bool:
+    """False: there is no window."""
     return False
 
 
 def isLibsumo() -> bool:
+    """False: this is neither libsumo nor libtraci."""
     return False
 
 
 def isLibtraci() -> bool:
+    """False: this is neither libsumo nor libtraci."""
     return False
 
 

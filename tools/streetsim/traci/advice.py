@@ -72,5 +72,5 @@ SENTENCES = {
 
 
 def advice_on(call: str) -> str:
-    """Why a call, 'domain.call', is not here and what to do in its place."""
+    """Why a call, named "domain.call", is not here, and what to do instead."""
     return next((text for pattern, text in SENTENCES.items() if re.search(pattern, call)), NOTHING)

@@ -26,20 +26,22 @@ class Domain(Calls[Session]):
         self.parameters: dict[tuple[str, str], Any] = {}  # that scripts keep, by object and key
 
     def advice(self, called: str) -> str:
+        """What is said of a call of this domain that is not here."""
         return advice_on(called)
 
     def check(self, name: str, names: Container[str]) -> None:
-        """Refuses, by TraCIException, a name that is not one of some."""
+        """TraCIException where a name is not one of names."""
         if name not in names:
             raise TraCIException(f"{self.kind} '{name}' is not known.")
 
     def getIDCount(self) -> int:
+        """How many objects getIDList names."""
         return len(self.getIDList())
 
     # Parameters that a script keeps with an object
 
     def setParameter(self, objectID: str, param: str, value: object) -> None:
-        """Keeps a text under a key; nothing here reads it but getParameter."""
+        """Keeps a value, as text, under a key; only getParameter reads it. NotHere for keys of SUMO's models."""
         self.check_key(objectID, param)
         self.parameters[objectID, param] = str(value)
 
@@ -49,10 +51,11 @@ class Domain(Calls[Session]):
         return self.parameters.get((objectID, param), "")
 
     def getParameterWithKey(self, objectID: str, key: str) -> tuple[str, str]:
+        """(key, the text that was kept under it)."""
         return key, self.getParameter(objectID, key)
 
     def check_key(self, name: str, key: str) -> None:
-        """Refuses parameters of unknown objects, and of models of SUMO's that are not here."""
+        """TraCIException for an unknown object; NotHere for a key of a model of SUMO's that is not here."""
         self.check(name, self.subjects())
         if key.startswith(("device.", "has.", "laneChangeModel.", "carFollowModel.", "junctionModel.", "parking.")):
             raise NotHere(f"{self.name}: parameter {key!r} is of a model of SUMO's that is not here")
@@ -62,24 +65,26 @@ class Domain(Calls[Session]):
     def subscribe(
         self, name: str, varIDs: Sequence[int] | None = None, begin: object = None, end: object = None
     ) -> None:
-        """Has variables of an object told from now on (none: those that SUMO takes); times are not looked at."""
+        """Has variables of an object, by number, told from now on; None: those that SUMO tells by default. begin and
+        end have no effect."""
         self.check(name, self.subjects())
         self.note(name, varIDs)
 
     def note(self, name: str, numbers: Sequence[int] | None) -> None:
-        """Subscribes to the variables of these numbers, or to those that SUMO takes where none is told; each step is
-        looked at from now on."""
+        """Subscribes to the variables of these numbers; None: those that SUMO tells by default. From now on the run is
+        looked at after each step."""
         variables = tuple(self.first if numbers is None else numbers)
         self.check_variables(variables)
         self.now().follow()
         self.subscribed[name] = variables
 
     def check_variables(self, variables: Sequence[int]) -> None:
-        """Refuses variables, by number, that cannot be subscribed to here."""
+        """NotHere where one of the variables, by number, cannot be subscribed to."""
         if unknown := [variable for variable in variables if variable not in self.variables]:
             raise NotHere(f"{self.name}: variable {unknown[0]:#x} cannot be subscribed to here")
 
     def unsubscribe(self, name: str) -> None:
+        """Ends the subscription to an object; nothing where there is none."""
         self.subscribed.pop(name, None)
 
     def subjects(self) -> Collection[str]:
@@ -87,16 +92,18 @@ class Domain(Calls[Session]):
         return self.getIDList()
 
     def getSubscriptionResults(self, name: str) -> Values:
-        """The variables that were subscribed to, by number; none where the object is gone."""
+        """The values that were subscribed to, as they are now, by the variables' numbers; empty where the object is
+        gone or was not subscribed to."""
         if name not in self.subscribed or name not in self.subjects():
             return {}
         return self.values(name, self.subscribed[name])
 
     def values(self, name: str, variables: Iterable[int]) -> Values:
-        """What calls tell of an object, by the variables' numbers."""
+        """What an object's calls give now, by the variables' numbers."""
         return {variable: getattr(self, self.variables[variable])(name) for variable in variables}
 
     def getAllSubscriptionResults(self) -> dict[str, Values]:
+        """By object, of those that are there, the values that were subscribed to, by the variables' numbers."""
         there = set(self.subjects())
         return {name: self.getSubscriptionResults(name) for name in self.subscribed if name in there}
 
@@ -113,7 +120,7 @@ class Placed(Domain):
     vehicles: Domain  # that are looked for; the package sets it
 
     def outline(self, name: str) -> Line:
-        """The object's point, or the line of its points."""
+        """The points of the object's line, in metres, or its one point."""
         raise NotImplementedError
 
     def subscribeContext(
@@ -125,7 +132,8 @@ class Placed(Domain):
         begin: object = None,
         end: object = None,
     ) -> None:
-        """From now on gives variables of the vehicles that are at most so many metres from the object."""
+        """Has variables of all vehicles told, from now on, that are at most dist metres from the object. domain: must
+        be that of vehicles, else NotHere; begin and end have no effect."""
         self.check(objectID, self.subjects())
         if domain != tc.CMD_GET_VEHICLE_VARIABLE:
             raise NotHere(f"{self.name}.subscribeContext: of domain {domain:#x} nothing is looked for, but of vehicles")
@@ -135,10 +143,12 @@ class Placed(Domain):
         self.around[objectID] = float(dist), variables
 
     def unsubscribeContext(self, objectID: str, domain: int, dist: float) -> None:
+        """Ends the context subscription to an object; domain and dist have no effect."""
         self.around.pop(objectID, None)
 
     def getContextSubscriptionResults(self, objectID: str) -> dict[str, Values]:
-        """By vehicle the variables that were subscribed to."""
+        """By vehicle near the object the values that were subscribed to; empty where the object is gone or has no
+        context subscription."""
         if objectID not in self.around or objectID not in self.subjects():
             return {}
         metres, variables = self.around[objectID]
@@ -147,4 +157,5 @@ class Placed(Domain):
         return {name: self.vehicles.values(name, variables) for name in near}
 
     def getAllContextSubscriptionResults(self) -> dict[str, dict[str, Values]]:
+        """By object, of those that are there, what getContextSubscriptionResults gives."""
         return {name: self.getContextSubscriptionResults(name) for name in self.around if name in self.subjects()}

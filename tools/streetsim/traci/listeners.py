@@ -1,19 +1,21 @@
 """What scripts have called after each step."""
 
 class StepListener:
-    """Is told of each step. Scripts make their own of it, as with SUMO's traci."""
+    """Is called after each step. Scripts derive their own class from it, as with SUMO's traci."""
 
     def step(self, t: float = 0) -> bool:
-        """Is called after a step; False takes the listener off."""
+        """Is called after a simulationStep; t: that call's argument. False takes the listener off."""
         return True
 
     def cleanUp(self) -> None:
         """Is called at the end of the run."""
 
     def setID(self, ID: int) -> None:
+        """Sets the listener's number, as addStepListener does."""
         self._ID = ID
 
     def getID(self) -> int:
+        """The listener's number, as addStepListener gave it."""
         return self._ID
 
 
@@ -25,7 +27,7 @@ class Listeners:
         self.here: dict[int, StepListener] = {}
 
     def add(self, listener: StepListener) -> int | None:
-        """Takes a listener; gives its number, none where it is no StepListener."""
+        """Adds a listener; gives its number, None where it is no StepListener (it is then not added)."""
         if not isinstance(listener, StepListener):
             return None
         self.made += 1
@@ -34,17 +36,17 @@ class Listeners:
         return self.made
 
     def remove(self, number: int) -> bool:
-        """Takes a listener off; whether there was one of that number."""
+        """Takes off the listener of a number; gives whether there was one."""
         return self.here.pop(number, None) is not None
 
     def step(self, time: float) -> None:
-        """Calls all, and takes off those that give False; time: as simulationStep had it."""
+        """Calls all listeners, and takes off those that give False; time: the argument of simulationStep."""
         for number, listener in list(self.here.items()):
             if not listener.step(time):
                 self.here.pop(number, None)
 
     def clean_up(self) -> None:
-        """Calls all for the last time, and forgets them."""
+        """Calls cleanUp of all listeners, and forgets them."""
         for listener in self.here.values():
             listener.cleanUp()
         self.made = 0

@@ -24,7 +24,7 @@ class Quiet:
         return self.nothing
 
     def nothing(self, *_: object, **__: object) -> None:
-        """Does nothing; the first of a run says so."""
+        """Does nothing; the first call in a run says so on standard error."""
         if not self.told:
             print(f"warning: traci.{self.name} {SHOWN}", file=sys.stderr)
             self.told = True

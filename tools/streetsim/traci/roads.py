@@ -24,17 +24,17 @@ class Places(Placed, PlaceCalls[Session]):
     first = (tc.LAST_STEP_VEHICLE_NUMBER,)
 
     def speeds(self, name: str) -> list[float]:
-        """Metres a second of those that are on cells."""
+        """Speeds, metres a second, of the vehicles there that are on cells, not in a junction."""
         places = self.now().follow().view.places
         return [places[car].speed * METRES for car in self.cars(name) if car in places]
 
     def lengths(self, name: str) -> list[float]:
-        """Metres of each vehicle there, without its gap."""
+        """The length of each vehicle there, metres, without the gap ahead of it."""
         fleet = self.now().fleet
         return [fleet.sizes[fleet.names[car]] * METRES - GAP for car in self.cars(name)]
 
     def getLastStepLength(self, name: str) -> float:
-        """The mean length of the vehicles in metres; 0 where there is nobody."""
+        """The mean length of the vehicles there, metres; 0 where there is nobody."""
         there = self.lengths(name)
         return sum(there) / len(there) if there else 0.0
 
@@ -45,11 +45,11 @@ class Stretches(Places, StretchCalls[Session]):
     variables = {**Places.variables, tc.LAST_STEP_VEHICLE_HALTING_NUMBER: "getLastStepHaltingNumber"}
 
     def metres(self, name: str) -> float:
-        """The metres that vehicles can cover."""
+        """The metres of road that vehicles can cover there."""
         raise NotImplementedError
 
     def getLastStepOccupancy(self, name: str) -> float:
-        """Percent of the length that is covered by vehicles."""
+        """The percentage, 0 to 100, of the length that vehicles cover."""
         return 100 * sum(self.lengths(name)) / self.metres(name)
 
 
@@ -64,34 +64,34 @@ class Lane(LaneCalls[Session], Stretches):
     }
 
     def outline(self, name: str) -> Line:
-        """The line of its link."""
+        """The points of its link, in metres."""
         return self.now().map.links[self.places(name)[0][0]].shape
 
     def cars(self, name: str) -> list[int]:
-        """Numbers of the vehicles on it, from the stop line."""
+        """The numbers of the vehicles on it, from the stop line."""
         places, on_lane = self.places(name), self.now().follow().view.on_lane
         return [car for place in places for car in on_lane.get(place, ())]
 
     def speed_of_nobody(self, name: str) -> float:
-        """Its limit, as SUMO has it."""
+        """The mean speed where nobody is on it: its limit, metres a second, as in SUMO."""
         return self.getMaxSpeed(name)
 
     def metres(self, name: str) -> float:
-        """Metres of all its lanes together."""
+        """Metres of the lane; of an edge, of all its lanes together."""
         links = self.now().map.links
         return sum(links[link].metres for link, _ in self.places(name))
 
     def getWaitingTime(self, name: str) -> float:
-        """The seconds for which vehicles on it have stood, summed over them."""
+        """Seconds for which the vehicles on it have stood without a break, summed over them."""
         cars = self.cars(name)
         return float(sum(self.now().tally.waiting.get(car, 0) for car in cars))
 
     def getTraveltime(self, name: str) -> float:
-        """Seconds for the length at the mean speed, of 0.1 m/s at least."""
+        """Seconds for its length at the mean speed of the last step, which counts as 0.1 m/s at least."""
         return self.getLength(name) / max(0.1, self.getLastStepMeanSpeed(name))
 
     def facts(self, name: str) -> LaneFacts:
-        """What the network's file says of a lane."""
+        """What the network's file says of a lane; TraCIException where the import has no such lane."""
         self.check(name, self.now().lane_of)
         return self.now().facts.lanes[name]
 
@@ -100,32 +100,37 @@ class Lane(LaneCalls[Session], Stretches):
         return self.facts(name).speed
 
     def getPendingVehicles(self, name: str) -> tuple[str, ...]:
-        """Vehicles that would depart there and wait for room."""
+        """The vehicles that should have departed on it and wait for room."""
         session, places = self.now().follow(), set(self.places(name))
         there = (car for car in session.view.waiting_to_depart() if session.fleet.starts[car] in places)
         return tuple(session.fleet.names[car] for car in there)
 
     def getShape(self, name: str) -> Sequence[Point]:
+        """The points of its line in SUMO's file, metres."""
         return self.facts(name).shape
 
     def getWidth(self, name: str) -> float:
+        """Its width in SUMO's file, metres."""
         return self.facts(name).width
 
     def getAllowed(self, name: str) -> tuple[str, ...]:
-        """The vehicle classes of the network's file that may drive there; none named: all.
-        Closing a lane changes nothing of it."""
+        """The vehicle classes that may drive there by the network's file; empty: all. Closing the lane changes nothing
+        of it."""
         return self.facts(name).allowed
 
     def getDisallowed(self, name: str) -> tuple[str, ...]:
+        """The vehicle classes that may not drive there by the network's file. Closing the lane changes nothing of
+        it."""
         return self.facts(name).disallowed
 
     def getLinkNumber(self, name: str) -> int:
-        """How many connections of SUMO's leave it."""
+        """How many connections of SUMO's network lead from it."""
         return len(self.facts(name).links)
 
     def getLinks(self, name: str, extended: bool = True) -> list[tuple[object, ...]]:
-        """Of each connection of SUMO's: next lane, whether it has the right of way, whether it is green, False (whether
-        somebody is in the way is not known), the lane inside the junction, state, direction, metres inside."""
+        """For each connection of SUMO's from it: next lane, whether it has the right of way, whether it has green,
+        False (whether a foe comes is not known); and extended: lane inside the junction, state, direction, metres
+        inside."""
         control, inside = self.now().control, self.now().facts.inside
         found: list[tuple[object, ...]] = []
         for one in self.facts(name).links:
@@ -135,11 +140,11 @@ class Lane(LaneCalls[Session], Stretches):
         return found if extended else [entry[:4] for entry in found]
 
     def getEdgeID(self, name: str) -> str:
-        """The edge that it is of."""
+        """The name of its edge."""
         return self.now().map.links[self.places(name)[0][0]].edge
 
     def close(self, lane: str) -> None:
-        """Closes it; TraCIException where its vehicles could not change to the lane beside it."""
+        """Closes the whole lane; TraCIException where its vehicles could not change to the lane beside it."""
         if why := why_parallel(self.now().map, lane):
             raise TraCIException(f"{why}: traci.start([.., '--joint', {lane!r}])")
         super().close(lane)
@@ -151,13 +156,16 @@ class Edge(Lane):
     kind, name = "Edge", "edge"
 
     def getIDList(self) -> tuple[str, ...]:
+        """The names of all edges."""
         return tuple(self.now().map.links_of)
 
     def places(self, name: str) -> list[tuple[int, int]]:
+        """All its lanes, (link, lane); TraCIException for an unknown edge."""
         self.check(name, self.now().map.links_of)
         return self.now().lanes_on(name)
 
     def getLaneNumber(self, name: str) -> int:
+        """How many lanes it has."""
         return len(self.places(name))
 
     def getMaxSpeed(self, name: str) -> float:
@@ -165,37 +173,39 @@ class Edge(Lane):
         return self.now().facts.lanes[self.now().map.lane_name(*self.places(name)[0])].speed
 
     def getStreetName(self, name: str) -> str:
+        """The name of its street; empty where the network tells none."""
         self.check(name, self.now().map.links_of)
         return self.now().facts.streets.get(name, "")
 
     def getLastStepPersonIDs(self, name: str) -> tuple[str, ...]:
-        """Nobody: there are no persons."""
+        """Empty: there are no persons."""
         self.check(name, self.now().map.links_of)
         return ()
 
     def adaptTraveltime(
         self, name: str, time: float | None = None, begin: float | None = None, end: float | None = None
     ) -> None:
-        """The seconds with which the edge counts for ways that are searched from now on; none: those of its traffic."""
+        """Sets the seconds with which the edge counts for ways that are searched from now on; None: those of its
+        traffic again. NotHere with begin or end."""
         self.check(name, self.now().map.links_of)
         if begin is not None or end is not None:
             raise NotHere("edge.adaptTraveltime: times of day are not here; set the seconds when they begin to count")
         self.now().router().adapt(name, time)
 
     def getAdaptedTraveltime(self, name: str, time: float) -> float:
-        """The seconds that adaptTraveltime set; -1 where none are set."""
+        """The seconds that adaptTraveltime set; -1 where it set none. time has no effect."""
         self.check(name, self.now().map.links_of)
         return float(self.now().router().adapted.get(name, -1.0))
 
     def not_of_edges(self, name: str) -> NoReturn:
-        """Refuses what SUMO tells of lanes alone."""
+        """NotHere: SUMO tells this of lanes alone."""
         raise NotHere("edge: shape, width, connections and classes are those of its lanes")
 
     getEdgeID = getShape = getWidth = getAllowed = getDisallowed = getLinkNumber = not_of_edges
     getLinks = not_of_edges  # type: ignore[assignment]
 
     def close(self, lane: str) -> None:
-        """Closes one of its lanes; none stays beside it to change to, as all are closed."""
+        """Closes one lane of the edge, by name, without asking whether one stays open beside it, as all are closed."""
         self.now().close_lane(lane)
 
 
@@ -205,7 +215,7 @@ class Detectors(Places):
     sort = ""
 
     def getIDList(self) -> tuple[str, ...]:
-        """Names of those of this sort."""
+        """The names of the detectors of this sort."""
         return tuple(name for name, one in self.now().detectors.items() if one.kind == self.sort)
 
     def detector(self, name: str) -> Detector:
@@ -214,11 +224,12 @@ class Detectors(Places):
         return self.now().detectors[name]
 
     def getLaneID(self, name: str) -> str:
+        """The name of the lane where it lies."""
         one = self.detector(name)
         return self.now().map.lane_name(one.link, one.lane)
 
     def outline(self, name: str) -> Line:
-        """The point where it begins."""
+        """The point where it begins, in metres."""
         one = self.detector(name)
         link = self.now().map.links[one.link]
         return [along(link.shape, one.first / link.cells)]
@@ -230,25 +241,26 @@ class Detectors(Places):
         return one.first * link.metres / link.cells
 
     def speeds(self, name: str) -> list[float]:
-        """Metres a second of the vehicles; those that have left have their last speed."""
+        """Speeds, metres a second, of the vehicles that it saw; for those that have left, their last one."""
         cars = self.cars(name)
         places = {**self.now().view.before, **self.now().view.places}
         return [places[car].speed * METRES for car in cars if car in places]
 
 
 class InductionLoop(Detectors):
-    """As SUMO's traci.inductionloop (e1)."""
+    """As SUMO's traci.inductionloop (e1): of the last step."""
 
     kind, name, sort = "Induction loop", "inductionloop", "e1"
     variables = {**Places.variables, tc.LAST_STEP_TIME_SINCE_DETECTION: "getTimeSinceDetection"}
 
     def cars(self, name: str) -> list[int]:
-        """Numbers of those that stood on it or drove over it in the last step."""
+        """The numbers of the vehicles that stood on it or drove over it in the last step."""
         self.detector(name)
         return self.now().follow().loops[name].passed
 
     def getLastStepOccupancy(self, name: str) -> float:
-        """Percent of the last step: all of it where one stands there, else the way of a vehicle over it."""
+        """The percentage, 0 to 100, of the last step in which a vehicle covered it: 100 where one stands there, else by
+        the lengths and speeds of those who drove over it."""
         one, cars, places = self.detector(name), self.cars(name), self.now().view.places
         if any(car in places and places[car].cell == one.first for car in cars):
             return 100.0
@@ -256,13 +268,13 @@ class InductionLoop(Detectors):
         return min(100.0, sum(100 * metres / max(METRES, speed) for metres, speed in ways))
 
     def getTimeSinceDetection(self, name: str) -> float:
-        """Seconds since somebody was on it; since second 0 where nobody was."""
+        """Seconds since a vehicle was on it; the clock where none ever was."""
         last = self.now().follow().loops[self.detector(name).name].last
         return self.now().clock - last if last >= 0 else float(self.now().clock)
 
 
 class LaneArea(Stretches, Detectors):
-    """As SUMO's traci.lanearea (e2)."""
+    """As SUMO's traci.lanearea (e2): of the last step."""
 
     kind, name, sort = "Lane area detector", "lanearea", "e2"
     variables = {
@@ -271,21 +283,23 @@ class LaneArea(Stretches, Detectors):
     first = (tc.JAM_LENGTH_VEHICLE,)
 
     def cars(self, name: str) -> list[int]:
-        """Numbers of those whose front is in it, from the stop line."""
+        """The numbers of the vehicles whose front is in it, from the stop line."""
         one, view = self.detector(name), self.now().follow().view
         there = view.on_lane.get((one.link, one.lane), ())
         return [car for car in there if car in view.places and one.first <= view.places[car].front <= one.last]
 
     def getLength(self, name: str) -> float:
+        """Its length on whole cells, metres."""
         one = self.detector(name)
         link = self.now().map.links[one.link]
         return (one.last - one.first + 1) * link.metres / link.cells
 
     def metres(self, name: str) -> float:
+        """Its length on whole cells, metres."""
         return self.getLength(name)
 
     def jam(self, name: str) -> list[int]:
-        """The numbers of the vehicles of the longest jam: those that stand one behind the other without a gap."""
+        """The numbers of the vehicles of the longest jam: they stand one behind the other without a gap."""
         fleet, places, rear = self.now().fleet, self.now().view.places, -1
         longest: list[int] = []
         here: list[int] = []
@@ -297,33 +311,36 @@ class LaneArea(Stretches, Detectors):
         return longest
 
     def getJamLengthVehicle(self, name: str) -> int:
+        """How many vehicles stand in the longest jam."""
         return len(self.jam(name))
 
     def getJamLengthMeters(self, name: str) -> float:
-        """Metres of its vehicles with their gaps."""
+        """Metres of the vehicles of the longest jam, with the gaps ahead of them."""
         fleet = self.now().fleet
         return sum(fleet.sizes[fleet.names[car]] * METRES for car in self.jam(name))
 
 
 class Junction(Placed):
-    """As SUMO's traci.junction."""
+    """As SUMO's traci.junction: names, points and shapes."""
 
     kind, name = "Junction", "junction"
     variables = {tc.VAR_POSITION: "getPosition", tc.VAR_SHAPE: "getShape"}
     first = (tc.VAR_POSITION,)
 
     def getIDList(self) -> tuple[str, ...]:
-        """The junctions of the network; those inside a junction, where vehicles wait to turn, are none here."""
+        """The junctions of the network; SUMO's inner junctions, where vehicles wait to turn, are not among them."""
         return tuple(self.now().facts.junctions)
 
     def getPosition(self, name: str) -> Point:
+        """Its point (x, y), metres."""
         self.check(name, self.now().facts.junctions)
         return self.now().facts.junctions[name].place
 
     def getShape(self, name: str) -> Sequence[Point]:
+        """The points of its outline, metres; empty where the file has none."""
         self.check(name, self.now().facts.junctions)
         return self.now().facts.junctions[name].shape
 
     def outline(self, name: str) -> Line:
-        """Its shape, or its point where it has none."""
+        """The points of its shape, in metres, or its one point where it has no shape."""
         return self.getShape(name) or [self.getPosition(name)]

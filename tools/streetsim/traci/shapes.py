@@ -29,8 +29,8 @@ def heading(line: Line, share: float) -> float:
 
 
 def segment_at(line: Line, share: float) -> tuple[int | None, float]:
-    """The part of a line, by the number of its first point, in which a share of its length lies, and the share of that
-    part; none behind its end."""
+    """(number of the first point of the part of a line in which a share (0 to 1) of its length lies, share of that
+    part); (None, 0.0) behind the line's end."""
     left = share * sum(lengths(line))
     for at, size in enumerate(lengths(line)):
         if left <= size and size:
@@ -40,7 +40,7 @@ def segment_at(line: Line, share: float) -> tuple[int | None, float]:
 
 
 def nearest(point: Point, line: Line) -> tuple[float, float]:
-    """Metres from a point to a line of points or to a single one, and how far along the line that is."""
+    """(metres from a point to a line, or to its single point; metres along the line to the nearest place)."""
     (x, y), passed, best = point, 0.0, (hypot(point[0] - line[0][0], point[1] - line[0][1]), 0.0)
     for ((ax, ay), (bx, by)), size in zip(pairwise(line), lengths(line), strict=True):
         if size:
@@ -52,5 +52,5 @@ def nearest(point: Point, line: Line) -> tuple[float, float]:
 
 
 def distance(point: Point, line: Line) -> float:
-    """Metres from a point to a line of points or to a single one."""
+    """Metres from a point to a line, or to its single point."""
     return nearest(point, line)[0]

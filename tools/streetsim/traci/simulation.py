@@ -17,7 +17,7 @@ from streetsim.traci.shapes import Point, along, nearest
 
 @dataclass
 class Stage:
-    """A part of a way, as SUMO's scripts read it."""
+    """A part of a way, as SUMO's scripts read it: seconds and metres."""
 
     type: int = tc.INVALID_INT_VALUE
     vType: str = ""
@@ -35,7 +35,7 @@ class Stage:
 
 
 class Simulation(Domain, SimulationCalls[Session]):
-    """As SUMO's traci.simulation: seconds, metres."""
+    """As SUMO's traci.simulation: seconds, metres; counts and lists are of the last step."""
 
     kind, name = "Simulation", "simulation"
     variables = {
@@ -58,54 +58,63 @@ class Simulation(Domain, SimulationCalls[Session]):
         return self.now().clock * 1000
 
     def getDeltaT(self) -> float:
+        """1.0: the seconds of a step."""
         return 1.0
 
     def getEndTime(self) -> float:
-        """The end that the words name, which ends nothing under a script; -1 where none do."""
+        """The end that the command's words name, seconds; it ends nothing under a script. -1 where they name none."""
         return float(self.now().options.get("end", -1.0))
 
     def getScale(self) -> float:
+        """1.0: the demand is as in the files."""
         return 1.0
 
     def getOption(self, option: str) -> str:
-        """What the words or the configuration say of an option of SUMO's; TraCIException where they do not name it."""
+        """What the words or the configuration say of an option of SUMO's, as text; TraCIException where they do not
+        name it."""
         if option not in self.now().options:
             raise TraCIException(f"Option '{option}' was not given.")
         return self.now().options[option]
 
     def getLoadedIDList(self) -> tuple[str, ...]:
-        """Vehicles that the last step told the program: those that would depart in it, and those that were added."""
+        """The vehicles that the program was told of for the last step: those that would depart in it, and those that
+        the script added."""
         return tuple(self.now().loaded)
 
     def getLoadedNumber(self) -> int:
+        """How many vehicles getLoadedIDList names."""
         return len(self.now().loaded)
 
     def getDepartedIDList(self) -> tuple[str, ...]:
+        """The vehicles that departed in the last step."""
         session = self.now().follow()
         return tuple(session.fleet.names[car] for car in session.view.departed)
 
     def getDepartedNumber(self) -> int:
+        """How many vehicles departed in the last step."""
         return len(self.now().follow().view.departed)
 
     def getArrivedIDList(self) -> tuple[str, ...]:
+        """The vehicles that arrived in the last step."""
         session = self.now().follow()
         return tuple(session.fleet.names[car] for car in session.view.arrived)
 
     def getArrivedNumber(self) -> int:
+        """How many vehicles arrived in the last step."""
         return len(self.now().follow().view.arrived)
 
     def getPendingVehicles(self) -> tuple[str, ...]:
-        """Vehicles that would have departed and wait for room."""
+        """The vehicles that should have departed and wait for room."""
         session = self.now().follow()
         return tuple(session.fleet.names[car] for car in session.view.waiting_to_depart())
 
     def none(self) -> int:
-        """0: under a script nobody teleports; nobody collides, brakes in an emergency, parks or stops, and there are no
+        """0: under a script nobody is moved away, and there are no collisions, emergency stops, parking, stops or
         persons."""
         return 0
 
     def nobody(self) -> tuple[str, ...]:
-        """Under a script none of these are there."""
+        """Empty, as none gives 0."""
         return ()
 
     getStartingTeleportNumber = getEndingTeleportNumber = getCollidingVehiclesNumber = none
@@ -120,18 +129,20 @@ class Simulation(Domain, SimulationCalls[Session]):
     # Places and ways
 
     def getNetBoundary(self) -> tuple[Point, Point]:
-        """The lower left and the upper right corner."""
+        """The lower left and the upper right corner of the network, (x, y) in metres."""
         return self.now().facts.boundary
 
     def convert2D(self, edgeID: str, pos: float, laneIndex: int = 0, toGeo: bool = False) -> Point:
-        """The point of a place on a lane, in metres from its begin."""
+        """The point (x, y) of a place on a lane; pos: metres from its begin, those beyond the lane count as its ends.
+        NotHere for degrees (toGeo)."""
         if toGeo:
             raise NotHere("simulation.convert2D: degrees are not here; streetsim-export writes them")
         lane = self.lane(edgeID, laneIndex)
         return along(lane.shape, min(1.0, max(0.0, pos / lane.metres)))
 
     def convertRoad(self, x: float, y: float, isGeo: bool = False, vClass: str = "ignoring") -> tuple[str, float, int]:
-        """(edge, metres from its begin, lane) of the lane that is nearest to a point."""
+        """(edge, metres from its begin, index of the lane) of the place on any lane that is nearest to a point (x, y)
+        in metres. NotHere for degrees (isGeo); vClass has no effect."""
         if isGeo:
             raise NotHere("simulation.convertRoad: degrees are not here")
         session = self.now()
@@ -141,14 +152,16 @@ class Simulation(Domain, SimulationCalls[Session]):
         return edge, nearest((x, y), shapes[lane])[1], int(index)
 
     def lane(self, edge: str, index: int) -> LaneFacts:
-        """What the network's file says of a lane; TraCIException where the import has no such lane."""
+        """What the network's file says of a lane, by its edge and index; TraCIException where the import has no such
+        lane."""
         self.check(f"{edge}_{index}", self.now().lane_of)
         return self.now().facts.lanes[f"{edge}_{index}"]
 
     def getDistance2D(
         self, x1: float, y1: float, x2: float, y2: float, isGeo: bool = False, isDriving: bool = False
     ) -> float:
-        """Metres between two points, as the crow flies or (isDriving) from lane to lane."""
+        """Metres between two points, in a straight line, or (isDriving) on the road between the places nearest to them.
+        NotHere for degrees (isGeo)."""
         if isGeo:
             raise NotHere("simulation.getDistance2D: degrees are not here")
         if not isDriving:
@@ -157,8 +170,8 @@ class Simulation(Domain, SimulationCalls[Session]):
         return self.getDistanceRoad(edge1, pos1, edge2, pos2, True)
 
     def getDistanceRoad(self, edgeID1: str, pos1: float, edgeID2: str, pos2: float, isDriving: bool = False) -> float:
-        """Metres between two places on edges, in metres from their begins: as the crow flies or, driving, on the
-        shortest way and through its junctions."""
+        """Metres between two places on edges; pos1, pos2: metres from their begins. In a straight line, or (isDriving)
+        on the shortest way, through its junctions."""
         if not isDriving:
             return self.getDistance2D(*self.convert2D(edgeID1, pos1), *self.convert2D(edgeID2, pos2))
         if edgeID1 == edgeID2 and pos1 <= pos2:
@@ -168,7 +181,8 @@ class Simulation(Domain, SimulationCalls[Session]):
     def findRoute(
         self, fromEdge: str, toEdge: str, vType: str = "", depart: float = -1.0, routingMode: int = 0
     ) -> Stage:
-        """The way between two edges that is shortest by the travel times of now."""
+        """The way between two edges that is quickest by the present travel times, as a Stage; depart and routingMode
+        have no effect."""
         session = self.now()
         links, seconds = session.router().way(fromEdge, toEdge)
         edges = session.edges(links)
@@ -178,7 +192,7 @@ class Simulation(Domain, SimulationCalls[Session]):
     # States
 
     def saveState(self, fileName: str) -> None:
-        """Writes the state to a file of streetsim's own, which loadState reads."""
+        """Writes the state to a file of streetsim's own form, which loadState reads."""
         save_state(self.now(), fileName)
 
     def loadState(self, fileName: str) -> None:
@@ -186,6 +200,7 @@ class Simulation(Domain, SimulationCalls[Session]):
         load_state(self.now(), fileName)
 
     def writeMessage(self, msg: str) -> None:
+        """Prints a text on standard error."""
         print(msg, file=sys.stderr)
 
     # Subscriptions
@@ -193,31 +208,36 @@ class Simulation(Domain, SimulationCalls[Session]):
     def subscribe(  # type: ignore[override]  # there is one simulation, which has no name
         self, varIDs: Sequence[int] | None = None, begin: object = None, end: object = None
     ) -> None:
+        """Has variables of the simulation, by number, told from now on; None: those that SUMO tells by default. begin
+        and end have no effect."""
         self.note("", varIDs)
 
     def unsubscribe(self) -> None:  # type: ignore[override]
+        """Ends the subscription to the simulation."""
         self.subscribed.clear()
 
     def getSubscriptionResults(self) -> Values:  # type: ignore[override]
+        """The values that were subscribed to, as they are now, by the variables' numbers."""
         return {variable: getattr(self, self.variables[variable])() for variable in self.subscribed.get("", ())}
 
     def getAllSubscriptionResults(self) -> dict[str, Values]:
+        """What getSubscriptionResults gives, under the simulation's empty name; empty without a subscription."""
         return {"": self.getSubscriptionResults()} if self.subscribed else {}
 
 
 class Route(Domain):
-    """As SUMO's traci.route."""
+    """As SUMO's traci.route: names and edges."""
 
     kind, name = "Route", "route"
     variables = {tc.VAR_EDGES: "getEdges"}
     first = (tc.VAR_EDGES,)
 
     def getIDList(self) -> tuple[str, ...]:
-        """Routes of the files that have a name, and those of route.add."""
+        """The routes of the files that have a name, and those that route.add named."""
         return tuple(dict.fromkeys((*self.now().facts.routes, *self.now().routes)))
 
     def add(self, name: str, edges: Iterable[str]) -> None:
-        """Names a way along edges; TraCIException where the name is taken, or the edges do not lead on."""
+        """Names a route along edges; TraCIException where the name is taken, or two edges have no connection."""
         session = self.now()
         if name in session.routes or name in session.facts.routes:
             raise TraCIException(f"Route '{name}' exists already.")
@@ -227,6 +247,7 @@ class Route(Domain):
             raise TraCIException(f"Route '{name}': {fault}") from None
 
     def getEdges(self, name: str) -> tuple[str, ...]:
+        """The edges of a route; TraCIException for an unknown name."""
         self.check(name, self.getIDList())
         session = self.now()
         if name in session.facts.routes:

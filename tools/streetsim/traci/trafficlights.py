@@ -14,7 +14,7 @@ TYPES = {"static": 0, "actuated": 3, "NEMA": 4, "delay_based": 5}  # SUMO's numb
 
 @dataclass
 class Phase:
-    """A phase, as SUMO's scripts read it; seconds."""
+    """A phase, as SUMO's scripts read it: seconds, and a letter for each signal; -1: no bound is told."""
 
     duration: float
     state: str
@@ -35,6 +35,7 @@ class Logic:
     subParameter: dict[str, str] = field(default_factory=dict)
 
     def getPhases(self) -> Sequence[Phase]:
+        """The phases, in their order."""
         return self.phases
 
 
@@ -42,7 +43,8 @@ Program = Logic  # which the class below has as an attribute of its own name
 
 
 class TrafficLight(Domain):
-    """As SUMO's traci.trafficlight; names are of lights, not of junctions."""
+    """As SUMO's traci.trafficlight: seconds; names are of lights, not of junctions. TraCIException for an unknown
+    light."""
 
     kind, name = "Traffic light", "trafficlight"
     Phase, Logic = Phase, Logic
@@ -54,45 +56,51 @@ class TrafficLight(Domain):
     first = (tc.TL_CURRENT_PHASE,)
 
     def getIDList(self) -> tuple[str, ...]:
+        """The names of all lights, sorted."""
         return tuple(sorted(self.now().control.lights))
 
     def at(self, name: str) -> tuple[Light, int, float]:
-        """The light, the index of its phase, and the seconds that are left of it by its program."""
+        """(the light, the index of its present phase, the seconds left of it by its program)."""
         light, clock = self.now().control.light(name), self.now().clock
         if (driven := self.now().control.driven(name)) is not None:
             return light, driven.logic.index(), float(driven.logic.switch(clock) - clock)
         return light, *light.at(clock)
 
     def getRedYellowGreenState(self, name: str) -> str:
+        """What the light shows now, SUMO's letter for each signal."""
         self.now().control.light(name)
         return self.now().control.state(name)
 
     def getPhase(self, name: str) -> int:
+        """The index of the present phase in the program."""
         return self.at(name)[1]
 
     def getPhaseDuration(self, name: str) -> float:
-        """Seconds of the present phase, by the program."""
+        """Seconds that the present phase lasts by the program."""
         light, index, _ = self.at(name)
         return float(light.phases[index][0])
 
     def getNextSwitch(self, name: str) -> float:
-        """The clock, in seconds, at which the phase ends."""
+        """The clock, in seconds, at which the present phase ends, as far as that is known now."""
         timers = [clock for clock, light, _ in self.now().control.timers if light == name]
         return float(min(timers)) if timers else float(self.now().clock + self.at(name)[2])
 
     def getProgram(self, name: str) -> str:
+        """The name of the program that runs."""
         return self.now().control.light(name).program
 
     def getControlledLanes(self, name: str) -> tuple[str, ...]:
-        """The lane of each signal, by its index."""
+        """The lane of each signal, by its index; an empty text where a signal has no connection here."""
         return tuple(link[0] if link else "" for link in self.now().control.light(name).links)
 
     def getControlledLinks(self, name: str) -> tuple[list[tuple[str, str, str]], ...]:
-        """For each signal [(lane, next lane, lane inside the junction)]."""
+        """For each signal [(lane, next lane, lane inside the junction)], by its index; an empty list where it has no
+        connection here."""
         return tuple([link] if link else [] for link in self.now().control.light(name).links)
 
     def getAllProgramLogics(self, name: str) -> tuple[Program, ...]:
-        """The program that runs, and those of the files that do not, from their first phase."""
+        """The program that runs, and behind it the other programs of the files and the script, those from their first
+        phase."""
         light, index, _ = self.at(name)
         others = ((program, *told) for program, told in light.programs.items() if program != light.program)
         kept = {one.get("program"): one for one in self.now().map.programs if one["light"] == name}
@@ -104,22 +112,25 @@ class TrafficLight(Domain):
     getCompleteRedYellowGreenDefinition = getAllProgramLogics
 
     def getPhaseName(self, name: str) -> str:
+        """The name of the present phase; empty where it has none."""
         light, index, _ = self.at(name)
         if (driven := self.now().control.driven(name)) is not None and driven.logic.phase_name():
             return driven.logic.phase_name()
         return light.names[index] if index < len(light.names) else ""
 
     def setPhaseName(self, name: str, text: str) -> None:
+        """Names the present phase."""
         light, index, _ = self.at(name)
         light.names = [*light.names, *[""] * (len(light.phases) - len(light.names))]
         light.names[index] = str(text)
 
     def setPhase(self, name: str, index: int) -> None:
-        """Goes on with a phase of the program, from its begin."""
+        """Shows the phase of an index of the program from now on, from its begin; the program goes on from there."""
         self.now().control.go_to(name, index)
 
     def setPhaseDuration(self, name: str, seconds: float) -> None:
-        """Ends the phase so many seconds from now; the next ones last as in the program."""
+        """Has the present phase end so many seconds from now (0 or more, rounded); the next ones last as in the
+        program."""
         control = self.now().control
         control.light(name)
         if not seconds >= 0:
@@ -127,18 +138,21 @@ class TrafficLight(Domain):
         control.end_phase(name, self.now().clock + round(seconds))
 
     def setRedYellowGreenState(self, name: str, state: str) -> None:
+        """Shows a state, SUMO's letter for each signal, until another call sets the light."""
         self.now().control.hold(name, state)
 
     def setLinkState(self, name: str, index: int, state: str) -> None:
-        """Sets one signal of the light, the others as they are now, until the next call that sets it."""
+        """Sets one signal, by its index, to a letter, and leaves the others as they are now, until another call sets
+        the light."""
         shown = self.getRedYellowGreenState(name)
         if not 0 <= index < len(shown):
             raise TraCIException(f"Traffic light '{name}' has no signal {index}")
         self.now().control.hold(name, shown[:index] + state + shown[index + 1 :])
 
     def setProgram(self, name: str, programID: str) -> None:
-        """Shows a program of the files or one that was set before, as far as its cycle is at this clock; one that
-        detectors drive as far as they have brought it meanwhile."""
+        """Runs a program of the files, or one that setProgramLogic set, from the place in its cycle that belongs to
+        this clock; a program that detectors drive, from where they have brought it meanwhile. TraCIException for an
+        unknown one."""
         light, session = self.now().control.light(name), self.now()
         if programID not in light.programs:
             raise TraCIException(f"Traffic light '{name}' has no program {programID!r}")
@@ -151,7 +165,8 @@ class TrafficLight(Domain):
         session.control.show_cycle(name)
 
     def setProgramLogic(self, name: str, logic: Program) -> None:
-        """Sets a whole program, from the begin of its current phase; it can be chosen again by its name."""
+        """Sets a whole program and runs it from the begin of its current phase; setProgram can choose it again by its
+        name. TraCIException without phases."""
         phases = [(float(phase.duration), phase.state) for phase in logic.phases]
         if not phases:
             raise TraCIException(f"Traffic light '{name}': a program without phases")
@@ -163,8 +178,8 @@ class TrafficLight(Domain):
 
 
 def logic(program: str, phases: Phases, names: Sequence[str], index: int, kept: Json | None = None) -> Logic:
-    """A program as scripts read it; kept: what the map has of it, with least and longest times. Phases of others last
-    as long as they are told, so both are that."""
+    """A program as scripts read it, at the phase of an index; kept: what the map has of a program that detectors drive,
+    with the bounds of its phases, None for other programs: their phases' bounds are their seconds."""
     named = [*names, *[""] * (len(phases) - len(names))]
     bounds = [bounds_of(one) for one in kept["phases"]] if kept else [(duration, duration) for duration, _ in phases]
     told = (

@@ -19,7 +19,8 @@ BRAKING = 4.5  # metres a second squared, of SUMO's usual vehicle: how far it lo
 
 
 class Vehicle(VehicleCalls[Session], Placed):
-    """As SUMO's traci.vehicle: metres, metres a second, seconds; TraCIException for a vehicle that is not known."""
+    """As SUMO's traci.vehicle: metres, metres a second, seconds; SUMO's value for "nowhere" before it departs.
+    TraCIException for a vehicle that is not known or has ended."""
 
     kind, name = "Vehicle", "vehicle"
     variables = {
@@ -36,26 +37,28 @@ class Vehicle(VehicleCalls[Session], Placed):
     first = (tc.VAR_ROAD_ID, tc.VAR_LANEPOSITION)
 
     def getIDList(self) -> tuple[str, ...]:
-        """Vehicles on lanes and in junctions; nobody who has not departed is asked."""
+        """The vehicles on lanes and in junctions; those that have not departed are not among them."""
         session = self.now().follow()
         return tuple(session.fleet.names[car] for car in session.view.places)
 
     def getIDCount(self) -> int:
+        """How many vehicles are on lanes and in junctions."""
         return len(self.now().follow().view.places)
 
     def subjects(self) -> Collection[str]:
-        """Vehicles that have not ended, also those that will depart."""
+        """The vehicles that have not ended, those that will depart among them."""
         session = self.now().follow()
         return {**session.fleet.cars, **session.types.known}.keys() - session.view.gone.keys()
 
     def getAllSubscriptionResults(self) -> dict[str, Values]:
+        """By vehicle on the road the values that were subscribed to, by the variables' numbers."""
         cars, places = self.now().fleet.cars, self.now().follow().view.places
         there = [name for name in self.subscribed if cars.get(name) in places]
         return {name: self.getSubscriptionResults(name) for name in there}
 
     def where(self, name: str) -> tuple[int | None, Place | None]:
-        """The number and the place of a vehicle: no number before the program is told of it, no place before it
-        departs. TraCI's error where it has ended, or neither the run's file nor a script has it."""
+        """(number, place) of a vehicle: None for the number before the program is told of it, None for the place before
+        it departs. TraCIException where it has ended, or neither the run's file nor a script has it."""
         session = self.now()
         if not session.followed or not session.view.asked:
             session.follow()
@@ -66,30 +69,31 @@ class Vehicle(VehicleCalls[Session], Placed):
         return car, place
 
     def place(self, name: str) -> Place | None:
-        """Where it is; none before it departs."""
+        """Where a vehicle is; None before it departs."""
         return self.where(name)[1]
 
     def known(self, name: str) -> Session:
-        """The session, where there is such a vehicle."""
+        """The session; TraCIException where the vehicle is not known."""
         self.where(name)
         return self.now()
 
     def number(self, name: str) -> int:
-        """The number of a vehicle; -1, of which nothing is noted, before it is told to the program."""
+        """The number of a vehicle in the program; -1 before the program is told of it."""
         car, _ = self.where(name)
         return -1 if car is None else car
 
     def outline(self, name: str) -> Line:
-        """The point of its front."""
+        """The point of its front, in metres."""
         return [self.getPosition(name)]
 
     # Where it is
 
     def getSpeedWithoutTraCI(self, name: str) -> float:
+        """As getSpeed: no call changes speeds."""
         return self.getSpeed(name)
 
     def getAcceleration(self, name: str) -> float:
-        """Metres a second squared, of the last step and cells of 7.5 m; 0 in the first step."""
+        """Metres a second squared in the last step, by speeds in whole cells of 7.5 m; 0 in its first step."""
         place = self.place(name)
         if place is None:
             return NOWHERE
@@ -97,7 +101,7 @@ class Vehicle(VehicleCalls[Session], Placed):
         return (place.speed - before.speed) * METRES if before is not None else 0.0
 
     def getPosition(self, name: str) -> tuple[float, float]:
-        """The front of the vehicle as (x, y); in a junction the junction's place."""
+        """The point (x, y), in metres, of its front; in a junction the junction's point."""
         place, mapping = self.place(name), self.now().map
         if place is None:
             return NOWHERE, NOWHERE
@@ -108,7 +112,7 @@ class Vehicle(VehicleCalls[Session], Placed):
         return along(link.shape, (place.front + 1) / link.cells)
 
     def getAngle(self, name: str) -> float:
-        """Degrees clockwise from north; in a junction the direction in which it came."""
+        """Degrees clockwise from north; in a junction those at the end of the street from which it came."""
         place = self.place(name)
         if place is None:
             return NOWHERE
@@ -116,7 +120,7 @@ class Vehicle(VehicleCalls[Session], Placed):
         return heading(link.shape, (place.cell + 1) / link.cells if place.cell is not None else 1.0)
 
     def getDistance(self, name: str) -> float:
-        """Metres since it departed, those of SUMO's lanes in junctions too."""
+        """Metres driven since it departed, those on SUMO's lanes inside junctions among them."""
         place = self.place(name)
         if place is None:
             return NOWHERE
@@ -126,51 +130,55 @@ class Vehicle(VehicleCalls[Session], Placed):
     # How long it stands, and what it lost
 
     def getWaitingTime(self, name: str) -> float:
-        """Seconds for which it has stood; from the first call on that looks at vehicles."""
+        """Seconds for which it has stood without a break; counted from the first call that looks at vehicles."""
         car = self.number(name)
         return float(self.now().tally.waiting.get(car, 0))
 
     def getAccumulatedWaitingTime(self, name: str) -> float:
-        """Seconds for which it has stood in all; from the first call on that looks at vehicles."""
+        """Seconds for which it has stood in all; counted from the first call that looks at vehicles."""
         car = self.number(name)
         return float(self.now().tally.waited.get(car, 0))
 
     def getTimeLoss(self, name: str) -> float:
-        """Seconds lost against driving freely at the mean speed of a vehicle that nobody hinders;
-        as long as it is looked at."""
+        """Seconds lost against free driving; counted while it is looked at, from the first call that looks at
+        vehicles."""
         car = self.number(name)
         return max(0.0, self.now().tally.lost.get(car, 0.0))
 
     # Who it is
 
     def kind_of(self, name: str) -> Kind:
-        """Its type."""
+        """Its type, as SUMO's files have it."""
         return self.known(name).types.kind(name)
 
     def getTypeID(self, name: str) -> str:
+        """The name of its type."""
         return self.known(name).types.name(name)
 
     def getVehicleClass(self, name: str) -> str:
+        """SUMO's class of its type, as passenger or bus."""
         return self.kind_of(name).vclass
 
     def getMaxSpeed(self, name: str) -> float:
-        """Of its type, in metres a second, as SUMO's files have it; what it may drive here is the limit of its link."""
+        """The greatest speed of its type in SUMO's files, metres a second; how fast it drives here is the limit of its
+        link alone."""
         return speed_of(self.kind_of(name))
 
     def getAllowedSpeed(self, name: str) -> float:
-        """The limit of the lane in SUMO's file, or the greatest speed of the type where that is less."""
+        """The limit of its lane in SUMO's file, metres a second, or the greatest speed of its type where that is
+        less."""
         place = self.place(name)
         lane = self.getLaneID(name)
         limit = self.now().facts.lanes[lane].speed if place is not None and place.cell is not None else FASTEST
         return min(limit, self.getMaxSpeed(name))
 
     def getColor(self, name: str) -> tuple[int, ...]:
-        """Its colour, as a script has set it, else yellow."""
+        """The colour (red, green, blue, opacity; 0 to 255) that a script set; else yellow."""
         self.where(name)
         return self.parameters.get((name, "color"), YELLOW)
 
     def setColor(self, name: str, color: Sequence[int]) -> None:
-        """Keeps a colour; nothing shows it."""
+        """Keeps a colour for getColor; nothing shows it."""
         self.where(name)
         self.parameters[name, "color"] = tuple(color)
 
@@ -181,7 +189,7 @@ class Vehicle(VehicleCalls[Session], Placed):
     # Its way
 
     def getRouteIndex(self, name: str) -> int:
-        """The place, in its plan, of the edge where it is; TraCI's value for no number before it departs."""
+        """The place, in its route, of the edge where it is, from 0; SUMO's value for no number before it departs."""
         _, place = self.where(name)
         return tc.INVALID_INT_VALUE if place is None else self.now().fleet.plans[name].index(place.link)
 
@@ -190,12 +198,12 @@ class Vehicle(VehicleCalls[Session], Placed):
         return self.known(name).types.route(name)
 
     def isRouteValid(self, name: str) -> bool:
-        """Each plan can be driven; who has none is refused."""
+        """True: every vehicle's route can be driven, as others are refused."""
         self.where(name)
         return True
 
     def getNextTLS(self, name: str) -> tuple[tuple[str, int, float, str], ...]:
-        """Of each light ahead on its way (light, index of the connection, metres to the stop line, state)."""
+        """For each light ahead on its way (light, index of the signal, metres to the stop line, state)."""
         place, session, found = self.place(name), self.now(), []
         if place is None:
             return ()
@@ -210,7 +218,8 @@ class Vehicle(VehicleCalls[Session], Placed):
         return tuple(found)
 
     def getDrivingDistance(self, name: str, edgeID: str, pos: float, laneIndex: int = 0) -> float:
-        """Metres along its way to a place ahead on it; SUMO's value for 'nowhere' where that is not ahead."""
+        """Metres along its way to a place on an edge, pos metres from the edge's begin; SUMO's value for "nowhere"
+        where it is not ahead. laneIndex has no effect."""
         place, session = self.place(name), self.now()
         if place is None:
             return NOWHERE
@@ -228,9 +237,9 @@ class Vehicle(VehicleCalls[Session], Placed):
     # Who is before and behind it
 
     def getLeader(self, name: str, dist: float = 0.0) -> tuple[str, float] | None:
-        """(vehicle, metres between the two without the gap that standing vehicles keep) of the next one ahead on
-        its way, as far as it would need to brake or for so many metres; none where there is nobody. One in a
-        junction is at its begin."""
+        """(vehicle, metres between the two, without the gap that standing vehicles keep) of the next one ahead on its
+        way, within the metres that it needs to brake, or within dist where that is more. None where there is nobody.
+        One in a junction counts as at its begin."""
         place = self.place(name)
         if place is None or place.cell is None:
             return None
@@ -241,12 +250,12 @@ class Vehicle(VehicleCalls[Session], Placed):
         return self.leader_behind(name, place, max(dist, reach))
 
     def on_lane_of(self, place: Place) -> list[tuple[int, Place]]:
-        """The numbers and places of those on a lane, from the stop line."""
+        """(number, place) of each vehicle on the lane of a place, from the stop line."""
         view = self.now().view
         return [(car, view.places[car]) for car in view.on_lane.get((place.link, place.lane), ())]
 
     def leader_behind(self, name: str, place: Place, reach: float) -> tuple[str, float] | None:
-        """The next vehicle on the links behind its own, within so many metres; as getLeader."""
+        """The next vehicle ahead on the links after its own, within reach metres; None where there is nobody."""
         session, plan, lane = self.now(), self.now().fleet.plans[name], place.lane
         metres = session.map.links[place.link].metres - self.front(place)
         for link, following in pairwise(plan[plan.index(place.link) :]):
@@ -262,15 +271,16 @@ class Vehicle(VehicleCalls[Session], Placed):
         return None
 
     def between(self, other: int, metres: float, front: float) -> float:
-        """Metres from a front, in metres on a link, to the rear of another vehicle, whose link begins so many metres
-        (metres) further on; 0 at least."""
+        """Metres from a front, front metres along a link, to the rear of another vehicle, whose link begins metres
+        further on; 0 at least."""
         fleet, place = self.now().fleet, self.now().view.places[other]
         link = self.now().map.links[place.link]
         rear = (place.front + 1 - fleet.sizes[fleet.names[other]]) * link.metres / link.cells
         return max(0.0, metres + rear - front)
 
     def getFollower(self, name: str, dist: float = 0.0) -> tuple[str, float]:
-        """(vehicle, metres) of the next one behind it on its lane; ('', -1) where there is nobody."""
+        """(vehicle, metres between the two) of the next one behind it on its lane; ("", -1) where there is nobody. dist
+        has no effect."""
         car, place = self.where(name)
         if car is None or place is None or place.cell is None:
             return "", -1.0
@@ -283,14 +293,14 @@ class Vehicle(VehicleCalls[Session], Placed):
     # Nobody stops but in traffic
 
     def isStopped(self, name: str) -> bool:
-        """False: there are no stops of its own."""
+        """False: a run under TraCI makes no stops."""
         self.where(name)
         return False
 
     isStoppedParking = isStoppedTriggered = isAtBusStop = isAtContainerStop = isStopped
 
     def getStops(self, name: str, limit: int = 0) -> tuple[object, ...]:
-        """No stops."""
+        """Empty: a run under TraCI makes no stops."""
         self.where(name)
         return ()
 
@@ -305,8 +315,9 @@ class Vehicle(VehicleCalls[Session], Placed):
         self, vehID: str, routeID: str, typeID: str = DEFAULT, depart: str | float | None = None,
         *_: object, **__: object,
     ) -> None:  # fmt: skip
-        """Adds a vehicle on a route of the files or of route.add; it departs now or at a time in seconds, and takes as
-        many cells as its type is long."""
+        """Adds a vehicle on a route of the files or of route.add; it departs now, or at depart seconds (rounded up),
+        and takes as many cells as its type is long. TraCIException where its name is taken, or the route or type is
+        unknown."""
         session = self.now()
         if routeID not in session.routes and routeID not in session.facts.routes:
             raise TraCIException(f"Route '{routeID}' is not known.")
@@ -322,19 +333,21 @@ class Vehicle(VehicleCalls[Session], Placed):
         session.add(vehID, plan, time, session.types.cells(typeID))
 
     def remove(self, name: str, reason: object = None) -> None:
-        """Takes out a vehicle that the program was told of; TraCIException before."""
+        """Takes a vehicle out; TraCIException where the program has not been told of it yet. reason has no effect."""
         car, _ = self.where(name)
         if car is None:
             raise TraCIException(f"Vehicle '{name}' has not departed yet.")
         self.now().remove(name)
 
     def setRoute(self, name: str, edgeList: Sequence[str]) -> None:
-        """Sets another way, which begins with the edge where the vehicle is or will depart. One that has departed takes
-        it at the next node: it is taken out there and enters anew behind it, with another number and other draws."""
+        """Sets another route; its first edge must be the one where the vehicle is or will depart. A vehicle on the road
+        takes it from the next node on: there it is taken out and entered anew, with another number and other random
+        draws."""
         other_way(self.now(), name, self.place(name), list(edgeList))
 
     def setRouteID(self, name: str, routeID: str) -> None:
-        """Sets the way of a route, from the edge on where the vehicle is, as setRoute does."""
+        """Sets a named route, from the edge on where the vehicle is, as setRoute does; TraCIException for an unknown
+        route."""
         session = self.now()
         if routeID not in session.routes and routeID not in session.facts.routes:
             raise TraCIException(f"Route '{routeID}' is not known.")
@@ -345,20 +358,21 @@ class Vehicle(VehicleCalls[Session], Placed):
         session.types.route_of[name] = routeID
 
     def changeTarget(self, name: str, edgeID: str) -> None:
-        """Takes the way to another edge that is shortest by the travel times of now."""
+        """Gives it the way to another edge that is quickest by the present travel times."""
         session, place = self.now(), self.place(name)
         edges = self.getRoute(name)
         here = edges[0] if place is None else session.map.links[place.link].edge
         other_way(session, name, place, session.edges(session.router().way(here, edgeID)[0]))
 
     def rerouteTraveltime(self, name: str, currentTravelTimes: bool = True) -> None:
-        """Takes the way to its target that is shortest by the travel times of now, or those of edge.adaptTraveltime;
-        the word for other times has no effect."""
+        """Gives it the way to its target that is quickest by the present travel times, or those of
+        edge.adaptTraveltime; currentTravelTimes has no effect."""
         self.changeTarget(name, self.getRoute(name)[-1])
 
 
 class VehicleType(Domain):
-    """As SUMO's traci.vehicletype; types are those of the files."""
+    """As SUMO's traci.vehicletype: metres, metres a second; types are those of the files. TraCIException for an unknown
+    one."""
 
     kind, name = "Vehicle type", "vehicletype"
     variables = {
@@ -368,6 +382,7 @@ class VehicleType(Domain):
     first = (tc.VAR_MAXSPEED,)
 
     def getIDList(self) -> tuple[str, ...]:
+        """The names of all types, sorted."""
         return tuple(sorted(self.now().types.kinds))
 
     def of(self, name: str) -> Kind:
@@ -376,19 +391,22 @@ class VehicleType(Domain):
         return self.now().types.kinds[name]
 
     def getLength(self, name: str) -> float:
-        """Metres, as SUMO's files have it; vehicles take whole cells."""
+        """Its length in SUMO's files, metres; vehicles take whole cells here."""
         return self.of(name).length
 
     def getMinGap(self, name: str) -> float:
+        """The gap ahead of it when it stands, in SUMO's files, metres."""
         return self.of(name).gap
 
     def getVehicleClass(self, name: str) -> str:
+        """Its SUMO class, as passenger or bus."""
         return self.of(name).vclass
 
     def getMaxSpeed(self, name: str) -> float:
+        """Its greatest speed in SUMO's files, metres a second."""
         return speed_of(self.of(name))
 
 
 def speed_of(kind: Kind) -> float:
-    """The greatest speed of a type, metres a second; SUMO's where it tells none."""
+    """The greatest speed of a type, metres a second; that of SUMO's cars where the type tells none."""
     return FASTEST if kind.speed is None else kind.speed

@@ -1,4 +1,4 @@
-"""Works as they are asked for: LANE:METRES-METRES:S-S."""
+"""Works as they are asked for, texts of the form LANE:METRES-METRES:S-S."""
 import math
 import re
 from collections.abc import Iterable, Iterator
@@ -15,7 +15,7 @@ HOURS = re.compile(r"(\d{1,2}):([0-5]\d)")
 
 @dataclass(slots=True, frozen=True)
 class Works:
-    """What one --close asks for."""
+    """What one --close asks for: a lane, from where to where (metres from its begin), from when to when (seconds)."""
 
     text: str  # as it was asked for
     lane: str  # SUMO's name
@@ -39,8 +39,8 @@ class Site:
 
 
 def all_works(texts: Iterable[str], mapping: Map, start: int, until: int | None) -> list[Works]:
-    """The works of texts that may each name several, with commas between; Fault where one is over at the start, or
-    begins at the end (none: it is not known) or after it."""
+    """The works of texts, each of which may name several with commas between. Fault where one ends at the start or
+    before, or begins at the end or later; until: the end, None: not known."""
     works = [works_of(one, mapping) for text in texts for one in listed(text)]
     if over := [one.text for one in works if one.last <= start]:
         raise Fault(f"--close {over[0]!r}: ends at the start, {start} s, or earlier")
@@ -50,8 +50,8 @@ def all_works(texts: Iterable[str], mapping: Map, start: int, until: int | None)
 
 
 def works_of(text: str, mapping: Map) -> Works:
-    """The works that LANE:METRES-METRES:S-S asks for; Fault where the text is none, or the map has no such lane or
-    place."""
+    """The works that a text LANE:METRES-METRES:S-S asks for; Fault where it has another form, or the map has no such
+    lane or metres."""
     found = FORM.fullmatch(text)
     clocks = [second for clock in found.groups()[3:] if (second := clock_of(clock)) is not None] if found else []
     if not found or len(clocks) < 2 or int(found[2]) >= int(found[3]) or clocks[0] >= clocks[1]:
@@ -69,14 +69,14 @@ def works_of(text: str, mapping: Map) -> Works:
 
 
 def clock_of(text: str) -> int | None:
-    """The second of a time: seconds, 07:00 or 07:00:00; none where it is no time or no whole second."""
+    """The second of a text: seconds, 07:00 or 07:00:00. None where it is no time or no whole second."""
     if found := HOURS.fullmatch(text):
         return 3600 * int(found[1]) + 60 * int(found[2])
     return whole_seconds(text)
 
 
 def sites_of(works: Iterable[Works], mapping: Map) -> list[Site]:
-    """Works on the cells of a map that has their lanes."""
+    """Works on the cells of a map; the map must have their lanes."""
     places = {mapping.lane_name(*place): place for place in mapping.lanes()}
     found = []
     for one in works:
@@ -87,7 +87,7 @@ def sites_of(works: Iterable[Works], mapping: Map) -> list[Site]:
 
 
 def really_closed(sites: Iterable[Site], mapping: Map) -> Iterator[str]:
-    """Says where other metres are closed than were asked for, by more than a cell."""
+    """Says, a text each, where other metres are closed than were asked for, by more than a cell."""
     for site in sites:
         link, works = mapping.links[site.link], site.works
         size = link.metres / link.cells

@@ -8,7 +8,7 @@ from streetsim.model.runs import Command, Line, Run
 
 @dataclass(slots=True, frozen=True)
 class Closure:
-    """Cells of a lane that are closed for a time."""
+    """Cells first to last of a lane that are closed from the clock begin to the clock end."""
 
     link: int
     lane: int
@@ -19,15 +19,15 @@ class Closure:
     beyond: float = 0.0  # metres for which it goes on, on the next part of the edge
 
     def metres(self, mapping: Map) -> tuple[float, float]:
-        """From where to where it is closed, from the link's begin."""
+        """(first, last) metre of the closed stretch, from the begin of its link."""
         link = mapping.links[self.link]
         size = link.metres / link.cells
         return self.first * size, (self.last + 1) * size + self.beyond
 
 
 def closures_of(run: Run, until: int) -> list[Closure]:
-    """Those of a run's own lines and of --close, up to a clock; one that is not reopened as it was closed lasts until
-    then."""
+    """The stretches that a run closes, by its own lines and by --close, from its start to the clock until; one that is
+    not reopened with the same cells lasts until then."""
     timed = [*((run.start(), line) for line in run.first), *run.timed]
     open_: dict[tuple[int, int, int, int], int] = {}
     found = []
@@ -42,8 +42,8 @@ def closures_of(run: Run, until: int) -> list[Closure]:
 
 
 def begun_here(closures: Iterable[Closure], mapping: Map) -> list[Closure]:
-    """Those that do not go on from another one, on the part of an edge before theirs: what lies before these is seen
-    there."""
+    """Those closures that do not go on from another one on the part of the edge before: a queue before the others is
+    seen at the one where they begin. A closure that goes on has its further metres in beyond."""
     closures = list(closures)
     begins = {(one.link, one.lane, one.begin, one.end): one for one in closures if one.first <= 1}
     further: dict[Closure, Closure] = {}
@@ -60,5 +60,5 @@ def begun_here(closures: Iterable[Closure], mapping: Map) -> list[Closure]:
 
 
 def commands_in(timed: Iterable[tuple[int, Line]]) -> Iterable[tuple[int, Command]]:
-    """The closes and reopens of timed lines."""
+    """(clock, command) of the close and reopen lines among timed lines; others are left out."""
     return ((clock, line.command) for clock, line in timed if line.command["cmd"] in ("close", "reopen"))

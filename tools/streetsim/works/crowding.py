@@ -10,7 +10,8 @@ PASSES = 1_600  # vehicles an hour of one open lane beside works
 
 
 def crowded(run: Run, mapping: Map, closures: Sequence[Closure]) -> Iterator[str]:
-    """Says where the open lanes of a link with works pass less than comes to them while these last."""
+    """Says, a text for each link, where more vehicles come to works by their plans than the open lanes pass while the
+    works last."""
     for link in sorted({one.link for one in closures}):
         edge = mapping.links[link].edge
         told = too_many(run, mapping, [one for one in closures if one.link == link])
@@ -24,12 +25,13 @@ BESIDE = "nobody changes to the edge's other lanes, so delays may be far too lon
 
 
 def beyond_joint(run: Run, mapping: Map, closures: Sequence[Closure]) -> list[str]:
-    """Of what `crowded` says that for which a run is doubted: edges with further lanes, to which nobody changes."""
+    """The texts of crowded for which a run is doubted: of edges with further lanes, to which nobody changes."""
     return [text for text in crowded(run, mapping, closures) if text.endswith(BESIDE)]
 
 
 def too_many(run: Run, mapping: Map, here: Sequence[Closure]) -> str:
-    """What there is to say of works on one link, one at least; nothing where no lane is left, or they let all pass."""
+    """The text on the works on one link (here: one closure at least); empty where no lane is left, or the open ones let
+    all vehicles pass."""
     link = here[0].link
     lanes, first, last = len(mapping.links[link].lanes), min(one.begin for one in here), max(one.end for one in here)
     left = lanes - len({one.lane for one in here})
@@ -43,8 +45,8 @@ def too_many(run: Run, mapping: Map, here: Sequence[Closure]) -> str:
 
 
 def coming(run: Run, mapping: Map, links: Sequence[int], first: int, last: int) -> int:
-    """How many vehicles would come to the first of links that follow each other, and go over all of them, between two
-    seconds, were nobody in their way."""
+    """How many vehicles would come to the first of some links between two seconds, if nobody were in their way, with
+    all these links one after the other in their plan."""
     free_flow, plans, count = FreeFlow(mapping, run.load.command.get("dawdle", 0) / 1000), 0, len(links)
     for line in run.enters:
         plan = line.command["plan"]

@@ -13,19 +13,19 @@ MINUTE = 60
 
 @dataclass(slots=True, frozen=True)
 class Period:
-    """Seconds of a row of works.csv."""
+    """The seconds, from begin to end, of a row of works.csv."""
 
     begin: int
     end: int
 
     def has(self, clock: int) -> bool:
-        """Whether a look at a clock is of it: the steps before it are."""
+        """Whether a look at a clock belongs to the period, as the step before the look does."""
         return self.begin < clock <= self.end
 
 
 def periods_of(begin: int, end: int, start: int, seconds: int) -> Iterator[Period]:
-    """The periods of a run that works, from begin to end, are in, as far as they last; start: of the run; seconds: of a
-    period."""
+    """The periods of a run that works, from begin to end, fall in, cut to the time of the works. start: of the run;
+    seconds: of a period."""
     clock = begin
     while clock < end:
         following = min(end, start + ((clock - start) // seconds + 1) * seconds)
@@ -34,8 +34,8 @@ def periods_of(begin: int, end: int, start: int, seconds: int) -> Iterator[Perio
 
 
 def rows(watched: Sequence[Watched], mapping: Map, start: int, seconds: int) -> Iterator[tuple[object, ...]]:
-    """The rows of works.csv, as far as works were looked at: one for each place and each period that it is closed in.
-    start: the clock at which the run begins; seconds: of a period."""
+    """The rows of works.csv, as far as works were looked at: one for each place of works and each period in which it is
+    closed. start: the clock at which the run begins; seconds: of a period."""
     for one in watched:
         link, (begin, end) = mapping.links[one.closure.link], one.closure.metres(mapping)
         name = link.edge, link.lanes[one.closure.lane], f"{begin:.1f}", f"{end:.1f}"
@@ -45,7 +45,8 @@ def rows(watched: Sequence[Watched], mapping: Map, start: int, seconds: int) -> 
 
 
 def seen_in(watched: Watched, period: Period) -> tuple[object, ...]:
-    """The numbers of a row of works.csv for a period, from vehicles on; empty where there is no such number."""
+    """A row of works.csv for a period from its column vehicles on: how many passed, capacity, mean and greatest delay
+    (s), lengths of the queue (m), longest standing (s). An empty text stands for what is not known."""
     delays = [one.delay for one in watched.passed if period.has(one.clock)]
     queues = [one for one in watched.queues if period.has(one.clock)]
     capacity = capacity_of(watched, period)
@@ -61,8 +62,8 @@ def seen_in(watched: Watched, period: Period) -> tuple[object, ...]:
 
 
 def capacity_of(watched: Watched, period: Period) -> int | None:
-    """Vehicles an hour of the worst quarter hour that ends in a period and in which somebody always stood before the
-    works; none where there is none."""
+    """Vehicles an hour in the worst 15 minutes that end in a period and in which somebody always stood before the
+    works; None where there is no such time."""
     clocks = [one.clock for one in watched.passed]
     empty = [one.clock for one in watched.queues if not one.metres]
     counts = []
@@ -74,7 +75,7 @@ def capacity_of(watched: Watched, period: Period) -> int | None:
 
 
 def length_at(queues: Sequence[Queue], share: float) -> float:
-    """The length, in metres, that a queue did not pass in a share of the time; 0 where nobody looked."""
+    """The metres that a queue did not exceed in a share (0 to 1) of the time; 0 where nobody looked."""
     ordered = sorted(queues, key=lambda one: one.metres)
     total, sums = 0, []
     for one in ordered:

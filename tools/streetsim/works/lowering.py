@@ -18,7 +18,8 @@ OPEN = round(limits.SIZE * limits.CELL_METRES)  # metres that stay open where wo
 
 
 def limits_of(works: Iterable[Works], mapping: Map, kmh: int) -> list[Slow]:
-    """The lower limit along works on each edge; Fault where it cannot be had there."""
+    """The lower limit (kmh) along works, one for each edge. Fault where an edge has works on several stretches, another
+    lower limit already, or works that are too short for one."""
     stretches: defaultdict[str, dict[tuple[int, int], None]] = defaultdict(dict)
     known = {text.partition(":")[0] for text in mapping.options.get("slow", ())}
     for one in works:
@@ -38,19 +39,20 @@ def limits_of(works: Iterable[Works], mapping: Map, kmh: int) -> list[Slow]:
 
 
 def edge_of(works: Works, mapping: Map) -> str:
-    """The edge of works whose lane the map has."""
+    """The edge of works; the map must have their lane."""
     place = mapping.place_of(works.lane)
     assert place is not None
     return mapping.links[place[0]].edge
 
 
 def parts_on(slow: Slow, mapping: Map) -> list[Part]:
-    """The parts of an edge with a lower limit; mapping: of the whole edges."""
+    """The parts that an edge with a lower limit is cut into; mapping: from before the cut."""
     return parts_of(slow, mapping.links[mapping.links_of[slow.edge][0]].metres)
 
 
 def moved(works: Iterable[Works], slow: Sequence[Slow], mapping: Map) -> Iterator[Works]:
-    """The works on the parts of their edges, where they begin and where they go on; mapping: of the whole edges."""
+    """The works on the parts of their edges: each as one that begins before the limit, and one that goes on along it.
+    mapping: from before the cut."""
     limited = {one.edge: one for one in slow}
     for one in works:
         limit = limited[edge_of(one, mapping)]
@@ -60,7 +62,7 @@ def moved(works: Iterable[Works], slow: Sequence[Slow], mapping: Map) -> Iterato
 
 
 def told_of_limits(slow: Iterable[Slow], mapping: Map) -> Iterator[str]:
-    """Says which limit holds where; mapping: of the whole edges."""
+    """Says, a text each, which limit holds where; mapping: from before the cut."""
     for one in slow:
         parts = parts_on(one, mapping)
         part = next(part for part in parts if part.slow)

@@ -11,8 +11,8 @@ CLOSING = ("close", "reopen")
 
 @dataclass(slots=True)
 class Closed:
-    """A link of two lanes with works. closed: cells that others closed, by lane; due: the clock at which its lanes are
-    to be looked at next."""
+    """A link of two lanes with works. closed: cells that others than merging closed, by lane; due: the clock at which
+    its lanes are to be looked at next."""
 
     merging: Merging
     closed: Cells = field(default_factory=no_cells)
@@ -20,21 +20,22 @@ class Closed:
 
 
 class Merges:
-    """Who drives the simulator sends what `before` says ahead of each close and reopen, tells `done` of it, and at each
-    clock that `next` names what stands on the lanes of `due`."""
+    """Merging on all links of two lanes that have works. Its user sends what before gives ahead of each close and
+    reopen, calls done after it, and at each clock that next names calls told for the links of due."""
 
     def __init__(self, cells: Mapping[int, int]) -> None:
-        """cells: of each link of two lanes on which vehicles are to merge; others are left alone."""
+        """cells: by link, for each link of two lanes on which vehicles are to merge; other links are left alone."""
         self.cells = cells
         self.links: dict[int, Closed] = {}
 
     def before(self, command: Command) -> list[Command]:
-        """What goes before a command of others, so that nothing of its own is in the way."""
+        """The commands to send ahead of a command of others, so that no closure of merging is in its way; empty for
+        commands that close and reopen nothing here."""
         closed = self.links.get(command["link"]) if command["cmd"] in CLOSING else None
         return [change.on(command["link"]) for change in closed.merging.end()] if closed else []
 
     def done(self, clock: int, command: Command) -> None:
-        """Notes a command of others that was done at a clock."""
+        """Notes a command of others that was sent at a clock; commands other than close and reopen are passed over."""
         if command["cmd"] not in CLOSING or command["link"] not in self.cells:
             return
         link: int = command["link"]
@@ -50,19 +51,19 @@ class Merges:
             del self.links[link]
 
     def end(self) -> list[Command]:
-        """What to send so that nothing is closed but what others closed, until it is told again."""
+        """The commands to send so that only what others closed stays closed; merging goes on when it is told again."""
         return [change.on(link) for link, one in self.links.items() for change in one.merging.end()]
 
     def next(self) -> int | None:
-        """The clock at which lanes are to be looked at next; none where no such link has works."""
+        """The clock at which lanes are to be looked at next; None where no link has works."""
         return min((one.due for one in self.links.values()), default=None)
 
     def due(self, clock: int) -> list[int]:
-        """The links whose lanes are to be looked at now."""
+        """The links whose lanes are to be looked at by a clock."""
         return [link for link, one in self.links.items() if one.due <= clock]
 
     def told(self, clock: int, link: int, lanes: tuple[Lane, Lane]) -> list[Command]:
-        """What to send before the next step, by what stands at a clock on both lanes of a link that is due."""
+        """The commands to send before the next step, by the replies on both lanes of a link that is due."""
         one = self.links[link]
         changes = one.merging.told(clock, [side_of(lane) for lane in lanes])
         one.due = clock + one.merging.seconds()
@@ -70,5 +71,5 @@ class Merges:
 
 
 def side_of(lane: Lane) -> Side:
-    """A lane's reply, as `Merging` takes it."""
+    """A lane's reply in the form that Merging takes."""
     return Side([Seen(*entry) for entry in lane.cells], lane.closed)

@@ -44,12 +44,13 @@ class Seen:
         return self.cell - self.size + 1
 
     def covers(self) -> range:
+        """The cells that it takes, from its rear to its front."""
         return range(self.rear, self.cell + 1)
 
 
 @dataclass(slots=True, frozen=True)
 class Side:
-    """A lane of the link: its vehicles, the one with the greatest cell first, and what is closed."""
+    """One lane of the link: its vehicles, the one with the greatest cell first, and the stretches that are closed."""
 
     vehicles: Sequence[Seen]
     closed: Sequence[Stretch]
@@ -65,7 +66,7 @@ class Change:
     last: int
 
     def on(self, link: int) -> dict[str, str | int]:
-        """The command for a link."""
+        """The close or reopen command, for a link."""
         return {"cmd": self.command, "link": link, "lane": self.lane, "first": self.first, "last": self.last}
 
 
@@ -89,14 +90,14 @@ class Turn:
 
 @dataclass(slots=True)
 class Merging:
-    """One link of two lanes."""
+    """Merging on one link of two lanes."""
 
     cells: int  # of the link
     held: Cells = field(default_factory=no_cells)  # what it has closed
     turns: dict[tuple[int, int], Turn] = field(default_factory=dict)  # by lane and first cell of the works
 
     def told(self, clock: int, sides: Sequence[Side]) -> list[Change]:
-        """What to send before the next step, by what stands on both lanes at a clock; sides: by lane."""
+        """What to close and reopen before the next step, by what stands on both lanes at a clock; sides: by lane."""
         wanted = no_cells()
         known, self.turns = self.turns, {}
         for place in self.places([side.closed for side in sides]):
@@ -108,16 +109,18 @@ class Merging:
         return self.changes(wanted)
 
     def seconds(self) -> int:
-        """In how many seconds it is to be told again."""
+        """In how many seconds it must be told again: 1 while a lane is held, else EVERY."""
         return 1 if any(turn.held for turn in self.turns.values()) else EVERY
 
     def end(self) -> list[Change]:
-        """What to send so that nothing of its own is closed: before any other close or reopen on the link."""
+        """What to reopen so that nothing of its own stays closed; needed before any other close or reopen on the
+        link."""
         self.turns = {}
         return self.changes(no_cells())
 
     def places(self, closed: Sequence[Iterable[Stretch]]) -> Iterator[Place]:
-        """Where one may merge; works are what is closed on the lanes, but for its own; closed: stretches by lane."""
+        """The places where vehicles may merge; closed: all closed stretches by lane. Works are what is closed but for
+        what it has closed itself."""
         works = [cells_of(closed[lane]) - self.held[lane] for lane in (0, 1)]
         for lane in (0, 1):
             low = 0
@@ -128,7 +131,7 @@ class Merging:
                 low = last + 1
 
     def changes(self, wanted: Cells) -> list[Change]:
-        """What to send so that it has closed what is wanted and nothing else; notes it as done."""
+        """What to close and reopen so that of its own just the wanted cells are closed; they count as done."""
         opened = [Change("reopen", lane, *one) for lane in (0, 1) for one in stretches(self.held[lane] - wanted[lane])]
         shut = [Change("close", lane, *one) for lane in (0, 1) for one in stretches(wanted[lane] - self.held[lane])]
         self.held = wanted
@@ -136,7 +139,7 @@ class Merging:
 
 
 def take(turn: Turn, clock: int, place: Place, sides: Sequence[Side]) -> None:
-    """Begins or ends the hold of a place, by what stands on both lanes at a clock."""
+    """Begins or ends the hold of the other lane at a place, by what stands on both lanes at a clock; changes turn."""
     before = [one for one in sides[place.lane].vehicles if place.low <= one.cell < place.first]
     first = before[0] if before else None
     head = first.car if first and first.speed == 0 and first.cell >= place.first - NEAR else None
@@ -155,11 +158,12 @@ def take(turn: Turn, clock: int, place: Place, sides: Sequence[Side]) -> None:
 
 
 def cells_of(stretches: Iterable[Stretch]) -> set[int]:
+    """All cells of some stretches."""
     return {cell for first, last in stretches for cell in range(first, last + 1)}
 
 
 def stretches(cells: Collection[int]) -> list[Stretch]:
-    """Cells as whole stretches, in order."""
+    """Cells as unbroken stretches (first, last), in rising order."""
     firsts = sorted(cell for cell in cells if cell - 1 not in cells)
     lasts = sorted(cell for cell in cells if cell + 1 not in cells)
     return list(zip(firsts, lasts, strict=True))

@@ -29,7 +29,7 @@ Times = tuple[int, int]  # first and last second
 
 @dataclass(slots=True, frozen=True)
 class Lost:
-    """A movement that loses its lanes."""
+    """A movement whose lanes are all closed by works."""
 
     way: Way
     lanes: tuple[Place, ...]  # from which SUMO's network lets one turn, all closed
@@ -37,12 +37,13 @@ class Lost:
     vehicles: int  # that come while the works last
 
     def is_joint(self) -> bool:
-        """Whether it is led from the other lane of its link."""
+        """Whether those who turn are led from the other lane of the same link."""
         return bool(self.others) and self.others[0][0] == self.lanes[0][0]
 
 
 def lost_movements(run: Run, mapping: Map, closures: Iterable[Closure]) -> list[Lost]:
-    """The movements that vehicles of the run take while works reach the end of all lanes that lead there."""
+    """The movements, with how many vehicles of the run take them meanwhile, all of whose lanes works close to their
+    end. Movements that nobody takes then are left out."""
     ended, added = closed_ends(closures, mapping), lanes_of(mapping, True)
     found = []
     for way, times in lost_ways(ended, mapping).items():
@@ -54,12 +55,13 @@ def lost_movements(run: Run, mapping: Map, closures: Iterable[Closure]) -> list[
 
 
 def closures_at(sites: Iterable[Site]) -> list[Closure]:
-    """What works close, and when."""
+    """What works on sites close, and when."""
     return [Closure(site.link, site.lane, *site.cells, site.works.first, site.works.last) for site in sites]
 
 
 def closed_ends(closures: Iterable[Closure], mapping: Map) -> dict[Place, list[Times]]:
-    """When lanes are closed so near to their end that nobody can come back to them behind the works."""
+    """By lane, (link, lane), the (first, last) seconds in which it is closed so near to its end that nobody can come
+    back to it behind the works."""
     found: defaultdict[Place, list[Times]] = defaultdict(list)
     for one in closures:
         if mapping.links[one.link].cells - 1 - one.last < BEHIND:
@@ -68,7 +70,8 @@ def closed_ends(closures: Iterable[Closure], mapping: Map) -> dict[Place, list[T
 
 
 def lanes_of(mapping: Map, added: bool) -> dict[Way, set[Place]]:
-    """The lanes from which each movement starts, by turns of SUMO's network or by those that were added to it."""
+    """The lanes, (link, lane), from which each movement starts: by turns that SUMO's network has (added False), or by
+    turns that were added to it (added True)."""
     found: defaultdict[Way, set[Place]] = defaultdict(set)
     for turn in mapping.turns:
         if turn.added == added:
@@ -77,7 +80,8 @@ def lanes_of(mapping: Map, added: bool) -> dict[Way, set[Place]]:
 
 
 def lost_ways(ended: Mapping[Place, Sequence[Times]], mapping: Map) -> dict[Way, list[Times]]:
-    """The movements that start from closed ends alone, and when; but for edges that are closed on all lanes."""
+    """By movement the (first, last) seconds in which all its lanes are closed at their end; ended: as closed_ends gives
+    it. Edges that are closed on all lanes are left out."""
     found = {}
     for way, lanes in lanes_of(mapping, False).items():
         links = mapping.links_of[way[0]]
@@ -89,7 +93,7 @@ def lost_ways(ended: Mapping[Place, Sequence[Times]], mapping: Map) -> dict[Way,
 
 
 def in_common(times: Iterable[Sequence[Times]]) -> Iterator[Times]:
-    """The times that are in one of each."""
+    """The (first, last) seconds that lie in one of the times of each list."""
     for together in product(*times):
         first, last = max(first for first, _ in together), min(last for _, last in together)
         if first < last:
@@ -97,13 +101,15 @@ def in_common(times: Iterable[Sequence[Times]]) -> Iterator[Times]:
 
 
 def coming_on(way: Way, run: Run, mapping: Map, first: int, last: int) -> int:
-    """How many vehicles would come to an edge between two seconds and go on to the next, were nobody in their way."""
+    """How many vehicles would come to the movement's edge between two seconds, and go on to its next edge, if nobody
+    were in their way."""
     pairs = product(*(mapping.links_of[edge] for edge in way))
     return sum(coming(run, mapping, pair, first, last) for pair in pairs)
 
 
 def told_of(lost: Iterable[Lost], mapping: Map, how: str, searched: bool = False) -> Iterator[str]:
-    """What is said of each; how: of LOST; searched: whether ways round are searched where the movement is barred."""
+    """What is said of each lost movement, a text each. how: of LOST; searched: whether ways round are searched where it
+    is barred."""
     for one in lost:
         lanes = some([mapping.lane_name(*lane) for lane in one.lanes])
         only = "the only lane" if len(one.lanes) == 1 else "the only lanes"
@@ -112,7 +118,7 @@ def told_of(lost: Iterable[Lost], mapping: Map, how: str, searched: bool = False
 
 
 def done_with(one: Lost, mapping: Map, how: str, searched: bool) -> str:
-    """What those do who lose their lane."""
+    """What those do who lose their lane, as the end of a sentence; how, searched: as of told_of."""
     if how == "lead" and one.others:
         beside = mapping.lane_name(*min(one.others, key=partial(apart, one.lanes[0], mapping)))
         time = "from which all may turn in the whole run" if one.is_joint() else "for that time alone"
@@ -125,13 +131,14 @@ def done_with(one: Lost, mapping: Map, how: str, searched: bool) -> str:
 
 
 def apart(place: Place, mapping: Map, other: Place) -> int:
-    """How many lanes of an edge lie between two of them."""
+    """How far apart two lanes of an edge lie, in places of SUMO's indexes."""
     one, beside = (mapping.links[link].lanes[lane] for link, lane in (place, other))
     return abs(one - beside)
 
 
 def waiting(run: Run, mapping: Map, lost: Iterable[Lost]) -> Run:
-    """The run without the turns by which those who lose their lane would be led from the one beside on its link."""
+    """The run without the turns by which those who lose their lane would be led from the lane beside on their link, so
+    that they wait; the same run where there are no such turns."""
     left = {(place, one.way[1]) for one in lost if one.is_joint() for place in one.others}
     turns = ((turn, mapping.links[turn.next].edge) for turn in mapping.turns)
     gone = {(turn.link, turn.lane, turn.next) for turn, edge in turns if ((turn.link, turn.lane), edge) in left}
@@ -144,7 +151,7 @@ def waiting(run: Run, mapping: Map, lost: Iterable[Lost]) -> Run:
 
 
 def without(line: Line, gone: Collection[Turn]) -> Line:
-    """A line in which no signal shows green for turns that are gone; other lines stay."""
+    """A line in which no signal shows green for turns that are gone; lines of other commands stay as they are."""
     if line.command["cmd"] != "signal":
         return line
     kept = partial(filter, lambda turn: tuple(turn[:3]) not in gone)
@@ -153,5 +160,5 @@ def without(line: Line, gone: Collection[Turn]) -> Line:
 
 
 def rewritten(line: Line, command: Command) -> Line:
-    """A line of the same number with another command."""
+    """A line of the same number, with another command."""
     return replace(line, command=command, text=json.dumps(command, separators=(",", ":")))

@@ -11,8 +11,8 @@ APART = 10  # cells: further up nobody belongs to the queue
 
 @dataclass(slots=True, frozen=True)
 class Streets:
-    """What lies upstream of each link. scale: metres of a cell; before: by link those with a turn to it, and the lanes
-    from which it leads."""
+    """What lies upstream of each link, by its number. scale: metres of a cell; before: the links with a turn to it,
+    each with the lanes from which the turn leads."""
 
     cells: tuple[int, ...]
     scale: tuple[float, ...]
@@ -42,8 +42,9 @@ class Reach:
 
 @dataclass(slots=True, frozen=True)
 class Piece:
-    """A link that the queue may reach, from a cell upstream. last: where the last stands so far, in cells of this link;
-    behind: metres from its cell `end` to the works."""
+    """A link that the queue may reach, seen from a cell upstream of the works. end: the cell before which vehicles
+    count; last: where the last one stands so far, in cells of this link; behind: metres from its cell end to the
+    works."""
 
     link: int
     lanes: Collection[int]
@@ -53,8 +54,9 @@ class Piece:
 
 
 def reach_of(lanes: Mapping[Place, Lane], streets: Streets, link: int, first: int) -> Reach:
-    """The queue before works that begin in a cell of a link: all who stand, each at most APART cells behind the one
-    before it, on lanes from which one comes there; lanes: what was seen, of the link and of those upstream."""
+    """The queue before works that begin in the cell first of a link: all who stand, each at most APART cells behind the
+    one before it, on lanes from which one comes to the works. lanes: replies on the lanes of the link and of those
+    upstream."""
     found, known = Reach(), {link}
     pieces = [Piece(link, range(len(lanes)), first, first, 0.0)]
     while pieces:
@@ -73,8 +75,7 @@ def reach_of(lanes: Mapping[Place, Lane], streets: Streets, link: int, first: in
 
 
 def along(piece: Piece, lanes: Mapping[Place, Lane], scale: float, found: Reach) -> int:
-    """Adds who stands on a link to a queue that is found so far; gives the cell of the last one; scale: metres of a
-    cell."""
+    """Adds those who stand on a piece to the queue found; gives the cell of the last one. scale: metres of a cell."""
     last = piece.last
     for cell, speed, size in vehicles_of(piece, lanes):
         if last - cell > APART:
@@ -88,7 +89,8 @@ def along(piece: Piece, lanes: Mapping[Place, Lane], scale: float, found: Reach)
 
 
 def vehicles_of(piece: Piece, lanes: Mapping[Place, Lane]) -> Iterable[tuple[int, int, int]]:
-    """(cell, speed, size) of those on a piece before its end, the one with the greatest cell first."""
+    """(cell, speed in cells a step, size in cells) of the vehicles on a piece before its end, the greatest cell
+    first."""
     seen = [lanes[piece.link, lane].cells for lane in piece.lanes if (piece.link, lane) in lanes]
     found = [(cell, speed, size[0] if size else 1) for cells in seen for _, cell, speed, *size in cells]
     return sorted((one for one in found if one[0] < piece.end), reverse=True)

@@ -35,8 +35,8 @@ NEAR = 150  # metres of an edge before works on a lane to its end, up to which w
 
 @dataclass(slots=True, frozen=True)
 class Asking:
-    """What a run with works is asked for beside them. others: lanes and edges that are to be joint as well, as if they
-    had works; lost: what those do who lose their only lane, of movements.LOST."""
+    """What else a run with works is asked for. others: lanes and edges that are to be joint as well, as if they had
+    works; lost: what those do who lose their only lane, of movements.LOST."""
 
     others: Collection[str] = ()
     lost: str = "lead"
@@ -46,7 +46,8 @@ class Asking:
 def with_works(
     run: Run, mapping: Map, map_path: FilePath, works: list[Works], asking: Asking = Asking()
 ) -> tuple[Run, Map, list[str]]:
-    """The run and its map with works, and what there is to say."""
+    """The run and its map with works, and the texts to tell. They are imported anew where lanes must be joint or edges
+    cut; Fault where that cannot be done."""
     told: list[str] = []
     if asking.limit and works:
         slow = limits_of(works, mapping, asking.limit)
@@ -70,8 +71,8 @@ def with_works(
 
 
 def closed(run: Run, mapping: Map, works: list[Works], how: str, searched: bool = False) -> tuple[Run, Map, list[str]]:
-    """The run with works on a map whose lanes are joint where they must be, that same map, and what is said of those
-    who lose their only lane. how: of movements.LOST; searched: whether their ways are searched."""
+    """The run with works on a map whose lanes are joint where they must be, the same map, and the texts on those who
+    lose their only lane. how: of movements.LOST; searched: whether ways round are searched for them."""
     sites = sites_of(works, mapping)
     closures = closures_at(sites)
     lost = lost_movements(run, mapping, closures)
@@ -83,15 +84,15 @@ def closed(run: Run, mapping: Map, works: list[Works], how: str, searched: bool 
 
 
 def lines_of(site: Site) -> Iterator[tuple[int, Line]]:
-    """The timed lines of works."""
+    """The timed lines of works, (clock, line): a close and a reopen."""
     place = {"link": site.link, "lane": site.lane, "first": site.cells[0], "last": site.cells[1]}
     for clock, name in ((site.works.first, "close"), (site.works.last, "reopen")):
         yield clock, Line(0, json.dumps({"cmd": name, **place}), {"cmd": name, **place})
 
 
 def shut_links(sites: list[Site], mapping: Map) -> dict[int, list[tuple[int, int]]]:
-    """The times in which all lanes of a link are closed at one place, {link: [(first second, last second)]}, of links
-    alone that are."""
+    """The (first, last) seconds in which all lanes of a link are closed at one place, by link; links that are not
+    closed on all lanes are left out."""
     on_lane = defaultdict(list)
     for site in sites:
         on_lane[site.link, site.lane].append(site)
@@ -107,8 +108,8 @@ def shut_links(sites: list[Site], mapping: Map) -> dict[int, list[tuple[int, int
 
 
 def parallel_names(names: Iterable[str], mapping: Map) -> list[str]:
-    """Those of some names of edges and lanes that are to be joint and whose edges are several links; Fault where the
-    map has no such name, or its edge has one lane."""
+    """Those of some names of edges and lanes, to be joint, whose edges are several links and that are not joint yet.
+    Fault where the map has no such name, or the edge has one lane."""
     found, known = [], mapping.options.get("joint", ())
     for name in dict.fromkeys(names):
         if name not in mapping.links_of and mapping.place_of(name) is None:
@@ -122,15 +123,16 @@ def parallel_names(names: Iterable[str], mapping: Map) -> list[str]:
 
 
 def lanes_to_join(works: Iterable[Works], mapping: Map) -> list[str]:
-    """The lanes with works of edges where a link is shut that has others beside it, but for those that are joint, and
-    for those whose vehicles need not merge."""
+    """The lanes with works that must be joint with the lane beside: of edges where one link is shut and others stay
+    open, but for lanes that are joint already, and for those of lanes_to_lead."""
     apart = lanes_to_lead(works, mapping)
     return [site.works.lane for site in in_the_way(works, mapping) if site.works.lane not in apart]
 
 
 def lanes_to_lead(works: Iterable[Works], mapping: Map) -> list[str]:
-    """Of the lanes that would be joint those that works close to their end from near the begin of the edge on, where a
-    movement has no other lane: who turns there can be led over the links beside from the begin of the edge."""
+    """Those lanes with works whose vehicles can be led over the links beside from the begin of the edge on, so that
+    they need not be joint: works close them to their end, from at most NEAR metres on, and a movement has no other
+    lane."""
     works = list(works)
     sites = in_the_way(works, mapping)
     ended = closed_ends(closures_at(sites_of(works, mapping)), mapping)
@@ -140,7 +142,8 @@ def lanes_to_lead(works: Iterable[Works], mapping: Map) -> list[str]:
 
 
 def in_the_way(works: Iterable[Works], mapping: Map) -> list[Site]:
-    """Works on edges where a link is shut that has others beside it, each lane once, but for lanes that are joint."""
+    """The works, one for each lane, on edges where a link is shut and others stay open; lanes that are joint already
+    are left out."""
     sites = sites_of(works, mapping)
     edges = {mapping.links[link].edge for link in shut_links(sites, mapping)}
     known = mapping.options.get("joint", ())
@@ -154,8 +157,8 @@ def in_the_way(works: Iterable[Works], mapping: Map) -> list[Site]:
 
 
 def why_parallel(mapping: Map, lane: str) -> str | None:
-    """Why a lane, by SUMO's name, cannot be closed as the map is: nobody could change to the lane beside it. None where
-    it can; ValueError where the map does not have it."""
+    """Why a lane, by SUMO's name, cannot be closed with the map as it is: nobody could change to the lane beside it.
+    None where it can be closed; ValueError where the map does not have it."""
     place = mapping.place_of(lane)
     if place is None:
         raise ValueError(f"the map has no lane {lane!r}")
@@ -169,8 +172,8 @@ def why_parallel(mapping: Map, lane: str) -> str | None:
 
 
 def imported_anew(run: Run, mapping: Map, map_path: FilePath, **more: Iterable[str]) -> tuple[Run, Map]:
-    """The run and its map, imported anew with more in some options, as `options_again` has them. The sources are found
-    from the map's path; a Fault where they, or the run, have changed since."""
+    """The run and its map, imported anew with further values in some options (joint, led, slow). The files are found
+    from the map's path; Fault where they, or the run, are not as they were at the import."""
     sources = sources_of(mapping.sources, map_path, run.path)
     options = options_again(mapping, **more)
     with Slow(f"importing {sources.net} anew"):
@@ -182,7 +185,8 @@ def imported_anew(run: Run, mapping: Map, map_path: FilePath, **more: Iterable[s
 
 
 def named_in_parts(mapping: Map, anew: Map) -> Json:
-    """The names of streets and junctions of a map, and of the parts that its edges have in another."""
+    """The names of streets and junctions of a map, with the street's name for each part of a cut edge that the map
+    imported anew has."""
     own = mapping.names.get("edges", {})
     parts = {edge: own.get(edge.rpartition(".")[0]) for edge in anew.links_of if edge not in mapping.links_of}
     if not any(parts.values()):
@@ -192,7 +196,7 @@ def named_in_parts(mapping: Map, anew: Map) -> Json:
 
 @contextmanager
 def imported_for(what: str, why: str) -> Iterator[None]:
-    """Has a fault of an import say what it is for; why: it is needed, and what else could be done."""
+    """Has a Fault of an import name what it was for. why: a text with a place for the fault; empty: the usual words."""
     try:
         yield
     except Fault as fault:
@@ -200,7 +204,7 @@ def imported_for(what: str, why: str) -> Iterator[None]:
 
 
 def joined_by(names: Sequence[str]) -> str:
-    """Why lanes, or edges, need an import, and by which words one is made."""
+    """Why lanes or edges need an import, and with which words the user makes one; a text with a place for the fault."""
     return (
         "nobody changes lane between the parallel links of an edge, so its lanes must be joint, which needs the import "
         f"anew: {{}}. Run streetsim-import with --joint {','.join(names)}"
@@ -208,13 +212,13 @@ def joined_by(names: Sequence[str]) -> str:
 
 
 def edges_of(names: Iterable[str], mapping: Map) -> set[str]:
-    """The edges of names of edges and lanes."""
+    """The edges of some names, each of an edge or of a lane."""
     return {name if name in mapping.links_of else name.rpartition("_")[0] for name in names}
 
 
 def round_works(run: Run, mapping: Map, shut: dict, stay: Collection[Way] = ()) -> Run:
-    """The run where who may come to a shut link takes another one of its edge; shut: as `shut_links` gives it; stay:
-    movements for which nobody does."""
+    """The run in which vehicles that may come to a shut link while it is shut take another link of its edge. shut: as
+    shut_links gives it; stay: movements for which nobody changes to added turns."""
     ways: defaultdict[tuple[int, int], list[int]] = defaultdict(list)
     use: Counter[int] = Counter()
     enters = list(run.enters)
@@ -235,8 +239,9 @@ def round_works(run: Run, mapping: Map, shut: dict, stay: Collection[Way] = ()) 
 
 
 def plan_round(command: dict, mapping: Map, shut: dict, ways: dict, use: Counter, free_flow: FreeFlow) -> list[int]:
-    """A plan that takes other links of the same edges where an enter command's may come to a shut one meanwhile. ways:
-    the lanes of each turn, by (link, next link); use: how many were led over each link, which it counts on."""
+    """The plan of an enter command, with other links of the same edges in place of links that are shut when it may
+    come. ways: the lanes of each turn, by (link, next link); use: how many were led over each link so far, which it
+    counts on."""
     plan = list(command["plan"])
     for at, link in enumerate(plan):
         soonest, latest = free_flow(plan[:at]), 2 * free_flow(plan[: at + 1]) + LATE
@@ -257,7 +262,7 @@ def plan_round(command: dict, mapping: Map, shut: dict, ways: dict, use: Counter
 
 
 def all_closed(run: Run, mapping: Map, shut: dict) -> Iterator[str]:
-    """Says where an edge is closed on all its lanes, as nobody takes another way."""
+    """Says, a text each, where all lanes of an edge are closed at once: nobody takes another way."""
     for edge in dict.fromkeys(mapping.links[link].edge for link in shut):
         links = mapping.links_of[edge]
         if all(link in shut for link in links):

@@ -1,4 +1,4 @@
-"""What is seen before the works of a run: who passes, how long they take, how far the queue reaches, who stands."""
+"""What is seen before the works of a run: who passes and how late, how far the queue reaches, who stands."""
 from collections.abc import Callable, Iterable, Iterator, Mapping, Sequence
 from dataclasses import dataclass, field
 
@@ -57,7 +57,7 @@ class Stand:
 
 @dataclass(slots=True)
 class Watched:
-    """One place of works."""
+    """What was seen before one place of works, look by look."""
 
     closure: Closure
     streets: Streets
@@ -73,7 +73,8 @@ class Watched:
     last: int | None = None  # look
 
     def further(self, lanes: Mapping[Place, Lane]) -> list[int]:
-        """The links upstream whose lanes are to be looked at too, by what was seen of the others."""
+        """The links upstream whose lanes must be looked at too, by what the lanes so far show; empty where the queue
+        does not reach them, or MOST_LINKS are looked at."""
         known = {link for link, _ in lanes}
         reach = reach_of(lanes, self.streets, self.closure.link, self.closure.first)
         feeders = [feeder for link in reach.full for feeder in self.streets.before.get(link, ())]
@@ -81,14 +82,16 @@ class Watched:
         return [one for one in dict.fromkeys(feeders) if one not in known][:room] if reach.vehicles else []
 
     def look(self, clock: int, lanes: Mapping[Place, Lane], bound: Bound) -> None:
-        """Notes what stands on the lanes of the link and of those upstream that the queue reaches."""
+        """Notes what the lanes of the link, and of those upstream that the queue reaches, show at a clock. bound:
+        whether a car has a link in its plan."""
         self.note_passing(clock, lanes, bound)
         self.note_standing(clock, lanes)
         self.note_queue(clock, reach_of(lanes, self.streets, self.closure.link, self.closure.first))
         self.last = clock
 
     def note_passing(self, clock: int, lanes: Mapping[Place, Lane], bound: Bound) -> None:
-        """Notes who has passed the works' begin since the look before, and who is on the way to it."""
+        """Notes who has passed the begin of the works since the look before, with its delay in seconds, and who is on
+        the way to it."""
         before, beyond = self.sights(lanes)
         looked = {link for link, _ in lanes}
         gone = [car for car, one in self.coming.items() if car not in before and one.link in looked]
@@ -105,7 +108,7 @@ class Watched:
                 self.coming[car] = Coming(clock, sight.free, sight.link)
 
     def sights(self, lanes: Mapping[Place, Lane]) -> tuple[dict[int, Sight], set[int]]:
-        """Those before the works, by car, and the cars on the link past their begin."""
+        """(the vehicles before the works, by car; the cars on the link past their begin)."""
         link, first = self.closure.link, self.closure.first
         to_works = first * self.pace[link]
         before: dict[int, Sight] = {}
@@ -122,7 +125,7 @@ class Watched:
         return before, beyond
 
     def note_standing(self, clock: int, lanes: Mapping[Place, Lane]) -> None:
-        """Notes who stands before the works, on their link, and since when."""
+        """Notes who stands before the works on their link, and for how long."""
         link, first = self.closure.link, self.closure.first
         now = [
             (car, lane, cell)
@@ -135,7 +138,8 @@ class Watched:
         self.long.update(car for (car, *_), since in self.standing.items() if clock - since > LONG)
 
     def note_queue(self, clock: int, reach: Reach) -> None:
-        """Notes how far the queue reaches, and whether it leaves the network."""
+        """Notes how far the queue reaches, and whether it has left the network: it reaches the begin of a link to which
+        nothing leads."""
         seconds = clock - (self.closure.begin if self.last is None else self.last)
         self.queues.append(Queue(clock, seconds, reach.metres))
         if reach.vehicles and self.left is None and any(link not in self.streets.before for link in reach.full):
@@ -143,7 +147,8 @@ class Watched:
 
 
 def in_runs(told: Sequence[Sequence[str]]) -> Iterator[str]:
-    """What was seen before works by several runs, the texts of each: in how many, in the words of the first one."""
+    """One text on what was seen before works in several runs: in how many of them, with the texts of the first such
+    run. told: the texts of each run. Nothing where no run has any."""
     doubted = [one for one in told if one]
     if doubted:
         where = f"in {len(doubted):,} of {len(told):,} runs " if len(told) > 1 else ""
@@ -151,7 +156,7 @@ def in_runs(told: Sequence[Sequence[str]]) -> Iterator[str]:
 
 
 def doubts_of(watched: Iterable[Watched], mapping: Map) -> Iterator[str]:
-    """What speaks against a run, by what was seen before its works."""
+    """What speaks against a run, by what was seen before its works, a text each."""
     for one in watched:
         name = mapping.lane_name(one.closure.link, one.closure.lane)
         if one.long:
