@@ -24,7 +24,7 @@ class Stretch(NamedTuple):
 
 
 class Spot(NamedTuple):
-    """Where a detector lies: on a lane, so many metres from its begin."""
+    """Where a detector lies: on a lane; metres: from the lane's begin."""
 
     lane: str
     metres: float
@@ -98,8 +98,8 @@ def shortest_greens(layout: Layout, phases: Sequence[Phase]) -> dict[str, int]:
 
 
 def spot_before(stretches: Iterable[Stretch], metres: float) -> Spot:
-    """The spot so many metres before the end of the first stretch, going back over the others; at the begin of the last
-    one where they are shorter together. stretches: the lane at the light first."""
+    """The spot that lies `metres` before the end of the first stretch, going back over the others; at the begin of the
+    last one where they are shorter together. stretches: the lane at the light first."""
     spot = Spot("", 0.0)
     for stretch in stretches:
         spot = Spot(stretch.lane, max(0.0, stretch.metres - metres))

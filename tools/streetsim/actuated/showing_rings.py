@@ -105,6 +105,6 @@ def cycle_of(rings: Rings, seconds: dict[int, int]) -> list[str]:
 
 
 def times_of(phase: RingPhase, green: int) -> Times:
-    """A phase second by second, green for so many, then yellow and red: itself, and its stage."""
+    """A phase second by second, (itself, its stage): `green` seconds green, then its yellow and red."""
     stages = [(GREEN, green), (YELLOW, round(phase.yellow)), (RED, round(phase.red))]
     return [(phase, stage) for stage, seconds in stages for _ in range(seconds)]

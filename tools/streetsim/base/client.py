@@ -268,9 +268,10 @@ def words_of(program: str, calls: int = 0, keep: str | PathLike[str] | None = No
 class Client:
     """One run of the program, over pipes. Methods raise what was refused; `batch` gives refusals as values.
 
-    The program is the one given, else the one that STREETSIM_PROGRAM names. Its calls have no end; with `calls` there
-    are so many, and later ones are refused as Full. With `keep` the session is kept in that file and goes on where it
-    was left there: what is loaded, and who is on the way. What a caller knows beside it is the caller's.
+    The program is the one given, else the one that STREETSIM_PROGRAM names. It takes calls without an end, or, with
+    `calls`, that number of them, and later ones are refused as Full. With `keep` the session is kept in that file and
+    goes on where it was left there: what is loaded, and who is on the way. What a caller knows beside it is the
+    caller's.
     """
 
     def __init__(
@@ -403,7 +404,7 @@ class Client:
         return self.ask("enter", plan=plan, lane=lane, depart=depart, **({} if size == 1 else {"size": size}))
 
     def advance(self, steps: int = 1) -> int:
-        """Makes so many steps, 0 to 10,000, of a second each, asking again for those that a short reply left, and gives
+        """Makes `steps` steps, 0 to 10,000, of a second each, asking again for those that a short reply left, and gives
         the clock."""
         reply = self.ask("advance", steps=steps)
         while isinstance(reply, Short):

@@ -116,8 +116,8 @@ def reading(path: FilePath) -> Iterator[None]:
 
 
 def elements(path: FilePath, roots: Collection[str] | None) -> Iterator[Element]:
-    """The children of the root of an XML file, each whole, one after another; each is emptied when the next one is
-    asked for. Fault where the root's tag is none of `roots`; none or no roots: any will do."""
+    """The children of the root of an XML file, each whole, one after another; the root keeps none of them, so that
+    large files need little memory. Fault where the root's tag is none of `roots`; none or no roots: any will do."""
     with reading(path), open_bytes(path) as file:
         depth = 0
         for event, element in ElementTree.iterparse(file, ("start", "end")):

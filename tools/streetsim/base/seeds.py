@@ -26,8 +26,8 @@ def seeds_of(text: str | int, name: str) -> range:
 
 
 def student(degrees: int) -> float:
-    """The quantile of Student's t at 97.5 % for so many degrees of freedom, from 1: of the table, and beyond it by the
-    first terms of its expansion about the normal one, which are exact to 0.001 there."""
+    """The quantile of Student's t at 97.5 % for a number of degrees of freedom, from 1: of the table, and beyond it by
+    the first terms of its expansion about the normal one, which are exact to 0.001 there."""
     if degrees <= len(STUDENT):
         return STUDENT[degrees - 1]
     z = NORMAL
@@ -35,8 +35,8 @@ def student(degrees: int) -> float:
 
 
 def half_width(deviation: float, runs: int) -> float:
-    """Half the width of the 95 % interval of a mean of so many runs (two at least), by their standard deviation, in its
-    unit."""
+    """Half the width of the 95 % interval of the mean of `runs` values, two at least; deviation: their standard
+    deviation. In the unit of this."""
     return student(runs - 1) * deviation / sqrt(runs)
 
 

@@ -264,6 +264,6 @@ def with_given(
 
 
 def refuse_none(ways: Sequence[Way]) -> None:
-    """Fault for a demand without any way."""
+    """Fault where a demand has no way at all."""
     if not ways:
         raise Fault("no way leads from any place where trips begin to one where they end")

@@ -48,13 +48,13 @@ class Folder:
         return tables.read_table(f"{self.path}/queues.csv", tables.QUEUES)
 
     def works(self) -> list[dict[str, str]]:
-        """The rows of works.csv, in the order of places and periods; Fault where the run had no works."""
+        """The rows of works.csv; Fault where the run had no works."""
         if not os.path.exists(f"{self.path}/{tables.WORKS_FILE}"):
             raise Fault(f"{self.path}: no works in this run (streetsim-run --close)")
         return tables.read_table(f"{self.path}/{tables.WORKS_FILE}", tables.WORKS)
 
     def stops(self) -> list[dict[str, str]]:
-        """The rows of stops.csv; Fault where no vehicle had a stop."""
+        """The rows of stops.csv; Fault where the run had no stops."""
         if not os.path.exists(f"{self.path}/{tables.STOPS_FILE}"):
             raise Fault(f"{self.path}: no stops of vehicles in this run")
         return tables.read_table(f"{self.path}/{tables.STOPS_FILE}", tables.STOPS)

@@ -53,8 +53,8 @@ class Alone:
 
 
 def seconds_alone(cells: int, limit: int, slower: float, speed: int) -> float:
-    """The mean steps of a vehicle that begins with a speed until it has left so many cells behind; limit, speed: cells
-    a step; slower: the chance to go on by a cell less."""
+    """The mean steps of a vehicle alone, which begins with a speed, until it has left `cells` cells behind; limit,
+    speed: cells a step; slower: the chance, 0 to 1, to go on by a cell less."""
     found = steps_by_cells(limit, slower)[min(speed, limit)]
     return found[min(cells, FAR)] + max(0, cells - FAR) / (limit - slower)
 

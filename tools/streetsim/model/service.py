@@ -39,6 +39,6 @@ def percentile(values: Iterable[float], share: float) -> float:
 
 
 def fills(queue: float, metres: float) -> bool:
-    """Whether a queue, in metres, fills an edge of so many metres: it leaves no room but the gap behind its last
-    vehicle."""
+    """Whether a queue, in metres, fills an edge, whose length is `metres`: it leaves no room but the gap behind its
+    last vehicle."""
     return queue >= metres - GAP_METRES - ROUNDED

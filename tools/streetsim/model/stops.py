@@ -28,7 +28,7 @@ class Visit:
 
 
 def why_unmade(visits: int) -> str:
-    """What a tool that makes no stops says of so many of them; empty where there are none."""
+    """What a tool that makes no stops says of them; visits: how many there are. Empty where there are none."""
     if not visits:
         return ""
     return f"{visits:,} stops of vehicles are not made: streetsim-run and streetsim-study make them"

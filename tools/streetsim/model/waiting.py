@@ -26,11 +26,11 @@ class Gap:
         return max(self.least, self.seconds - self.less * hourly / 1000)
 
     def across(self, lanes: int) -> Self:
-        """The gap for one who crosses a street of so many lanes, one at least."""
+        """The gap for one who crosses a street; lanes: of the street, one at least."""
         return self.longer(WIDER * (lanes - 1))
 
     def longer(self, more: float) -> Self:
-        """The gap with so many seconds more, whatever the flow."""
+        """The gap with `more` seconds added, whatever the flow."""
         return replace(self, seconds=self.seconds + more, least=self.least + more)
 
 

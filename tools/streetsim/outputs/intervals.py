@@ -83,8 +83,8 @@ class Edgedata(XmlFile):
         self.begin, self.sums = end, {}
 
     def row(self, edge: str, sums: EdgeSums, seconds: int) -> str:
-        """The attributes of an edge over an interval of so many seconds; speeds and densities are left out where nobody
-        was on it."""
+        """The attributes of an edge over an interval; seconds: its length. Speeds and densities are left out where
+        nobody was on it."""
         links = [self.links[link] for link in self.places.mapping.links_of[edge]]
         lanes, metres = sum(len(link.lanes) for link in links), links[0].metres
         seen = {}
@@ -133,7 +133,7 @@ class Detectors(XmlFile):
         raise NotImplementedError
 
     def row(self, one: Detector, sums: Sums, seconds: int) -> str:
-        """The attributes of an interval of so many seconds."""
+        """The attributes of an interval; seconds: its length."""
         raise NotImplementedError
 
     def step(self, second: Second) -> None:
@@ -200,7 +200,7 @@ class Loops(Detectors):
             sums.metres.append(vehicle_metres(last))
 
     def row(self, one: Detector, sums: LoopSums, seconds: int) -> str:
-        """The attributes of an e1's interval of so many seconds; -1 where nobody passed, as SUMO writes."""
+        """The attributes of an e1's interval; seconds: its length. -1 where nobody passed, as SUMO writes."""
         count = len(sums.speeds)
         return attributes(
             nVehContrib=count,
@@ -273,7 +273,7 @@ class Areas(Detectors):
             sums.interval_halts[car] = sums.interval_halts.get(car, 0) + 1
 
     def row(self, one: Detector, sums: AreaSums, seconds: int) -> str:
-        """The attributes of an e2's interval of so many seconds; -1 for means over nobody, as SUMO writes."""
+        """The attributes of an e2's interval; seconds: its length. -1 for means over nobody, as SUMO writes."""
         car_metres = self.places.cell_metres[one.link]
         halts = [halt for halt, _ in sums.ended] + list(sums.halts.values())
         within = [halt for _, halt in sums.ended] + list(sums.interval_halts.values())

@@ -16,7 +16,7 @@ Row = Mapping[str, str]
 
 def draw_greens(pyplot: Pyplot, folder: Folder, lights: Sequence[str]) -> Figure:
     """A panel for each of some lights, the first six where none is named: how long each of its greens lasted. Fault
-    where detectors drive no such light."""
+    where detectors drive none of that name."""
     rows = of_lights(folder, lights)
     figure, panels = pyplot.subplots(len(rows), figsize=(10, 1 + 2.6 * len(rows)), squeeze=False, sharex=True)
     names, mapping = Names(folder.mapping), folder.mapping

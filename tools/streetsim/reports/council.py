@@ -165,8 +165,8 @@ def groups_table(found: Costs) -> str:
 
 
 def worst_movements(movements: Sequence[Told], runs: Runs) -> list[str]:
-    """Sentences on the movement that waits longest, and with two plans on the one that loses most for sure; movements
-    of fewer than 20 vehicles an hour are passed over, and none is left: empty."""
+    """Sentences on the movement that waits longest, and with two plans on the one that loses most for sure. Movements
+    of fewer than 20 vehicles an hour are passed over; empty where no other is left."""
     names, busy = runs.names, [one for one in movements if one.row.values["vehicles_per_hour"] >= LEAST_HOURLY]
     if not busy:
         return []

@@ -259,7 +259,7 @@ def difference(first: Sequence[float], second: Sequence[float]) -> tuple[list[fl
 
 
 def round_length(metres: float) -> float:
-    """The greatest of 1, 2 or 5 times a power of ten that is at most so many metres, for a map's scale; metres: above
+    """The greatest length that is at most `metres` and 1, 2 or 5 times a power of ten, for a map's scale; metres: above
     0."""
     power = 10 ** floor(log10(metres))
     return next(times * power for times in (5, 2, 1) if times * power <= metres)
