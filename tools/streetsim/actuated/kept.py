@@ -10,7 +10,7 @@ from streetsim.base.files import Fault, Json
 from streetsim.sumo.net import Connection
 
 LONGEST = 1_000_000  # seconds of a green whose program gives no greatest length
-OFF = ("", "0", "false")  # values of a parameter that is not used
+OFF = ("", "0", "false")  # values by which a parameter is switched off
 
 
 class Listed(Fault):

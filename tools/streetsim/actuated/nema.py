@@ -31,7 +31,7 @@ class RingPhase:
     most: float
     extension: float  # how long its green stays after somebody was last on an area
     yellow: float
-    red: float  # of all signals, after yellow
+    red: float  # of all its signals, after yellow
     areas: tuple[int, ...]  # places of those that call and extend it
     least_recall: bool = True  # called always, for its least time
     most_recall: bool = False  # called always, for its greatest time

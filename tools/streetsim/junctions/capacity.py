@@ -12,7 +12,7 @@ QUEUES = 5  # discharges of a lane, from which on its own saturation flow is tak
 # Vehicles an hour that leave a queue of a lane at 50 km/h, by the chance of slowing down (of 1,000),
 # and seconds of green lost at its begin: measured in 40 greens each on a lone cross whose western arm is always full.
 BY_DAWDLE = ((0, 2400), (100, 1935), (170, 1760), (300, 1490))
-USUAL_LOST = -1.5  # seconds of each green; won, as some pass in yellow
+USUAL_LOST = -1.5  # seconds of each green; less than 0: won
 
 
 @dataclass(slots=True)

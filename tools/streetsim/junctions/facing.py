@@ -1,5 +1,5 @@
-"""Finds minor streets that face each other at a junction without a light, and wait for each other: their delays are not
-to be trusted."""
+"""Finds minor streets that face each other at a junction without a light, and wait for each other: the delays of both
+come out too small."""
 from collections import Counter, defaultdict
 from collections.abc import Iterable, Sequence
 from itertools import pairwise

@@ -79,7 +79,8 @@ class Waiting:
 
     @property
     def is_slow(self) -> bool:
-        """Whether it counts that those who give way follow each other more slowly than from a queue."""
+        """Whether those who give way follow each other more slowly than from a queue, so that it counts when they
+        themselves pass."""
         return self.pace is not None or any(foe.slow for foe in self.foes)
 
 

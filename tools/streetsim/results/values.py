@@ -11,8 +11,8 @@ class Traffic:
     """What was seen of an edge in an interval."""
 
     flow: float  # vehicles an hour that left the edge
-    density: float | None  # vehicles a kilometre, all lanes together; none where nothing was polled
-    speed: float | None  # km/h; none where nobody moved or nothing was polled
+    density: float | None  # vehicles a kilometre, all lanes together; none where it is not known
+    speed: float | None  # km/h; none where nobody moved or it is not known
 
 
 @dataclass(slots=True)

@@ -32,7 +32,7 @@ class Place:
     begin: int  # clock
     end: int  # clock
     vehicles: int  # that passed
-    capacity: str  # vehicles an hour, the least of the table's rows; empty where there is none
+    capacity: str  # vehicles an hour in the worst quarter hour with a queue; empty where there is none
     way: list[Stretch]
     lengths: dict[int, float]
     standing: list[tuple[int, float]]
