@@ -78,5 +78,4 @@ def interval(values: Sequence[float]) -> tuple[float, float | None]:
     """The mean of one or more values and half the width of its 95 % interval (none for one value)."""
     if len(values) < 2:
         return fmean(values), None
-    quantile = STUDENT[len(values) - 2] if len(values) - 2 < len(STUDENT) else 1.96
-    return fmean(values), quantile * stdev(values) / len(values) ** 0.5
+    return fmean(values), half_width(stdev(values), len(values))

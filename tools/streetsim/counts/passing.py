@@ -15,7 +15,6 @@ from streetsim.ways.graph import END, Graph
 from streetsim.ways.router import Path
 
 MOST_UNKNOWNS = 5_000_000
-MOST_SLICES = 500  # periods of departure
 
 
 @dataclass(frozen=True, slots=True)
