@@ -31,19 +31,21 @@ class Signals:
 
 
 class SignalEnv:
-    """The lights of a network as agents, of the words of SUMO's command line (without its name),
-    as `traci.start` takes them.
+    """The lights of a network as agents that choose their phases. words: of SUMO's command line without its name, as
+    `traci.start` takes them.
 
-    An action is the number of a green phase; where it is another one than now, and the present one was green for
-    `least` seconds, yellow is shown for `yellow` seconds first. A step has `every` seconds; after `seconds` of the run
-    its time is over. An observation of a light: which phase is green (a number for each, 0 or 1), whether it may be
-    changed, and for each lane before it the share of its room that vehicles take, and that standing ones do. A reward
-    is the fall of the time, in hundreds of seconds, that the vehicles before the light have waited.
+    An action is the number of a green phase. Where it differs from the present one, and that was green for `least`
+    seconds, yellow is shown for `yellow` seconds first. A step has `every` seconds; after `seconds` of the run its
+    time is over. An observation of a light: for each green phase 1 if it is shown, else 0; then 1 if the light may be
+    changed, else 0; then for each lane before it the share (0 to 1) of its room that vehicles take, and for each the
+    share that standing vehicles take. A reward is by how much the time that the vehicles before the light have waited
+    has fallen since the last reward, in hundreds of seconds.
     """
 
     def __init__(
         self, words: Sequence[str], every: int = 5, yellow: int = 3, least: int = 5, seconds: int = 3600
     ) -> None:
+        """ValueError where yellow is not from 1 to below every, least is below 0, or the run is shorter than a step."""
         if not 0 < yellow < every or least < 0 or seconds < every:
             raise ValueError("a step must be longer than yellow, and the run at least one step")
         self.words, self.every, self.yellow, self.least, self.seconds = list(words), every, yellow, least, seconds
@@ -52,15 +54,16 @@ class SignalEnv:
 
     @property
     def lights(self) -> list[str]:
-        """The names of the lights, once `reset` was called."""
+        """The names of the lights; empty before the first reset."""
         return list(self.signals)
 
     def actions(self, light: str) -> int:
-        """How many green phases a light has."""
+        """How many green phases a light has: actions are numbers from 0 to below that."""
         return len(self.signals[light].greens)
 
     def reset(self, seed: int | None = None) -> tuple[dict[str, Observation], dict]:
-        """Begins the run anew; equal seeds give equal runs."""
+        """Begins the run anew; equal seeds give equal runs, None: the seed of the words. Gives observations by light,
+        and figures."""
         self.close()
         words = self.words if seed is None else [*self.words, "--seed", str(seed)]
         self.session = open_session(words).follow()
@@ -71,10 +74,10 @@ class SignalEnv:
         return self.observations(), self.figures()
 
     def step(self, actions: Mapping[str, int]) -> tuple[dict[str, Observation], dict[str, float], bool, bool, dict]:
-        """Makes a step of `every` seconds. actions: the number of a green phase by light. A light that is not named
-        goes on as it is, as does one that was changed, or reset, less than `least` seconds ago; ValueError for a phase
-        that it does not have. Gives observations, rewards, whether nobody is left, whether the time is over, and
-        figures."""
+        """Makes a step of every seconds. actions: the number of a green phase by light; a light that is not named, or
+        was changed or reset less than least seconds ago, stays as it is. Gives observations and rewards by light,
+        whether no vehicle is left, whether the time is over, and figures. ValueError for a phase that a light does not
+        have."""
         session = self.running()
         changed = [name for name, action in actions.items() if self.choose(name, action)]
         for second in range(self.every):
@@ -90,7 +93,7 @@ class SignalEnv:
         return self.observations(), rewards, not self.left(), over, self.figures()
 
     def choose(self, name: str, action: int) -> bool:
-        """Shows yellow where a light is to change and may; gives whether it does. ValueError for an action that it does
+        """Shows yellow where a light is to change and may; gives whether it does. ValueError for a phase that it does
         not have."""
         one = self.signals[name]
         if not 0 <= action < len(one.greens):
@@ -104,25 +107,25 @@ class SignalEnv:
         return True
 
     def observations(self) -> dict[str, Observation]:
-        """What `observation` gives, by light."""
+        """The observation of each light, by name."""
         return {name: self.observation(one) for name, one in self.signals.items()}
 
     def observation(self, one: Signals) -> Observation:
-        """What the class says of a light."""
+        """The observation of one light, as SignalEnv describes it."""
         chosen = [float(at == one.now) for at in range(len(one.greens))]
         shares = [(self.share(lane, self.on(lane)), self.share(lane, self.standing(lane))) for lane in one.lanes]
         return [*chosen, float(one.since >= self.least), *(full for full, _ in shares), *(queue for _, queue in shares)]
 
     def reward(self, one: Signals) -> float:
-        """The fall of the time, in hundreds of seconds, that those before a light have waited, since the last one."""
+        """The reward of one light, as SignalEnv describes it; the next one is reckoned from now."""
         before = one.waited
         session = self.running()
         one.waited = sum(session.tally.waited.get(car, 0) for lane in one.lanes for car in self.on(lane)) / 100
         return before - one.waited
 
     def pressure(self, name: str, action: int) -> int:
-        """Those who stand before a green of a light, less those who stand behind it: the policy of
-        max-pressure takes the greatest."""
+        """How many vehicles stand on the lanes before a green phase of a light, less those on the lanes behind it; the
+        policy max-pressure chooses the phase with the greatest."""
         one, queue = self.signals[name], {}
         shown = zip(one.greens[action], one.links, strict=True)
         for lane in {lane for state, link in shown if state in GREEN for lane in link}:
@@ -131,29 +134,30 @@ class SignalEnv:
         return sum(queue[lane] - queue[behind] for state, (lane, behind) in shown if state in GREEN)
 
     def on(self, lane: str) -> list[int]:
-        """The numbers of the vehicles on a lane, from the stop line; none where the import has no such lane."""
+        """The numbers of the vehicles on a lane, from the stop line; empty where nobody is there, or the import has no
+        such lane."""
         session = self.running()
         return session.view.on_lane.get(session.lane_of.get(lane, (-1, -1)), [])
 
     def standing(self, lane: str) -> list[int]:
-        """The numbers of the vehicles on a lane that stand."""
+        """The numbers of the vehicles that stand on a lane, from the stop line."""
         places = self.running().view.places
         return [car for car in self.on(lane) if not places[car].speed]
 
     def share(self, lane: str, cars: Sequence[int]) -> float:
-        """The share of a lane's room that some vehicles take, 0 to 1."""
+        """The share, 0 to 1, of a lane's length that some vehicles take, with their gaps; cars: numbers."""
         session = self.running()
         cells = sum(session.fleet.sizes[session.fleet.names[car]] for car in cars)
         return min(1.0, cells * limits.CELL_METRES / session.facts.lanes[lane].metres)
 
     def figures(self) -> dict:
-        """What there is of the whole network: the time, who is there, who stands, how many have arrived."""
+        """{"time": clock in seconds, "vehicles": on the road, "standing": of these, "arrived": since the reset}."""
         clock, places = self.running().clock, self.running().view.places
         standing = sum(not place.speed for place in places.values())
         return {"time": clock, "vehicles": len(places), "standing": standing, "arrived": self.ended}
 
     def left(self) -> bool:
-        """Whether there is anybody on the way or to come."""
+        """Whether any vehicle is on the road or is still to depart."""
         session = self.running()
         told = session.entered == len(session.source.enters)
         return not told or bool(session.view.places) or bool(session.view.waiting_to_depart())
@@ -165,7 +169,7 @@ class SignalEnv:
         return self.session
 
     def close(self) -> None:
-        """Ends the run, if one is under way."""
+        """Ends the run; nothing where none is under way."""
         if self.session is not None:
             self.session.close()
             self.session = None
@@ -178,7 +182,7 @@ class SignalEnv:
 
 
 def signals_of(light: Light) -> Signals:
-    """What can be chosen at a light."""
+    """What can be chosen at a light: the states of its phases with green and without yellow, each once."""
     links = [(link[0], link[1]) if link else ("", "") for link in light.links]
     greens = list(
         dict.fromkeys(state for _, state in light.phases if set(state) & set(GREEN) and "y" not in state.lower())

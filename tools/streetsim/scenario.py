@@ -39,12 +39,12 @@ ADVICE = {
 
 
 class Scenario(Running):
-    """A running simulation of a run file and its map: its network, signals and vehicles are loaded at once. Edges or
-    lanes that are to be closed later are told as joint, where they are not yet so in the import. Where vehicles of the
-    file give way without a light, so many rounds of the run come first; `yielding` says what they gave. Those that a
-    script adds wait for nobody's gaps but the file's, and nobody of the file waits for them. Before works on one
-    lane of a joint link the lanes take turns, unless `stop_merging` was called. Detectors drive lights of SUMO's types
-    actuated and NEMA; in a `ListedScenario` they show their listed seconds."""
+    """A running simulation of a run file and its map. Edges or lanes that are to be closed later are named as joint,
+    where they are not yet so in the import. Where vehicles of the file give way without a light, so many rounds of the
+    run come first; yielding says how many lines they gave. Vehicles that a script adds give way to those of the file
+    alone, and nobody of the file to them. Before works on one lane of a joint link the lanes take turns, until
+    stop_merging is called. Detectors drive lights of SUMO's types actuated and NEMA; in a ListedScenario they show
+    their listed seconds."""
 
     def __init__(
         self, run: FilePath, mapping: FilePath, program: str | None = None, workers: int = 1,
@@ -74,17 +74,18 @@ class Scenario(Running):
         self.client.__exit__(kind, *fault)
 
     def simulationStep(self, time: float = 0) -> None:
-        """One step, or all steps until a time in seconds is reached; none where it is, as in SUMO."""
+        """Makes one step (time 0), or all steps until the clock is at time seconds; none where it is there already, as
+        in SUMO."""
         self.step(time)
 
     def go_on(self, target: int) -> None:
-        """Goes on until a clock at most, or until somebody on the road may be where another way begins."""
+        """Goes on until a clock at most, and stops earlier where somebody may be where another way of its begins."""
         self.detours.turn_off()
         self.advance(self.detours.next_clock(target))
 
     def add(self, name: str, plan: Sequence[int], lane: int, depart: int, size: int = 1) -> None:
-        """Adds a vehicle of the file or of a script, (links, lane of the first, clock, cells); ValueError where its
-        name is taken."""
+        """Adds a vehicle of the file or of a script. plan: links; lane: of the first; depart: clock; size: cells.
+        ValueError where its name is taken."""
         if name in self.fleet.cars:
             raise ValueError(f"there is a vehicle {name!r} already")
         self.detours.departs[name] = depart
@@ -93,22 +94,22 @@ class Scenario(Running):
     def enter(
         self, name: str, plan: Iterable[int], lane: int, depart: int, size: int = 1, driven: Sequence[int] = ()
     ) -> int:
-        """As of any simulation; expects the vehicle to depart."""
+        """As of Simulation; getIDList then looks for the vehicle from its departure on."""
         car = super().enter(name, plan, lane, depart, size, driven)
         heappush(self.later, (depart, car, name))
         return car
 
     def lane_state(self, name: str) -> client.Lane:
-        """The program's reply of a lane."""
+        """The program's reply on a lane, by SUMO's name."""
         return self.client.lane(*self.lane_of[name])
 
     def close(
         self, lane: str, begin: float = 0.0, end: float | None = None, divert: bool = False, until: float = float("inf")
     ) -> list[str]:
-        """Closes a lane from one place to another (its end), in metres: road works. ValueError beyond the lane, where
-        the end is not after the begin, and where vehicles could not change to the lane beside it. divert: where nobody
-        can pass the edge any more, those who would come there before a second, `until`, take another way, from their
-        begin on or from a crossing ahead of them; gives their names. ValueError where that second is over."""
+        """Closes a lane, from begin to end metres (None: the lane's end), as road works do. divert: where nobody can
+        pass the edge any more, vehicles that would come there before the second until take another way, from their
+        begin or a crossing ahead on; gives their names, else an empty list. ValueError for metres beyond the lane, an
+        end not after the begin, a lane whose vehicles could not change to the one beside, or an until that is over."""
         if why := why_parallel(self.map, lane):
             raise ValueError(f"{why}: Scenario(.., joint=[{lane!r}])")
         if divert:
@@ -117,23 +118,24 @@ class Scenario(Running):
         return self.divert(self.map.links[self.lane_of[lane][0]].edge, until) if divert else []
 
     def divert(self, edge: str, until: float) -> list[str]:
-        """Those who have not departed or are on the road take the shortest ways round an edge that is shut: they are
-        taken out and entered anew, with another number, who is on the road where its new way begins. Gives the names of
-        those for whom there is a way."""
+        """Has vehicles on the road, and those that have not departed, take the shortest way round an edge that is shut,
+        if they would come there before the second until. One on the road is taken out and entered anew, with another
+        number, where its new way begins. Gives the names of those for whom there is a way."""
         self.refuse_past(until)
         return self.detours.begin(edge, until)
 
     def refuse_past(self, until: float) -> None:
-        """Refuses, by ValueError, a second that is over: nobody comes before it."""
+        """ValueError where the second until is over."""
         if not until > self.clock:
             raise ValueError(f"until {until:g} s nobody can take another way: the clock is at {self.clock} s")
 
     def reopen(self, lane: str, begin: float = 0.0, end: float | None = None) -> None:
-        """Opens again what `close` closed."""
+        """Opens what close closed, with the same lane and metres."""
         self.reopen_lane(lane, begin, end)
 
     def trips(self) -> list[tuple[object, ...]]:
-        """Rows as those of trips.csv, by the clock of now; who was taken out and entered anew has one."""
+        """Rows as in trips.csv, as they are at this clock; a vehicle that was taken out and entered anew has one
+        row."""
         plans, departs = self.fleet.plans, self.detours.departs
         lines = [Line(0, "", {"plan": plan, "depart": departs[name]}) for name, plan in plans.items()]
         run = Run("", Line(0, "", {"dawdle": 0, **self.source.load.command}), enters=lines)
@@ -141,7 +143,7 @@ class Scenario(Running):
         return list(rows.trips(records, run, replace(self.map, cars=list(plans))))
 
     def write_trips(self, path: FilePath) -> None:
-        """Writes these rows as a table."""
+        """Writes the rows of trips as a table."""
         tables.write_table(path, tables.TRIPS, self.trips())
 
 
@@ -152,13 +154,14 @@ class ListedScenario(Scenario):
 
 
 class Part(Calls[Scenario]):
-    """A domain of a scenario's calls."""
+    """One domain of a scenario's calls, as vehicle or lane."""
 
     def __init__(self, scenario: Scenario) -> None:
         super().__init__(lambda: scenario)
         self.scenario, self.name = scenario, type(self).__name__.lower()
 
     def advice(self, called: str) -> str:
+        """What to do instead of a call that is not here."""
         return ADVICE.get(called, "streetsim has nothing for it; see tools/PYTHON.md")
 
 
@@ -169,14 +172,16 @@ class Simulation(Part, SimulationCalls[Scenario]):
 class Route(Part):
     """The ways that a script adds."""
     def add(self, name: str, edges: Iterable[str]) -> None:
-        """Names a way along edges, as `vehicle.add` takes it; ValueError where they do not lead on."""
+        """Names a route along edges, for vehicle.add; ValueError where two edges have no connection. A second route of
+        a name replaces the first."""
         self.scenario.routes[name] = self.scenario.connections.plan(list(edges))
 
 
 class Vehicle(Part, VehicleCalls[Scenario]):
     """Vehicles of the file and of the script."""
     def add(self, name: str, route: str, depart: float | None = None, size: int = 1) -> None:
-        """Adds a vehicle of 1 to 4 cells on a route that route.add told; it departs now or at a time in seconds."""
+        """Adds a vehicle of size cells (1 to 4) on a route that route.add named; it departs at depart seconds, rounded
+        up (None: now). ValueError where its name is taken."""
         plan = self.scenario.routes[route]
         clock = self.scenario.clock if depart is None else max(0, -int(-depart // 1))
         self.scenario.add(name, plan, self.scenario.connections.departure_lane(plan), clock, size)
@@ -186,7 +191,7 @@ class Vehicle(Part, VehicleCalls[Scenario]):
         self.scenario.client.takeout(self.scenario.fleet.cars[name])
 
     def getIDList(self) -> tuple[str, ...]:
-        """Vehicles on lanes or in buffers."""
+        """The names of the vehicles on lanes or in junctions."""
         scenario = self.scenario
         while scenario.later and scenario.later[0][0] < scenario.clock:
             _, car, name = heappop(scenario.later)
@@ -198,63 +203,69 @@ class Vehicle(Part, VehicleCalls[Scenario]):
         return tuple(scenario.going[reply.car] for reply in replies if reply.state in ("cell", "buffer"))
 
     def where(self, name: str) -> client.Vehicle:
-        """The program's reply of a vehicle."""
+        """The program's reply on a vehicle; KeyError for an unknown name."""
         return self.scenario.client.vehicle(self.scenario.fleet.cars[name])
 
     def place(self, name: str) -> Place | None:
+        """Where a vehicle is; None before it departs and after its end."""
         reply = self.where(name)
         return Place(*reply.place, reply.cell, reply.speed or 0) if reply.state in ("cell", "buffer") else None
 
     def place_on_lane(self, name: str) -> Place | None:
-        """Where a vehicle is on a lane; none in a junction too."""
+        """Where a vehicle is on a lane; None in a junction too."""
         place = self.place(name)
         return place if place is not None and place.cell is not None else None
 
 
 class Stretch(Part, StretchCalls[Scenario]):
-    """Lanes, each of which is asked when a call wants it."""
+    """Calls on lanes and edges; each asks the program anew."""
 
     def places(self, name: str) -> list[tuple[int, int]]:
-        """All (link, lane) of one, by its name."""
+        """All (link, lane) of a lane or an edge, by its name."""
         raise NotImplementedError
 
     def entries(self, name: str) -> list[Sequence[int]]:
-        """Of each vehicle on cells (number, cell, speed), and its size where that is above 1."""
+        """(number, cell, speed in cells a step, and size in cells where that is above 1) of each vehicle on it, the
+        greatest cell of a lane first."""
         return [entry for place in self.places(name) for entry in self.scenario.client.lane(*place).cells]
 
     def cars(self, name: str) -> list[int]:
+        """The numbers of the vehicles on it, from the stop line."""
         return [entry[0] for entry in self.entries(name)]
 
     def speeds(self, name: str) -> list[float]:
+        """Metres a second of each vehicle on it."""
         return [entry[2] * METRES for entry in self.entries(name)]
 
 
 class Lane(LaneCalls[Scenario], Stretch):
     """Lanes, which can be closed."""
     def close(self, lane: str) -> None:
+        """Closes the whole lane."""
         self.scenario.close(lane)
 
 
 class Edge(Stretch):
-    """Edges: all lanes of each."""
+    """Calls on edges: on all lanes of an edge together."""
     def places(self, name: str) -> list[tuple[int, int]]:
+        """All (link, lane) of an edge."""
         return self.scenario.lanes_on(name)
 
 
 class InductionLoop(Part):
     """Detectors that a script places."""
     def add(self, name: str, lane: str, place: float, period: int) -> None:
-        """A detector at a place of a lane, in metres, with rows of so many seconds."""
+        """Places a detector at place metres of a lane, with rows of period seconds."""
         link, index = self.scenario.lane_of[lane]
         cell, _ = self.scenario.map.links[link].cells_between(place, place)
         self.scenario.detectors[name] = self.scenario.client.meter(link, index, cell, period)
 
     def getIDList(self) -> tuple[str, ...]:
-        """Names of those that the script placed."""
+        """The names of the detectors that the script placed."""
         return tuple(self.scenario.detectors)
 
     def row(self, name: str) -> client.Row | None:
-        """The last full period of a detector; none before its end."""
+        """The row of the last full period of a detector; None before its end."""
         rows = self.scenario.client.read(self.scenario.detectors[name]).rows
         return rows[-1] if rows else None
 
@@ -264,12 +275,13 @@ class InductionLoop(Part):
         return row.passes if row else 0
 
     def getLastIntervalMeanSpeed(self, name: str) -> float:
-        """Metres a second, of cells of 7.5 m, in the last full period; -1 where nobody passed."""
+        """Mean speed, metres a second, in the last full period; -1 where nobody passed, or before its end."""
         row = self.row(name)
         return row.mean_speed * METRES if row and row.mean_speed is not None else -1.0
 
     def getLastIntervalOccupancy(self, name: str) -> float:
-        """Percent of the last full period's time; 0 before its end."""
+        """The percentage, 0 to 100, of the last full period in which the detector's cell was covered; 0 before its
+        end."""
         row = self.row(name)
         return row.density * 100 if row else 0.0
 
@@ -277,16 +289,18 @@ class InductionLoop(Part):
 class TrafficLight(Part):
     """The lights of the network."""
     def getIDList(self) -> tuple[str, ...]:
+        """The names of all lights, sorted."""
         return tuple(sorted({light for light, _ in self.scenario.map.signals}))
 
     def setProgramLogic(self, name: str, phases: Iterable[tuple[float, str]], offset: float = 0) -> list[str]:
-        """Sets a light's cycle: phases of (seconds, state), as a tlLogic has them, from the next step on; of permissive
-        greens the usual share is shown, as flows are not known here. Gives what there is to warn of."""
+        """Sets a light's cycle from the next step on: phases of (seconds, state), and SUMO's offset in seconds, as a
+        tlLogic has them. Of permissive greens the usual share is shown, as flows are not known here. Gives warnings,
+        empty where there are none."""
         self.scenario.driving.driver.release(name)
         return self.scenario.show_program(name, [(seconds, state) for seconds, state in phases], offset)
 
     def getRedYellowGreenState(self, name: str) -> str:
-        """What a light that detectors drive shows, a letter for each signal; NotHere of others."""
+        """What a light that detectors drive shows now, SUMO's letter for each signal; NotHere for other lights."""
         if (driven := self.scenario.driving.driver.of(name)) is None:
             raise NotHere(f"trafficlight.getRedYellowGreenState: detectors do not drive {name!r}; its plan is set")
         return driven.logic.state()

@@ -1,5 +1,5 @@
-"""A light with listed seconds that waits for buses: each phase ends when its plan says, as far as its bounds allow; so
-that after a bus it comes back to its plan by itself."""
+"""A light with listed seconds that waits for buses: each phase ends when the light's plan says, as far as its bounds
+allow, so that after a bus it comes back to the plan by itself."""
 from __future__ import annotations
 
 from dataclasses import dataclass
@@ -10,17 +10,18 @@ from streetsim.actuated.logic import Actuated, GapOf, Phase
 
 @dataclass(slots=True)
 class Coordinated(Actuated):
-    """Its logic; what detectors extend in another one lasts as planned here."""
+    """The logic of such a light; a green that detectors would extend elsewhere lasts as the plan says here."""
 
     planned: int = 0  # clock at which the plan has the phase begin that is shown
 
     def start(self, now: int, offset: int = 0) -> None:
-        """Begins where its plan is."""
+        """Begins in the phase in which the plan is at the clock now."""
         Actuated.start(self, now, offset)
         self.planned = self.due - self.phases[self.at].seconds
 
     def look(self, now: int, gap: GapOf) -> bool:
-        """Goes on where a phase is over; the plan's clock goes on with it, by whole cycles where it is far off."""
+        """Goes on to the next phase where the present one is over; gives whether it does. The plan's clock goes on with
+        it, by whole cycles where it is far off."""
         seconds, self.due = self.phases[self.at].seconds, now
         if not Actuated.look(self, now, gap):
             return False
@@ -30,18 +31,19 @@ class Coordinated(Actuated):
         return True
 
     def wait(self, phase: Phase, gap: GapOf) -> int:
-        """The seconds until the plan ends the phase, from when it is looked at."""
+        """The seconds until the plan ends the phase; 0 where that is over."""
         return max(0, self.planned + phase.seconds - self.due)
 
     def why(self, phase: Phase, now: int) -> str:
-        """Why a phase ends now: as listed, but where a bus has changed that."""
+        """Why a phase ends now: "listed" where the plan says so, else what Actuated says."""
         why = Actuated.why(self, phase, now)
         return "listed" if why == "gap" else why
 
 
 @dataclass(frozen=True, slots=True)
 class Fixed(Driven):
-    """Such a light of a run."""
+    """A light of a run with listed seconds, as one that is driven."""
 
     def logic(self) -> Actuated:
+        """A new logic for this light."""
         return Coordinated(self.phases, self.gaps, self.lead)

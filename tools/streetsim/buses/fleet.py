@@ -1,6 +1,6 @@
-"""Buses of a run, while it goes: each is asked where it is when it could have come near its stop, and there its lanes
-are looked at and closed as `Stopping` says; and when it could be seen before a light that waits for it. What is sent is
-kept, so that runs which repeat this one send it again."""
+"""The buses of a run while it goes: each is asked where it is when it could have come near its stop, and there its
+lanes are looked at and closed as Stopping says; it is asked too when it could be seen by a light that waits for it. The
+commands are kept, so that runs which repeat this one send them again."""
 from __future__ import annotations
 
 from collections import defaultdict
@@ -24,7 +24,8 @@ ENDED = ("arrived", "taken")
 
 @dataclass(slots=True, frozen=True)
 class Done:
-    """What became of a stop. Clocks are SUMO's: when it came to stand and when its doors closed."""
+    """What became of a stop. Clocks are as in SUMO: when the bus came to stand, and when its doors closed; None where
+    that did not come about."""
 
     visit: Visit
     state: str
@@ -48,14 +49,14 @@ class Bus:
 
 
 class Calls:
-    """What vehicles with priority call at lights."""
+    """Which phases vehicles with priority call at lights."""
 
     def __init__(self) -> None:
         self.by_light: defaultdict[str, dict[int, frozenset[int]]] = defaultdict(dict)  # phases by vehicle
         self.changed: set[str] = set()  # lights
 
     def set(self, owner: int, ahead: Ahead | None) -> None:
-        """Has a vehicle call at one light, or at none."""
+        """Has a vehicle, by its number in the file, call at one light alone; None: at none."""
         for light, calls in self.by_light.items():
             if owner in calls and (ahead is None or ahead.light != light):
                 del calls[owner]
@@ -65,14 +66,15 @@ class Calls:
             self.changed.add(ahead.light)
 
     def taken(self) -> list[tuple[str, frozenset[int]]]:
-        """The lights where something is called since this was asked last, and the phases called there."""
+        """(light, all phases called there) for the lights where calls have changed since this was asked last; no
+        phases: nobody calls there any more."""
         found = [(light, frozenset().union(*self.by_light[light].values())) for light in sorted(self.changed)]
         self.changed.clear()
         return found
 
 
 class Fleet:
-    """Those of a run."""
+    """The buses of a run, and the vehicles for which lights wait."""
 
     def __init__(self, plan: Planned, run: Run, mapping: Map) -> None:
         self.mapping, self.turns = mapping, {(turn.link, turn.lane, turn.next) for turn in mapping.turns}
@@ -91,7 +93,7 @@ class Fleet:
             bus.due += self.seconds(bus, 0, 0)
 
     def due(self) -> int:
-        """The next clock at which a bus is looked at."""
+        """The next clock at which a bus is looked at; the last possible clock where there is none."""
         return min((bus.due for bus in self.buses.values()), default=limits.CLOCK)
 
     @property
@@ -100,7 +102,8 @@ class Fleet:
         return any(bus.stopping and bus.stopping.state == STANDING for bus in self.buses.values())
 
     def look(self, clock: int, ask: Ask, lanes: Look) -> Iterator[Command]:
-        """Looks at the buses that are due, and gives what is to be sent before the next step."""
+        """Looks at the buses that are due at a clock, and gives the commands to send before the next step. ask: gives
+        replies on vehicles; lanes: gives what stands on lanes."""
         due = [bus for bus in self.buses.values() if bus.due <= clock]
         far = [bus for bus in due if not bus.stopping]
         for bus, reply in zip(far, ask(bus.owner for bus in far) if far else (), strict=True):
@@ -117,7 +120,7 @@ class Fleet:
         yield from self.changes()
 
     def locate(self, clock: int, bus: Bus, reply: Vehicle) -> None:
-        """Notes where a bus is that is on its way, and when it is to be looked at next."""
+        """Notes where a bus is, by the program's reply, and when it is to be looked at next."""
         at, cell, waits = len(bus.plan) - len(reply.plan), reply.cell or 0, 0
         if reply.state == "buffer":  # it has left its link
             at, waits = at + 1, max(0, (reply.ready or 0) - clock)
@@ -139,23 +142,26 @@ class Fleet:
         bus.due = clock + max(1, waits + self.seconds(bus, at, cell))
 
     def call(self, bus: Bus, at: int, cell: int, waits: int) -> None:
-        """Has the next light wait for a bus that is near enough, unless it stops before."""
+        """Has the next light wait for a bus that is near enough, unless the bus stops before it. at, cell: its place in
+        its plan; waits: seconds that it stays in the junction."""
         ahead = bus.lights[0] if bus.lights else None
         if ahead and (stops_before(bus, ahead) or waits + self.between(bus, at, cell, ahead) > self.plan.seen):
             ahead = None
         self.calls.set(bus.owner, ahead)
 
     def between(self, bus: Bus, at: int, cell: int, ahead: Ahead) -> int:
-        """The fewest seconds from a cell of a link of its plan to the stop line of a light."""
+        """The fewest seconds from a cell of the link at a place of a bus's plan to the stop line of a light ahead."""
         return int(self.before(bus, at, cell, ahead.at) + self.links_left(bus, at, cell, ahead.at))
 
     def links_left(self, bus: Bus, at: int, cell: int, last: int) -> float:
-        """The seconds on the last of some links of its plan, from a cell of the first."""
+        """The seconds on the link at the place last of a bus's plan, at its limit: from the cell where that is the
+        bus's own link, else from its begin."""
         link = self.mapping.links[bus.plan[last]]
         return (link.cells - (cell if at == last else 0)) / link.limit
 
     def before(self, bus: Bus, at: int, cell: int, last: int) -> float:
-        """The fewest seconds from a cell of a link of its plan to the begin of a later one."""
+        """The fewest seconds from a cell of the link at a place of a bus's plan to the begin of the link at the place
+        last."""
         links, begin, found = self.mapping.links, cell, 0.0
         for link in bus.plan[at:last]:
             found += max(0, links[link].cells - begin) / links[link].limit + self.mapping.nodes[links[link].end][3]
@@ -163,11 +169,12 @@ class Fleet:
         return found
 
     def reach(self, visit: Visit) -> int:
-        """The cells before a stop from which on its lanes are looked at in each second."""
+        """How many cells before a stop the lanes begin to be looked at in each second."""
         link = self.mapping.links[visit.link]
         return APPROACH if len(link.lanes) > 1 else 2 * link.limit
 
     def road(self, bus: Bus, visit: Visit) -> Road:
+        """The link of a bus's stop, as Stopping takes it."""
         link = self.mapping.links[visit.link]
         if len(link.lanes) == 1 or visit.at + 1 == len(bus.plan):
             return Road(len(link.lanes), link.limit, link.cells)
@@ -175,7 +182,7 @@ class Fleet:
         return Road(2, link.limit, link.cells, (leads[0], leads[1]))
 
     def seconds(self, bus: Bus, at: int, cell: int) -> int:
-        """The fewest seconds from a cell of a link of its plan until it is to be looked at."""
+        """The fewest seconds, from a cell of the link at a place of its plan, until a bus is to be looked at."""
         found = []
         if bus.visits:
             visit = bus.visits[0]
@@ -186,7 +193,8 @@ class Fleet:
         return max(0, int(min(found)))
 
     def attend(self, clock: int, bus: Bus, seen: Mapping[Place, Lane], ask: Ask) -> None:
-        """Looks at a bus on the link of its stop; where it is not there any more, it is asked where it is."""
+        """Looks at a bus on the link of its stop, by what stands there (seen); where it is not there any more, the stop
+        counts as missed or it is asked where it is."""
         stopping, visit = bus.stopping, bus.visits[0]
         assert stopping is not None
         lanes = {lane: seen_on(seen.get((visit.link, lane))) for lane in stopping.wants(clock)}
@@ -207,12 +215,12 @@ class Fleet:
             self.note(bus, Done(visit, stopping.state, stopping.lane, stopping.arrived, stopping.leaves))
 
     def note(self, bus: Bus, done: Done) -> None:
-        """Keeps what became of a bus's next stop."""
+        """Keeps what became of a bus's next stop, which is then over."""
         bus.visits.pop(0)
         self.done.append(done)
 
     def changes(self) -> Iterator[Command]:
-        """What is to be closed and opened now."""
+        """The commands that close and open cells, so that just those are closed that buses need now."""
         wanted = frozenset().union(*(bus.closed for bus in self.buses.values()))
         for command, cells in (("reopen", self.closed - wanted), ("close", wanted - self.closed)):
             for link, lane, cell in sorted(cells):
@@ -220,7 +228,7 @@ class Fleet:
         self.closed = wanted
 
     def all(self) -> list[Done]:
-        """What became of all stops, at the end of a run."""
+        """What became of all stops, those that no bus has come to among them; asked for at the end of a run."""
         left = []
         for bus in self.buses.values():
             for visit in bus.visits:
@@ -233,10 +241,10 @@ class Fleet:
 
 
 def stops_before(bus: Bus, ahead: Ahead) -> bool:
-    """Whether a bus has a stop to make before a light."""
+    """Whether a bus has a stop to make before a light ahead."""
     return bool(bus.visits) and bus.visits[0].at <= ahead.at
 
 
 def seen_on(lane: Lane | None) -> list[Seen]:
-    """The vehicles on a lane."""
+    """The vehicles on a lane, by its reply; none where there is no reply."""
     return [Seen(*entry) for entry in lane.cells] if lane else []

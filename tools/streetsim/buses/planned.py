@@ -25,7 +25,8 @@ class Ahead:
 
 @dataclass(frozen=True, slots=True)
 class Planned:
-    """Those of a run. ahead: of vehicles with priority, the lights on their way."""
+    """The stops that a run makes, and the lights that wait for vehicles. ahead: by vehicle with priority, the lights on
+    its way."""
 
     visits: tuple[Visit, ...] = ()
     unmade: Mapping[str, tuple[str, ...]] = field(default_factory=dict)  # by reason, vehicle at stop
@@ -34,7 +35,7 @@ class Planned:
     told: tuple[str, ...] = ()  # of priority
 
     def notes(self) -> Iterator[str]:
-        """Says which stops are not made, by reason, and what lights do."""
+        """The texts to tell: what lights do for vehicles with priority, and which stops are not made, by reason."""
         yield from self.told
         for why, names in self.unmade.items():
             yield f"{len(names):,} stops of vehicles are not made, {why}: {some(names)}"
@@ -44,7 +45,7 @@ NONE = Planned()  # nobody stops
 
 
 def planned(run: Run, mapping: Map) -> Planned:
-    """The stops of a map that are made in a run: those on the ways of its vehicles."""
+    """The stops of a map that a run makes: those on the ways of its vehicles; the others are in unmade."""
     ways = [line.command["plan"] for line in run.enters]
     kept: list[Visit] = []
     unmade: defaultdict[str, list[str]] = defaultdict(list)

@@ -1,4 +1,5 @@
-"""Who has priority at which lights of a run, and within which bounds: by a class of vehicles or a line."""
+"""Which vehicles have priority at which lights of a run, and within which bounds of its phases: by vehicle class or
+line."""
 from __future__ import annotations
 
 from collections import defaultdict
@@ -27,7 +28,7 @@ Turns = list[tuple[str, int]]  # lights, and places in their states
 
 @dataclass(frozen=True)
 class Priority:
-    """Of a run."""
+    """The priority of a run. told: texts on it."""
 
     lights: tuple[Light, ...]  # that are driven for it, beside those that detectors drive
     ahead: Mapping[int, tuple[Ahead, ...]]  # by vehicle
@@ -35,8 +36,8 @@ class Priority:
 
 
 def prioritised(run: Run, mapping: Map, names: Sequence[str], seen: int, driven: Lights) -> Priority:
-    """Who has priority, of classes and lines that are named, seen so many seconds before a stop line; driven: the
-    lights that detectors drive."""
+    """The lights that wait for vehicles of the classes and lines in names, which a light sees so many seconds before
+    the stop line. driven: the lights that detectors drive. Fault where a name has no vehicle."""
     owners = named(run, mapping, names)
     timed = {line.command["node"] for _, line in run.timed if line.command["cmd"] == "signal"}
     changed = {light for light, node in mapping.signals if node in timed}
@@ -61,7 +62,7 @@ def prioritised(run: Run, mapping: Map, names: Sequence[str], seen: int, driven:
 
 
 def named(run: Run, mapping: Map, names: Sequence[str]) -> list[int]:
-    """The vehicles of classes or lines; Fault where one of these has none."""
+    """The numbers of the vehicles whose class or line is one of names; Fault where a name has no vehicle."""
     count = len(run.enters)
     classes, lines = classes_of(mapping.kinds, count), lines_of(mapping.kinds, count)
     for name in names:
@@ -71,14 +72,15 @@ def named(run: Run, mapping: Map, names: Sequence[str]) -> list[int]:
 
 
 def lights_of(run: Run, mapping: Map, owners: Iterable[int]) -> set[str]:
-    """The lights that some vehicles pass."""
+    """The names of the lights that some vehicles pass."""
     light_at = {(turn.link, turn.next): turn.light for turn in mapping.turns if turn.light}
     pairs = (pair for owner in owners for pair in pairwise(run.enters[owner].command["plan"]))
     return {light for pair in pairs if (light := light_at.get(pair))}
 
 
 def fixed_light(light: str, kept: Mapping[str, Any], seen: int, unlike: Mapping[str, Collection[str]]) -> Fixed:
-    """A light with listed seconds, of what a map keeps of its program."""
+    """A light with listed seconds, of what the map keeps of its program (kept, by light); unlike: the names of lights
+    that cannot wait, by reason. Raises Listed, with the reason, where it cannot wait."""
     if light in unlike["changed"]:
         raise Listed("as lines of the run change their plans")
     if light in unlike["rings"]:
@@ -94,8 +96,8 @@ def fixed_light(light: str, kept: Mapping[str, Any], seen: int, unlike: Mapping[
 
 
 def bounded(kept: Sequence[Any], seen: int) -> Phase:
-    """A phase with its bounds: those of the file; else a green lasts half its seconds and LEAST at least, and is kept
-    for as many seconds more as a vehicle is seen before the stop line."""
+    """A phase with its bounds in seconds: those of the file, else a green may be as short as half its seconds (LEAST at
+    least), and as long as its own and the seconds that a vehicle is seen before the stop line."""
     seconds, state, least, most, *_ = kept
     phase = Phase(state, round(seconds), round(seconds), round(seconds))
     if not phase.is_green:
@@ -115,7 +117,7 @@ def ahead_of(plan: Sequence[int], turns: Mapping[Way, Turns], lights: Mapping[st
 
 
 def turns_of(mapping: Map) -> dict[Way, Turns]:
-    """By link and next link the lights of its turns, and their places in a state."""
+    """By (link, next link) the lights of its turns, each with the turn's place in the light's state."""
     found: defaultdict[Way, Turns] = defaultdict(list)
     for turn in mapping.turns:
         if turn.light:

@@ -40,7 +40,7 @@ class Road:
 
 @dataclass(slots=True)
 class Stopping:
-    """A bus on the link of its stop. `lane`: where it was last seen."""
+    """A bus on the link of its stop, until the stop is made or missed."""
 
     visit: Visit
     road: Road
@@ -57,15 +57,17 @@ class Stopping:
 
     @property
     def is_over(self) -> bool:
+        """Whether the stop is made, made on the other lane, or missed."""
         return self.state in (MADE, OTHER_LANE, MISSED)
 
     @property
     def other(self) -> int:
+        """The lane beside its own."""
         return 1 - self.lane
 
     def look(self, clock: int, bus: Seen, lanes: Mapping[int, Sequence[Seen]]) -> int:
-        """Decides which cells are closed in the next step; gives the seconds until the next look. lanes: what stands on
-        those that `wants` names, with the bus or without it."""
+        """Decides which cells are closed in the next step; gives the seconds until the next look. lanes: the vehicles
+        on the lanes that wants names, the bus among them or not."""
         self.closed = set()
         if self.held:
             return self.stand(clock, self.held, lanes)
@@ -84,31 +86,33 @@ class Stopping:
 
     @property
     def is_astray(self) -> bool:
-        """Whether it is on the wrong lane and is to leave it, where the rule lets it to one that does not lead on."""
+        """Whether it is on the wrong lane and is to leave it. It stays where it has stood there for PATIENCE seconds,
+        or where the stop's lane alone does not lead on."""
         leads_astray = self.road.leads == (False, True)
         return self.lane != self.visit.lane and self.stood < PATIENCE and not leads_astray
 
     def wants(self, clock: int) -> list[int]:
-        """The lanes that it must be told of."""
+        """The lanes whose vehicles it must be told at a clock."""
         ends = self.goes is None and clock >= self.leaves
         own = [self.lane] if not self.held or ends or (self.passing and clock >= self.passes) else []
         return sorted([*own, *([self.other] if self.road.lanes == 2 else [])])
 
     def has_come(self, bus: Seen) -> bool:
-        """Whether it is at the stop: at its end, or standing beside it."""
+        """Whether the bus is at its stop: at the stop's last cell, or standing on the stop."""
         if self.is_astray:
             return False
         return bus.cell == self.visit.last or (bus.speed == 0 and bus.cell >= self.visit.first)
 
     def arrive(self, clock: int, bus: Seen, lanes: Mapping[int, Sequence[Seen]]) -> int:
-        """Notes when it leaves: after its duration, and not before `until`."""
+        """Notes that it stands, and when its doors close: after its duration, and not before its until. Gives the
+        seconds until the next look."""
         self.state, self.held = STANDING, Seen(bus.car, bus.cell, 0, bus.size)
         self.arrived = clock + round(self.visit.braking)
         self.leaves = max(self.arrived + self.visit.duration, self.visit.until or 0)
         return self.stand(clock, self.held, lanes)
 
     def stand(self, clock: int, bus: Seen, lanes: Mapping[int, Sequence[Seen]]) -> int:
-        """Stays until its time is over."""
+        """Stays until its time is over; gives the seconds until the next look."""
         if self.goes is None and clock >= self.leaves:
             behind = sum(one.cell < bus.cell and one.speed == 0 for one in lanes.get(self.lane, ()))
             self.goes = clock + max(0, round(self.visit.starting - QUEUED * behind))
@@ -123,7 +127,7 @@ class Stopping:
         return 1
 
     def let_pass(self, clock: int, bus: Seen, lanes: Mapping[int, Sequence[Seen]]) -> None:
-        """Those who stand behind it on a link of two lanes merge by turns, as before works of its length."""
+        """Has those who stand behind it on a link of two lanes merge by turns, as before works of its length."""
         self.passing = self.passing or Merging(self.road.cells)
         if self.lane in lanes and clock >= self.passes:
             behind = [one for one in lanes[self.lane] if one.cell < bus.rear]
@@ -134,12 +138,12 @@ class Stopping:
             self.closed |= {(lane, cell) for cell in cells}
 
     def near(self, bus: Seen, ahead: Sequence[Seen], last: int) -> None:
-        """Closes the cell beyond a last one where the bus would pass it in the next step."""
+        """Closes the cell behind the cell last, where the bus would pass that in the next step."""
         if min(bus.speed + 1, self.road.limit) > last - bus.cell and rear_of(ahead) > last + 1:
             self.closed.add((self.lane, last + 1))
 
     def keep(self, bus: Seen, ahead: Sequence[Seen], other: Sequence[Seen]) -> None:
-        """Has it stay on its lane, where it would change."""
+        """Closes a cell of the other lane where the bus would change to it, so that it stays on its own."""
         if self.road.lanes == 1:
             return
         shut = min((cell for lane, cell in self.closed if lane == self.lane), default=bus.cell + SIGHT + 1)
@@ -150,12 +154,13 @@ class Stopping:
             self.closed.add((self.other, min(bus.cell + bus.speed + 2, self.road.cells - 1)))
 
     def leads(self, lane: int) -> bool:
-        """Whether a lane leads to the next link of its plan."""
+        """Whether a lane of its link leads to the next link of its plan."""
         return self.road.leads[lane != self.visit.lane]
 
     def change(self, bus: Seen, ahead: Sequence[Seen], right: Sequence[Seen]) -> None:
-        """Has it change to the right lane where the rule lets it; else it is slowed, waits two cells before the stop,
-        and those behind on the right lane are held."""
+        """Lets it change to the stop's lane where the rule allows; else it is slowed, waits two cells before the stop,
+        and those behind it on that lane are held. ahead, right: vehicles before it on its lane, and on the stop's
+        lane."""
         speed, reach = bus.speed, min(bus.speed + 1, self.road.limit)
         wait = self.visit.last - 2
         if may_change(bus, right) and reach <= self.visit.last - bus.cell:
@@ -172,12 +177,12 @@ class Stopping:
 
 
 def rear_of(vehicles: Sequence[Seen]) -> int:
-    """The least cell that some vehicles cover; far away where there are none."""
+    """The least cell that some vehicles cover; a cell beyond all others where there are none."""
     return min((one.rear for one in vehicles), default=1 << 30)
 
 
 def may_change(bus: Seen, other: Sequence[Seen]) -> bool:
-    """Whether the simulator's rule would let it go to the other lane, if it wishes to: all cells beside it are free,
-    the gap ahead is longer than its speed and one, and that behind than BEHIND."""
+    """Whether the simulator's rule would let it go to the other lane if it wishes to: the cells beside it are free, the
+    gap ahead is longer than its speed and one, and that behind it longer than BEHIND."""
     nearest, farthest = bus.rear - BEHIND - 1, bus.cell + bus.speed + 2
     return not any(one.cell >= nearest and one.rear <= farthest for one in other)

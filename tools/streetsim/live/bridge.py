@@ -50,15 +50,17 @@ class Bridge(ThreadingHTTPServer):
 
     @property
     def address(self) -> str:
+        """The page's address, with its token."""
         return f"http://{HOST}:{self.server_port}/{self.token}/"
 
     def handle_error(self, request: object, client_address: object) -> None:
-        """A page that goes in the middle of an answer is no fault."""
+        """Passes over errors of the connection, as of a page that goes while it is answered."""
         if not isinstance(sys.exc_info()[1], OSError):
             super().handle_error(request, client_address)  # type: ignore[arg-type]
 
     def take(self, name: str, from_another: bool = False) -> None:
-        """The page of this name becomes the one that is served; from another one only where it asks for that."""
+        """Makes the page of this name the one that is served; Refusal where another one is served, unless
+        from_another."""
         with self.lock:
             if self.owner not in ("", name) and not from_another:
                 raise Refusal(
@@ -69,7 +71,8 @@ class Bridge(ThreadingHTTPServer):
             self.lock.notify_all()
 
     def join_lanes(self, names: Iterable[str]) -> None:
-        """Has the run imported anew with more lanes joint: for the page when it is loaded again."""
+        """Has the run imported anew with further lanes (names) joint; the page gets it when it is loaded again. Refusal
+        for a session that is kept."""
         if self.join is None:
             raise Refusal(
                 HTTPStatus.NOT_FOUND,
@@ -80,17 +83,19 @@ class Bridge(ThreadingHTTPServer):
             engine.take(lines)
 
     def give_up(self, name: str) -> None:
+        """Has no page served, where it was the one of this name."""
         with self.lock:
             if self.owner == name:
                 self.owner = ""
                 self.lock.notify_all()
 
     def is_owner(self, name: str, wait: float = 0) -> bool:
-        """Whether a page is the one that is served, and is still so in some seconds."""
+        """Whether the page of this name is the one that is served, and stays so for so many seconds (wait)."""
         with self.lock:
             return not self.lock.wait_for(lambda: self.owner != name, wait) if name else False
 
     def check_owner(self, name: str) -> None:
+        """Refusal where the page of this name is not the one that is served."""
         if not self.is_owner(name):
             raise Refusal(HTTPStatus.CONFLICT, "this page is not the one that the bridge serves: reload it")
 
@@ -108,12 +113,16 @@ class Handler(BaseHTTPRequestHandler):
     server: Bridge
 
     def do_GET(self) -> None:
+        """Answers a GET: the page."""
         self.serve(self.get)
 
     def do_POST(self) -> None:
+        """Answers a POST: what the page sends."""
         self.serve(self.post)
 
     def serve(self, answer: Callable[[list[str]], tuple[bytes, str] | None]) -> None:
+        """Sends what an answer gives, (body, type), for the path's words; None: it was sent already. A Refusal or Fault
+        is sent as JSON with its status."""
         try:
             answered = answer(self.checked_path())
             if answered:
@@ -124,7 +133,7 @@ class Handler(BaseHTTPRequestHandler):
             self.refuse(HTTPStatus.INTERNAL_SERVER_ERROR, str(fault))
 
     def checked_path(self) -> list[str]:
-        """The words of the path behind the token, of a request that may be served."""
+        """The words of the path behind the token; Refusal where the host, the origin or the token is wrong."""
         host = f"{HOST}:{self.server.server_port}"
         if self.headers.get("Host") != host:
             raise Refusal(HTTPStatus.FORBIDDEN, f"the bridge serves {host} alone")
@@ -139,11 +148,14 @@ class Handler(BaseHTTPRequestHandler):
         return words
 
     def get(self, words: list[str]) -> tuple[bytes, str]:
+        """The page and its type; Refusal for any other path."""
         if words != [""]:
             raise Refusal(HTTPStatus.NOT_FOUND, "there is one page, at the address that streetsim-live printed")
         return self.server.page, "text/html; charset=utf-8"
 
     def post(self, words: list[str]) -> tuple[bytes, str] | None:
+        """Does what the page's words, its name, a verb and perhaps an engine's number, ask; gives (body, type), None
+        where all was sent already."""
         body = self.body()
         name, verb, *which = [*words, "", ""][: max(2, len(words))]
         if verb not in VERBS or not name or which not in ([], ["0"], ["1"]):
@@ -170,7 +182,7 @@ class Handler(BaseHTTPRequestHandler):
         return b"", "text/plain"
 
     def keeping(self, verb: str, engine: Engine, body: bytes) -> tuple[bytes, str]:
-        """What a page asks of a session that is kept."""
+        """(body, type) of what a page asks of a session that is kept; Refusal where this one is not."""
         if not isinstance(engine, KeptEngine):
             raise Refusal(HTTPStatus.NOT_FOUND, "this session is not kept")
         if verb == "known":
@@ -183,8 +195,8 @@ class Handler(BaseHTTPRequestHandler):
         return b"", "text/plain"
 
     def stay(self, name: str) -> None:
-        """Sends a byte now and then until the page is no longer the one that is served. A page whose browser was killed
-        is gone as soon as one cannot be sent."""
+        """Sends a byte each HEARD_EVERY seconds until another page is served. Where one cannot be sent, the page is
+        gone, and none is served."""
         self.close_connection = True
         self.send_response(HTTPStatus.OK)
         self.send_header("Content-Type", "text/plain")
@@ -199,6 +211,7 @@ class Handler(BaseHTTPRequestHandler):
             self.server.give_up(name)
 
     def body(self) -> bytes:
+        """The body of a request; Refusal where it has no length, or is longer than MOST_BODY."""
         length = self.headers.get("Content-Length", "")
         if not length.isdecimal():
             raise Refusal(HTTPStatus.LENGTH_REQUIRED, "a request says how long it is")
@@ -208,9 +221,11 @@ class Handler(BaseHTTPRequestHandler):
         return self.rfile.read(int(length))
 
     def refuse(self, status: HTTPStatus, why: str) -> None:
+        """Sends a status, and why as JSON."""
         self.send(status, json.dumps({"fault": why}).encode(), "application/json")
 
     def send(self, status: HTTPStatus, body: bytes, kind: str) -> None:
+        """Sends a status, a body and its type, with headers that keep the page to this bridge."""
         self.send_response(status)
         headers = {
             "Content-Type": kind, "Content-Length": str(len(body)), "Content-Security-Policy": POLICY,
@@ -224,11 +239,11 @@ class Handler(BaseHTTPRequestHandler):
         self.wfile.flush()
 
     def log_message(self, *_arguments: object) -> None:
-        """Requests are told nowhere."""
+        """Writes nothing: requests are not logged."""
 
 
 def changes_of(body: bytes) -> list[Any]:
-    """The changes of a page, a list of JSON."""
+    """The changes that a page sends, a list of JSON; Refusal for anything else."""
     try:
         changes = json.loads(body)
     except ValueError:
@@ -239,7 +254,7 @@ def changes_of(body: bytes) -> list[Any]:
 
 
 def lines_of(body: bytes) -> list[bytes]:
-    """The lines of a request, each with its LF. A blank one would get no reply, and is refused."""
+    """The lines of a request, each with its LF. Refusal where one is blank, has a CR, or is longer than MOST_LINE."""
     lines = body.splitlines(keepends=True) if b"\r" not in body else []
     if not lines or not body.endswith(b"\n"):
         raise Refusal(HTTPStatus.BAD_REQUEST, "lines end with LF and have no CR")

@@ -16,8 +16,8 @@ ADVANCE, SIGNAL = b'{"cmd":"advance"', b'{"cmd":"signal"'
 
 
 class DrivenEngine(Engine):
-    """The reply to an advance has what lights show since the one before: "shown", signal commands. A light whose plan
-    the page sets is driven no more, until all is begun anew."""
+    """An engine whose reply to an advance also has the signal commands that lights sent since the one before ("shown").
+    A light whose plan the page sets is driven no more, until all is begun anew."""
 
     def __init__(self, program: str, lines: list[bytes], made: Made) -> None:
         super().__init__(program, lines)
@@ -26,6 +26,7 @@ class DrivenEngine(Engine):
         self.shown: list[Command] = []  # that the page was not told of
 
     def begin(self, anew: bool = False) -> list[bytes]:
+        """Starts the run and its lights from nothing; gives the replies to the run's own lines."""
         replies = super().begin(anew)
         run, mapping, _ = self.made()
         lights = driven_lights(run, mapping)
@@ -37,6 +38,8 @@ class DrivenEngine(Engine):
         return replies
 
     def ask(self, lines: Iterable[bytes]) -> list[bytes]:
+        """The replies to lines of the page; lights are looked at between the steps that these make. Fault where nothing
+        was begun."""
         with self.lock:
             if self.client is None:
                 raise Fault("nothing is running: reload the page")
@@ -54,7 +57,7 @@ class DrivenEngine(Engine):
             return replies + list(self.client.exchange(waiting))
 
     def advance(self, steps: int) -> bytes:
-        """So many steps, with the looks at lights that are due on the way."""
+        """Makes so many steps, with the looks at lights that are due on the way; gives the reply to the page."""
         assert self.client is not None
         target, reply = self.clock + steps, {}
         while self.clock < target:
@@ -72,14 +75,15 @@ class DrivenEngine(Engine):
         return line_of(told)
 
     def show(self, commands: Iterable[Command]) -> None:
-        """Sends detectors and signals of lights."""
+        """Sends commands that place detectors of lights, or set signals; the signals are kept for the page."""
         assert self.client is not None
         for command in commands:
             list(self.client.exchange([line_of(command)]))
             self.shown += [command] if command["cmd"] == "signal" else []
 
     def set_plan(self, line: bytes) -> bytes:
-        """A plan of the page's, which takes a light from its detectors unless it is refused."""
+        """Sends a signal line of the page, and gives the reply; unless it is refused, detectors no longer drive this
+        light."""
         assert self.client is not None
         [text] = self.client.exchange([line])
         if b'"error"' not in text and b'"starved"' not in text:
@@ -88,7 +92,7 @@ class DrivenEngine(Engine):
 
 
 def steps_of(line: bytes) -> int:
-    """The steps of an advance; 0 of another line, or of one that is no command."""
+    """The steps of an advance line; 0 for any other line, or for one that is no command."""
     if not line.startswith(ADVANCE):
         return 0
     try:

@@ -1,5 +1,5 @@
-"""What a page says of a network beside its map: names of streets and areas of junctions, of the file that was
-imported; and when vehicles would end that nobody is in the way of."""
+"""What a page tells of a network beside its map: names of streets and areas of junctions; and when vehicles would end
+if nobody were in their way."""
 import os
 from collections.abc import Iterable
 
@@ -12,8 +12,8 @@ Area = list[list[float]]
 
 
 def streets_and_areas(mapping: Map, map_path: FilePath) -> tuple[dict[str, str], dict[str, Area]]:
-    """The names of edges that the map has, or the imported network where it is still there, and the areas of junctions
-    that this one has."""
+    """(names of streets by edge, outlines of junctions by name). Names are those of the map, and of the imported
+    network where its file is still there; outlines are of that file alone, and empty without it."""
     names: dict[str, str] = dict(mapping.names.get("edges", {}))
     areas: dict[str, Area] = {}
     if not mapping.sources:
@@ -32,13 +32,13 @@ def streets_and_areas(mapping: Map, map_path: FilePath) -> tuple[dict[str, str],
 
 
 def points_of(texts: Iterable[str]) -> Area:
-    """The points of a shape: x,y or x,y,z, with blanks between."""
+    """The points [x, y] of a shape's texts "x,y" or "x,y,z", in metres."""
     return [[float(value) for value in text.split(",")[:2]] for text in texts]
 
 
 def departures_and_ends(run: Run, mapping: Map) -> tuple[list[int], list[int]]:
-    """The seconds at which vehicles wish to depart, and at which they would end alone on their way with all lights
-    green; both rise."""
+    """(the seconds at which vehicles wish to depart, those at which they would end if they were alone and all lights
+    green); each list rises by itself."""
     alone, known = Alone(mapping, run.load.command.get("dawdle", 0) / 1000), {}
     departs, ends = [], []
     for line in run.enters:

@@ -22,8 +22,8 @@ PATIENCE = 10  # seconds for a program whose bridge was killed to end
 
 
 class KeptEngine(Engine):
-    """A page that comes to a kept session sends again all that was sent, and is answered by a program that keeps
-    nothing; when that has done all that is in the file, the one that keeps goes on from there."""
+    """The engine of a session that is kept. A page that comes to it sends again all that was sent, answered by a
+    program that keeps nothing; when all lines of the file are done, the program that keeps goes on from there."""
 
     def __init__(self, program: str, lines: list[bytes], file: Path, start: int) -> None:
         """lines: the run's own; start: its first clock. Fault where the file is one of another run, or in use."""
@@ -39,7 +39,8 @@ class KeptEngine(Engine):
         self.known_file()
 
     def opened(self) -> Any:
-        """The file of the notes, for this bridge alone."""
+        """The open file of the notes, locked for this bridge; Fault where another one has it. A note that was cut off
+        is taken away."""
         try:
             notes = open(self.beside, "ab")
         except OSError as fault:
@@ -53,14 +54,15 @@ class KeptEngine(Engine):
         return notes
 
     def settle_crash(self) -> None:
-        """Where all was being run anew as the bridge ended, it is as before, or as after."""
+        """Where the bridge ended while all was run anew, chooses the changes of before or after, by whether the new
+        session is in place."""
         if self.next is not None and not self.making.exists():
             self.changes = self.next
         self.next = None
         self.making.unlink(missing_ok=True)
 
     def await_end(self) -> None:
-        """Waits until no program has the file, as one whose bridge was killed ends by itself."""
+        """Waits up to PATIENCE seconds until no program has the file; Fault where one still has."""
         until = time.monotonic() + PATIENCE
         while self.file.exists() and is_locked(self.file):
             if time.monotonic() > until:
@@ -68,13 +70,14 @@ class KeptEngine(Engine):
             time.sleep(0.05)
 
     def known_file(self) -> None:
-        """Refuses a file that does not begin with the run's own lines, as far as it goes."""
+        """Fault where the file does not begin with the run's own lines, as far as it goes."""
         for number, (line, own) in enumerate(zip(lines_of_file(self.file), self.lines), 1):
             if line != own:
                 raise Fault(f"{self.file}: line {number} is not of this run: it has another session")
 
     def begin(self, anew: bool = False) -> list[bytes]:
-        """Begins the session: where it was left, or from nothing in the place of it (anew)."""
+        """Begins the session where it was left, or from nothing, in its place (anew); gives the replies to the run's
+        own lines."""
         with self.lock:
             self.stop()
             self.making.unlink(missing_ok=True)
@@ -86,13 +89,14 @@ class KeptEngine(Engine):
             return self.told(self.lines)
 
     def ask(self, lines: Iterable[bytes]) -> list[bytes]:
+        """The replies to lines of the page, each with its LF; Fault where nothing was begun."""
         with self.lock:
             if self.client is None:
                 raise Fault("nothing is running: reload the page")
             return self.told(lines)
 
     def told(self, lines: Iterable[bytes]) -> list[bytes]:
-        """The replies to some lines, of which those that the file has are done again."""
+        """The replies to lines; those that the file has already are done again, not kept twice."""
         assert self.client is not None
         replies, left = [], list(lines)
         while left and self.again < len(self.kept):
@@ -108,7 +112,7 @@ class KeptEngine(Engine):
         return replies + list(self.client.exchange(left))
 
     def alike(self, lines: list[bytes]) -> int:
-        """How many of some lines ask, or are those that come next in the file."""
+        """How many of the lines, from the first on, change nothing or are those that come next in the file."""
         for count, line in enumerate(lines):
             if self.again == len(self.kept):
                 return count
@@ -119,7 +123,8 @@ class KeptEngine(Engine):
         return len(lines)
 
     def refused(self, line: bytes) -> list[bytes]:
-        """The reply to a line that is not in the file, as it was refused; Fault where it is not."""
+        """The reply to a line that the file does not have; Fault where the program does not refuse it, as the file has
+        refused lines left out."""
         assert self.client is not None
         replies = list(self.client.exchange([line]))
         if b'"error":' not in replies[0]:
@@ -127,7 +132,7 @@ class KeptEngine(Engine):
         return replies
 
     def go_on(self) -> None:
-        """Has the program that keeps take the place of the one that does not, at the same state."""
+        """Has the program that keeps take over from the one that does not; Fault where it is not at the same state."""
         assert self.client is not None
         before, now = self.client, Client(self.program, keep=self.file)
         alike = list(now.exchange([COUNT])) == list(before.exchange([COUNT]))
@@ -137,20 +142,20 @@ class KeptEngine(Engine):
             raise Fault(f"{self.file}: it leads to another state than the page")
 
     def known(self) -> dict[str, Any]:
-        """What a page that begins has to know of the session so far: its changes and the clock."""
+        """What a page that begins must know of the session: {"changes": its changes, "clock": the clock so far}."""
         with self.lock:
             commands = map(json.loads, lines_of_file(self.file))
             steps = sum(one["steps"] for one in commands if one["cmd"] == "advance")
             return {"changes": self.changes, "clock": self.start + steps}
 
     def know(self, changes: list[Any]) -> None:
-        """Keeps the changes of the page, those before their lines too."""
+        """Keeps the changes of the page; the page sends them before the lines that they make."""
         with self.lock:
             self.note("changes", changes)
             self.changes = changes
 
     def settle(self, changes: list[Any]) -> None:
-        """Has the session that was made anew, with these changes, take the place of the one before."""
+        """Puts the session that was made anew, with these changes, in the place of the one before."""
         with self.lock:
             self.note("next", changes)
             os.replace(self.making, self.file)
@@ -159,18 +164,20 @@ class KeptEngine(Engine):
             self.changes = changes
 
     def note(self, kind: str, changes: list[Any]) -> None:
-        """Writes what the page knows, and has the disk keep it."""
+        """Writes a note of the page's changes, and waits until the disk has it; kind: "changes", or "next" for those of
+        a session in the making."""
         self.notes.write(json.dumps({kind: changes}, separators=(",", ":")).encode() + b"\n")
         self.notes.flush()
         os.fsync(self.notes.fileno())
 
     def close(self) -> None:
+        """Ends the program, and gives the file of the notes free."""
         super().close()
         self.notes.close()
 
 
 def is_locked(path: Path) -> bool:
-    """Whether a program keeps its session in a file; Fault where it cannot be read."""
+    """Whether a program has a file as its kept session; Fault where it cannot be read."""
     try:
         with open(path, "rb") as file:
             fcntl.flock(file, fcntl.LOCK_EX | fcntl.LOCK_NB)
@@ -182,7 +189,7 @@ def is_locked(path: Path) -> bool:
 
 
 def whole_lines(path: Path) -> bytes:
-    """The lines of a file that have ended; nothing where there is no file."""
+    """The bytes of a file up to its last LF; empty where there is no file."""
     try:
         text = path.read_bytes()
     except FileNotFoundError:
@@ -193,12 +200,12 @@ def whole_lines(path: Path) -> bytes:
 
 
 def lines_of_file(path: Path) -> list[bytes]:
-    """The commands of a kept file, each with its LF."""
+    """The commands in a kept file, each with its LF; empty where there is no file."""
     return [line for line in whole_lines(path).splitlines(keepends=True) if line.strip()]
 
 
 def read_notes(path: Path) -> tuple[list[Any], list[Any] | None]:
-    """The page's changes by its last note, and those of a session that was to take its place."""
+    """(the page's changes by its last note, those of a session that was in the making or None)."""
     changes: list[Any] = []
     coming = None
     for line in whole_lines(path).splitlines():
@@ -209,7 +216,7 @@ def read_notes(path: Path) -> tuple[list[Any], list[Any] | None]:
 
 
 def sync_folder(path: Path) -> None:
-    """Has the disk keep the name of a file."""
+    """Waits until the disk has the name of a file."""
     folder = os.open(path.resolve().parent, os.O_RDONLY)
     try:
         os.fsync(folder)

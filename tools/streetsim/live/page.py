@@ -29,11 +29,13 @@ MOST_BYTES = 100_000_000  # of the packed data; browsers are slow with more
 
 
 def own_lines(run: Run) -> list[bytes]:
-    """The run's lines that are sent before the first step: the load, what is set at once, and all vehicles."""
+    """The run's lines that are sent before the first step, as bytes with LF: the load, first lines, and all
+    vehicles."""
     return [line.text.encode() + b"\n" for line in (run.load, *run.first, *run.enters)]
 
 
 def links_of(run: Run, mapping: Map, streets: dict[str, str]) -> list[dict[str, Any]]:
+    """The links as the page reads them; streets: names by edge."""
     return [
         {
             "number": number, "name": link.edge, "street": streets.get(link.edge, ""), "lanes": lanes,
@@ -47,6 +49,8 @@ def links_of(run: Run, mapping: Map, streets: dict[str, str]) -> list[dict[str, 
 
 
 def nodes_of(run: Run, mapping: Map, areas: dict[str, list]) -> list[dict[str, Any]]:
+    """The nodes as the page reads them, each with its light and how many signals that has (None: no light); areas:
+    outlines by junction."""
     names = Names(mapping)
     lights: dict[int, dict[str, Any]] = {node: {"name": name, "size": 0} for name, node in mapping.signals}
     for turn in mapping.turns:
@@ -63,7 +67,7 @@ def nodes_of(run: Run, mapping: Map, areas: dict[str, list]) -> list[dict[str, A
 
 
 def giving_of(run: Run, mapping: Map) -> list[int]:
-    """The nodes without a light where the run has signals by which vehicles give way."""
+    """The nodes without a light at which the run has signal lines by which vehicles give way, sorted."""
     lit, known = {node for _, node in mapping.signals}, {one.node for one in mapping.yields}
     return sorted({command["node"] for _, command in run.signals()} & known - lit)
 
@@ -72,9 +76,9 @@ def data_of(
     run: Run, mapping: Map, single: bool = False, map_path: FilePath = "", proved: bool = False, kept: bool = False,
     driven: bool = False,
 ) -> dict[str, Any]:
-    """What the page knows of a run beside the replies: names, shapes, turns,
-    signal plans and the lines that are sent later. single: whether it is one file; proved: whether its program is the
-    one that ./build made; kept: whether the bridge keeps its session; driven: whether it drives lights by detectors."""
+    """What the page knows of a run beside the replies. single: it is one file, with its engine; map_path: to find the
+    imported network, empty: not looked for; proved: its program is the one that ./build made; kept: the bridge keeps
+    its session; driven: the bridge drives lights by detectors."""
     lights = driven_lights(run, mapping) if driven and mapping.programs else LISTED
     streets, areas = streets_and_areas(mapping, map_path) if map_path else ({}, {})
     departs, free = departures_and_ends(run, mapping)
@@ -101,7 +105,7 @@ def data_of(
 
 
 def packed(value: bytes) -> str:
-    """Bytes as a page holds them: gzip in base 64, the same for equal bytes."""
+    """Bytes as a page holds them: gzip in base 64; equal bytes give equal texts."""
     return base64.b64encode(gzip.compress(value, mtime=0)).decode()
 
 
@@ -109,7 +113,8 @@ def page_of(
     run: Run, mapping: Map, engine: bytes | None = None, map_path: FilePath = "", proved: bool = False,
     kept: bool = False, driven: bool = False,
 ) -> bytes:
-    """The page: with an engine it is one file that runs by itself; else it asks the bridge that serves it."""
+    """The page as bytes: with an engine one file that runs by itself, without (None) one that asks the bridge. Other
+    arguments: as of data_of. Fault where it is larger than MOST_BYTES."""
     known = data_of(run, mapping, engine is not None, map_path, proved, kept, driven)
     parts = {
         "@DATA@": packed(json.dumps(known, separators=(",", ":")).encode()),

@@ -1,4 +1,4 @@
-"""The programs of a page: for this machine, and for browsers."""
+"""Finds the programs of a page: for this machine, and for browsers."""
 import os
 from pathlib import Path
 
@@ -13,13 +13,13 @@ AT = {NATIVE: f"libexec/streetsim/{NATIVE}", MODULE: f"share/streetsim/{MODULE}"
 
 
 def beside(name: str) -> Path:
-    """A file that ./build --page makes: the one that is installed with the tools, else that of the repository that they
-    lie in."""
+    """The path of a file that ./build --page makes: the one installed with the tools, else that of the repository."""
     return installed(AT[name]) or TOP / BUILT / name
 
 
 def program_of(given: str | None) -> str:
-    """The path of the page's program, the one given or the one named or built; Fault where it cannot be run."""
+    """The path of the page's program: the one given, else that of STREETSIM_PAGE, else the one built. Fault where it
+    cannot be run."""
     named = given or os.environ.get(VARIABLE) or str(beside(NATIVE))
     if not os.access(named, os.X_OK):
         raise Fault(
@@ -30,7 +30,7 @@ def program_of(given: str | None) -> str:
 
 
 def module_of(given: str | None) -> bytes:
-    """The engine for browsers, the file given or the one built; Fault where it is not there."""
+    """The engine for browsers, as bytes: of the file given (None: the one built); Fault where it cannot be read."""
     path = Path(given) if given else beside(MODULE)
     try:
         return path.read_bytes()
@@ -39,11 +39,12 @@ def module_of(given: str | None) -> bytes:
 
 
 def is_whole_built(program: str) -> bool:
-    """Whether a program is the one that ./build made, which is proved."""
+    """Whether a program is the one that ./build made and proved."""
     return Path(program).resolve() == Path(__file__).resolve().parents[3] / program_built.BUILT
 
 
 def is_built(given: str | None, as_module: bool) -> bool:
-    """Whether the program of a page is the one that ./build --page made, which is proved."""
+    """Whether a page's program is the one that ./build --page made and proved; given: as of program_of, or (as_module)
+    as of module_of."""
     path = Path(given or (not as_module and os.environ.get(VARIABLE)) or beside(MODULE if as_module else NATIVE))
     return path.resolve() == beside(MODULE if as_module else NATIVE).resolve()

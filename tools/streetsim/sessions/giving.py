@@ -26,9 +26,9 @@ def giving_session(
     without: frozenset = frozenset(),
     **load: int,
 ) -> Session:
-    """The session of a run whose vehicles give way by so many rounds. settings: its end, whether that is open, whether
-    vehicles merge before works by turns, which lights detectors drive,
-    and which stops are made."""
+    """The session of a run whose vehicles give way without a light by so many rounds. settings: its end, whether that
+    is open, merging before works, lights that detectors drive and stops that are made; without: nodes whose signals are
+    given with each run; load: fields of the load with other values."""
     until = settings.until
     session = session_of(program, run, until, without, **load)
     gives_way = rounds and mapping.yields
@@ -39,12 +39,14 @@ def giving_session(
 
 
 def is_driven(of: Settings | Giving) -> bool:
-    """Whether lines are sent by what is seen while a run goes: of lights or of buses."""
+    """Whether lines are sent by what is seen while a run goes: for lights that detectors drive, or for buses."""
     return bool(of.lights.driven or of.buses.visits)
 
 
 def gaps(session: Session, signals: bytes, seed: int) -> tuple[list, Yielding]:
-    """The signal lines of a session's minor streets, (clock, line), for some signals of its lights and a seed."""
+    """The signal lines, (clock, line), by which vehicles of a session give way without a light, and how many they are;
+    found by runs with a seed and some signals of its lights, as lines in bytes. None of them where the session has no
+    giving."""
     giving = session.giving
     if giving is None:
         return [], Yielding()
@@ -55,7 +57,8 @@ def gaps(session: Session, signals: bytes, seed: int) -> tuple[list, Yielding]:
 
 
 def with_gaps(session: Session, lines: list) -> Session:
-    """The session with signal lines of minor streets, and no more rounds."""
+    """The session with signal lines, (clock, line), by which vehicles give way without a light, and with no more
+    rounds; its giving must not be None."""
     giving = session.giving
     assert giving is not None
     made = session_of(session.program, with_lines(giving.run, lines), giving.until, giving.without)
@@ -63,7 +66,7 @@ def with_gaps(session: Session, lines: list) -> Session:
 
 
 def outcome_giving_way(session: Session, signals: bytes, seed: int) -> Outcome:
-    """What a run with some signals and a seed gave, after its rounds."""
+    """What a run with a seed and some signals (lines in bytes) gave, after its rounds; a task of a worker."""
     if session.giving is None:
         return outcome(session, signals, seed)
     lines, yielding = gaps(session, signals, seed)
@@ -76,8 +79,9 @@ def outcome_giving_way(session: Session, signals: bytes, seed: int) -> Outcome:
 
 
 def open_outcome(session: Session, lines: list, signals: bytes, seed: int) -> Outcome:
-    """What a run gave that is asked while it goes, without a last second, with works or lights that detectors drive:
-    with signal lines of its minor streets."""
+    """What a run gave that is asked while it goes: one without a last second, with works, buses, or lights that
+    detectors drive. lines: (clock, line), by which vehicles give way. Fault where the program is another one than the
+    session's."""
     if digest_of(session.program) != session.digest:
         raise Fault(f"{session.program}: another program than the one that the runs were prepared for, or none")
     giving = session.giving
@@ -96,12 +100,12 @@ def open_outcome(session: Session, lines: list, signals: bytes, seed: int) -> Ou
 
 
 def with_signals(run: Run, signals: bytes, nodes: frozenset) -> Run:
-    """The run with signals in place of those of some nodes."""
+    """The run with signals (lines in bytes) in place of its own first signals at some nodes."""
     kept = (line for line in run.first if not (line.command["cmd"] == "signal" and line.command["node"] in nodes))
     return replace(run, first=[*kept, *lines_in(signals)])
 
 
 def lines_in(text: bytes) -> Iterator[Line]:
-    """The lines of some text, as those of no file."""
+    """The lines of some bytes, as lines that stand in no file."""
     for line in text.decode().splitlines():
         yield Line(0, line, json.loads(line))

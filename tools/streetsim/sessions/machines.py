@@ -37,38 +37,40 @@ class Held(Protocol):
 
     @property
     def program(self) -> str:
+        """The path of the program."""
         ...
 
     @property
     def digest(self) -> str | None:
-        """Of the program's file."""
+        """The SHA-256 of the program's file; None where it is not there."""
 
 
 class Workers:
-    """The workers of a cluster. dask's own executor takes a result for an exception where its worker dies while it is
-    fetched; its futures do not."""
+    """The workers of a cluster of dask. Its own executor takes a result for an exception where a worker dies while the
+    result is fetched; the futures used here do not."""
 
     def __init__(self, client: Cluster) -> None:
         self.client = client
 
     def submit(self, function: Function, *arguments: Any) -> Any:
-        """Begins a task; two with the same arguments are two."""
+        """Begins a task, and gives its future; a second task with the same arguments is done too."""
         return self.client.submit(function, *arguments, pure=False)
 
 
 class Machines:
-    """Runs functions of (session, ..) on some workers; sessions go by their place in a list."""
+    """Runs functions of (session, ..) on some workers; a session is named by its place in a list."""
 
     def __init__(self, executor: Executor, held: Sequence[Held | int]) -> None:
         self.executor, self.held = executor, held
 
     def submit(self, function: Function, place: int, *arguments: Any) -> Any:
-        """Begins a task: a function of the session at a place, and of more."""
+        """Begins a task: a function of the session at a place and of further arguments; gives its future."""
         return self.executor.submit(work, function, self.held[place], *arguments)
 
     def ordered(self, tasks: Iterable[Sequence[Any]]) -> Iterator[Any]:
-        """Gives what tasks, each (name, function, place, ..), give: in their order, whatever the order in which they
-        end. Who asks for no more ends the others."""
+        """What tasks, each (name, function, place, ..), give, in their order, whatever the order in which they end.
+        Where the caller stops asking, tasks that have not begun are cancelled. Fault, with its name, where a task was
+        given up."""
         futures = [(name, self.submit(*task)) for name, *task in tasks]
         try:
             for name, future in futures:
@@ -79,12 +81,12 @@ class Machines:
 
 
 def work(function: Function, session: Any, *arguments: Any) -> Any:
-    """One task, where it is done; a number is the place of a session that the process holds."""
+    """Does one task; session: a session, or the place of one that this process holds."""
     return function(HELD[session] if isinstance(session, int) else session, *arguments)
 
 
 def result_of(future: Any, name: str) -> Any:
-    """What a task gave; a Fault that names it where it was given up."""
+    """The result of a task; Fault with its name where its worker was lost."""
     try:
         return future.result()
     except LOST as fault:
@@ -99,13 +101,14 @@ def result_of(future: Any, name: str) -> Any:
 
 
 def told_of(fault: BaseException) -> str:
-    """What an exception says, else its name."""
+    """What an exception says; where it says nothing, the name of its type."""
     return str(fault) or type(fault).__name__
 
 
 @contextlib.contextmanager
 def machines(jobs: int, cluster: str | None, sessions: Sequence[Held]) -> Iterator[Machines]:
-    """The workers of a cluster, or of this machine, which know some sessions."""
+    """The workers of a cluster (HOST:PORT), or without one (None) so many processes of this machine; both know the
+    sessions."""
     if cluster:
         with cluster_of(cluster, sessions) as made:
             yield made
@@ -118,8 +121,8 @@ def machines(jobs: int, cluster: str | None, sessions: Sequence[Held]) -> Iterat
 
 
 def end(executor: Executor) -> None:
-    """Ends the processes of a pool. Where one was lost while a task was written for it, nobody reads the rest, and the
-    pool of a Python before 3.11.5 waits for that for ever: its own end of the pipe is closed here."""
+    """Ends the processes of a pool. Where one was lost while a task was written for it, the pool of a Python before
+    3.11.5 would wait for ever; so its end of the pipe is closed here."""
     manager, calls = executor._executor_manager_thread, executor._call_queue
     executor.shutdown(wait=False, cancel_futures=True)
     while manager is not None and manager.is_alive():
@@ -129,7 +132,7 @@ def end(executor: Executor) -> None:
 
 
 def hold(sessions: Sequence[Held]) -> None:
-    """Begins a process of the pool. Ctrl-C is the main process's: neither this one nor its programs see it."""
+    """Begins a process of the pool, which holds sessions. It ignores Ctrl-C, which the main process handles."""
     HELD[:] = sessions
     signal.signal(signal.SIGINT, signal.SIG_IGN)
     for number in (signal.SIGTERM, signal.SIGHUP):
@@ -138,7 +141,8 @@ def hold(sessions: Sequence[Held]) -> None:
 
 @contextlib.contextmanager
 def cluster_of(address: str, sessions: Sequence[Held]) -> Iterator[Machines]:
-    """The workers of a scheduler that runs; all must have the program that is here."""
+    """The workers of a dask scheduler at an address HOST:PORT. Fault where dask is not installed, nobody answers in
+    PATIENCE seconds, or a worker does not have the program that is here."""
     try:
         from distributed import Client
     except ImportError:
@@ -165,7 +169,8 @@ def cluster_of(address: str, sessions: Sequence[Held]) -> Iterator[Machines]:
 
 
 def prepare(client: Cluster, address: str, sessions: Sequence[Held]) -> None:
-    """Makes the workers ready; once more where one of them is lost meanwhile."""
+    """Makes the workers of a cluster ready; where one of them is lost meanwhile, again, TRIES times in all, and then a
+    Fault."""
     for left in reversed(range(TRIES)):
         try:
             send_package(client)
@@ -177,7 +182,7 @@ def prepare(client: Cluster, address: str, sessions: Sequence[Held]) -> None:
 
 
 def send_package(client: Cluster) -> None:
-    """Sends this package to all workers, and to those that come later."""
+    """Sends this package to all workers of a cluster, also to those that join it later."""
     place = Path(__file__).resolve().parents[1]
     with tempfile.TemporaryDirectory() as folder:
         path = os.path.join(folder, "streetsim_tools.zip")
@@ -188,7 +193,7 @@ def send_package(client: Cluster) -> None:
 
 
 def check_programs(client: Cluster, sessions: Sequence[Held]) -> None:
-    """Refuses a cluster with a worker whose program is another one."""
+    """Fault where a worker of a cluster has no program, or another one, at a session's path."""
     for program, digest in sorted({(session.program, session.digest) for session in sessions}):
         for worker, found in sorted(client.run(digest_of, program).items()):
             if found != digest:

@@ -1,5 +1,5 @@
 """Runs of a study that are driven step by step: those without a last second, which go on until all have arrived or
-nobody moves, and those with works, before which vehicles merge."""
+nobody moves, and those with works, buses, or lights that detectors drive."""
 import hashlib
 from typing import Any
 
@@ -16,14 +16,14 @@ from streetsim.works.watched import doubts_of
 
 
 class Summed(Client):
-    """A client that keeps the sum of all replies."""
+    """A client that keeps the SHA-256 of all replies."""
 
     def __init__(self, *words: Any, **more: Any) -> None:
         super().__init__(*words, **more)
         self.sum = hashlib.sha256()
 
     def turn(self, chunk: list[bytes]) -> list[bytes]:
-        """As of any client; adds the replies to the sum."""
+        """As of Client; adds the replies to the sum."""
         replies = super().turn(chunk)
         for reply in replies:
             self.sum.update(reply)
@@ -31,14 +31,14 @@ class Summed(Client):
 
 
 class Counted(Recorder):
-    """A run whose vehicles are counted each minute and asked for at its end; nothing else is asked,
-    and nobody is rescued."""
+    """A run whose vehicles are counted each minute and asked for at its end; it has no polls and no detectors of its
+    own, and nobody is rescued."""
 
     def __init__(self, sim: Client, run: Run, mapping: Map, settings: Settings) -> None:
         super().__init__(sim, run, mapping, settings, None, lambda *_: None)
 
     def record(self) -> Records:
-        """Makes the whole run."""
+        """Makes the whole run; gives its records."""
         self.begin(Asking(0, [], 0))
         clock = self.start
         while clock < self.settings.until:
@@ -50,7 +50,7 @@ class Counted(Recorder):
 
 
 def outcome_of(program: str, run: Run, mapping: Map, settings: Settings) -> Outcome:
-    """What a run gives. One that has not arrived counts until the end that the run had."""
+    """Makes a run and gives its outcome; a vehicle that has not arrived counts until the run's end."""
     with serving(program, run.path, client=Summed) as sim:
         assert isinstance(sim, Summed)
         records = Counted(sim, run, mapping, settings).record()

@@ -34,7 +34,7 @@ REFUSED = re.compile(rb'.*(?:"error":|"starved"|"short":).*')
 
 @dataclass(frozen=True, slots=True)
 class Session:
-    """A run but for its seed and its signals, as bytes."""
+    """A run but for its seed and the signals that are given with each run, as bytes."""
 
     program: str
     digest: str | None  # SHA-256 of the program's file
@@ -68,7 +68,8 @@ class Outcome:
 
 
 def session_of(program: str, run: Run, until: int, without: Collection[int] = frozenset(), **load: int) -> Session:
-    """The session of a run up to a clock, without the signals of some nodes, and with other values of the load."""
+    """The session of a run up to a clock, but for the signals of the nodes in without; load: fields of the load with
+    other values."""
     command = {**run.load.command, **load}
     command.pop("seed", None)
     first = [line for line in run.first if not (line.command["cmd"] == "signal" and line.command["node"] in without)]
@@ -92,12 +93,13 @@ def session_of(program: str, run: Run, until: int, without: Collection[int] = fr
 
 
 def lines_of(lines: Iterable[Line]) -> bytes:
-    """Lines of a run as bytes."""
+    """Lines of a run as bytes, each with its LF."""
     return "".join(line.text + "\n" for line in lines).encode()
 
 
 def steps(clocks: Sequence[int], timed: Sequence[tuple[int, Line]], counted: bytes) -> bytes:
-    """The steps from clock to clock, what is sent meanwhile, and a line at each clock but the first."""
+    """The advance lines from clock to clock with the timed lines between, as bytes; counted: the line that follows at
+    each of the clocks but the first."""
     told, clocks = set(clocks), sorted({*clocks, *(clock for clock, _ in timed if clocks[0] < clock < clocks[-1])})
     sent = {clock: b"" for clock in clocks}
     for clock, line in timed:
@@ -110,8 +112,8 @@ def steps(clocks: Sequence[int], timed: Sequence[tuple[int, Line]], counted: byt
 
 
 def replies(session: Session, signals: bytes, seed: int, tail: bytes) -> bytes:
-    """What the program says to a whole run; Fault where it refuses a line, or is another program than the session's.
-    Files in place of pipes, so that nobody waits for the other side."""
+    """All replies of the program to a whole run, as bytes. signals: lines; tail: what follows the vehicles. Fault where
+    a line is refused, the program fails, or it is another one than the session's."""
     if digest_of(session.program) != session.digest:
         raise Fault(f"{session.program}: another program than the one that the runs were prepared for, or none")
     with tempfile.TemporaryFile() as given, tempfile.TemporaryFile() as told:
@@ -131,8 +133,8 @@ def replies(session: Session, signals: bytes, seed: int, tail: bytes) -> bytes:
 
 
 def vehicle_seconds(session: Session, signals: bytes, seed: int) -> float:
-    """The seconds of all vehicles from the wished departure to the arrival or the end, of a run with some signals and a
-    seed: the area above the curve of arrivals. These are whole seconds, taken as spread evenly between two counts."""
+    """The seconds from wished departure to arrival, or to the end, summed over the vehicles of a run with some signals
+    (lines in bytes) and a seed; reckoned from counts each OFTEN seconds, arrivals spread evenly between them."""
     text = replies(session, signals, seed, session.counting)
     arrived = [0, *map(int, ARRIVED.findall(text))]
     if len(arrived) != len(session.clocks):
@@ -146,7 +148,7 @@ def vehicle_seconds(session: Session, signals: bytes, seed: int) -> float:
 
 
 def outcome(session: Session, signals: bytes, seed: int) -> Outcome:
-    """What a run with some signals and a seed gave, exactly."""
+    """What a run with some signals (lines in bytes) and a seed gave, by asking for each vehicle at its end."""
     text = replies(session, signals, seed, session.asking)
     count, until = len(session.departs), session.clocks[-1]
     last = [json.loads(line) for line in text.splitlines()[-count:]] if count else []
@@ -158,14 +160,15 @@ def outcome(session: Session, signals: bytes, seed: int) -> Outcome:
 
 
 def all_gone(ends: Sequence[int | None], start: int) -> int | None:
-    """When the last of all arrived, by the arrivals; none where one has not; the start where there is nobody."""
+    """The clock at which the last vehicle arrived; ends: of each its arrival, None: it has not arrived. None where one
+    has not; start where there is nobody."""
     arrivals = [end for end in ends if end is not None]
     return max(arrivals, default=start) if len(arrivals) == len(ends) else None
 
 
 def most_waiting(session: Session, counts: Iterable[int]) -> tuple[int, int]:
-    """How many vehicles waited to enter at the worst look, and its clock; counts: of all who wait,
-    also for their second."""
+    """(how many vehicles waited to enter at the worst minute, its clock). counts: by minute all who are told and have
+    not entered, from which those of later departure are taken off."""
     departs, clocks = sorted(session.departs), session.minutes[1:]
     later = (len(departs) - bisect_left(departs, clock) for clock in clocks)
     waiting = [count - others for count, others in zip(counts, later, strict=True)]
@@ -174,7 +177,7 @@ def most_waiting(session: Session, counts: Iterable[int]) -> tuple[int, int]:
 
 @dataclass(frozen=True, slots=True)
 class Giving:
-    """What the rounds of a session need, but signals and seed."""
+    """What the rounds of a session need, but for signals and seed."""
 
     run: Run
     mapping: Map
