@@ -123,8 +123,8 @@ class KeptEngine(Engine):
         return len(lines)
 
     def refused(self, line: bytes) -> list[bytes]:
-        """The reply to a line that the file does not have; Fault where the program does not refuse it, as the file has
-        refused lines left out."""
+        """The reply to a line that the file does not have. The file has no refused lines, so the program must refuse
+        this one; Fault where it does not."""
         assert self.client is not None
         replies = list(self.client.exchange([line]))
         if b'"error":' not in replies[0]:

@@ -1,4 +1,4 @@
-"""TraCI's calls as scenarios and `streetsim.traci` both have them, in metres, metres a second and seconds."""
+"""TraCI's calls that scenarios and streetsim.traci both have, in metres, metres a second and seconds."""
 from collections.abc import Callable, Container, Sequence
 from typing import Any, Generic, TypeVar
 
@@ -12,7 +12,8 @@ Simulated = TypeVar("Simulated", bound=Simulation)
 
 
 class Calls(Generic[Simulated]):
-    """A domain of calls, as TraCI groups them. What is not here says what to do instead."""
+    """A domain of calls, as TraCI groups them. A call that is not here raises NotHere, which says what to do
+    instead."""
 
     name = ""
 
@@ -30,37 +31,38 @@ class Calls(Generic[Simulated]):
         raise NotImplementedError
 
     def check(self, name: str, names: Container[str]) -> None:
-        """Refuses a name that is not one of some; here all may be."""
+        """Refuses a name that is not one of names, where a domain does so; here every name may be."""
 
 
 class SimulationCalls(Calls[Simulated]):
-    """What is told of the run."""
+    """Calls on the run itself."""
     def getTime(self) -> float:
         """The clock, in seconds."""
         return float(self.now().clock)
 
     def getMinExpectedNumber(self) -> int:
-        """Vehicles that have not ended."""
+        """How many vehicles have not ended, those that will depart among them."""
         return self.now().expected()
 
 
 class VehicleCalls(Calls[Simulated]):
-    """What is told of a vehicle, by its place."""
+    """Calls on a vehicle, by its place. TraCI's value for "nowhere" (NOWHERE) stands for a number of one that has no
+    place."""
 
     def place(self, name: str) -> Place | None:
-        """Where a vehicle is; none before it departs and after its end."""
+        """Where a vehicle is; None before it departs and after its end."""
         raise NotImplementedError
 
     def place_on_lane(self, name: str) -> Place | None:
-        """Where a vehicle is, for what is told of its lane; none as `place`, or where its lane is not told."""
+        """Where a vehicle is, for calls on its lane; None as of place, or where its lane is not told."""
         return self.place(name)
 
     def known(self, name: str) -> Simulated:
-        """The simulation, where there is such a vehicle; refused elsewhere, as each face does."""
+        """The simulation; a domain that knows its vehicles raises its own exception for an unknown one."""
         return self.now()
 
     def getRoadID(self, name: str) -> str:
-        """The edge; in a junction ':' and its name; '' where it has no place."""
+        """The name of its edge; in a junction ":" and the junction's name; empty where it has no place."""
         place, mapping = self.place(name), self.now().map
         if place is None:
             return ""
@@ -68,12 +70,12 @@ class VehicleCalls(Calls[Simulated]):
         return link.edge if place.cell is not None else f":{mapping.nodes[link.end][0]}"
 
     def getLaneIndex(self, name: str) -> int:
-        """The lane's index in SUMO; TraCI's value for no number where it has no place."""
+        """SUMO's index of its lane; NOWHERE as a whole number where it has no place."""
         place = self.place_on_lane(name)
         return int(NOWHERE) if place is None else self.now().map.links[place.link].lanes[place.lane]
 
     def getLaneID(self, name: str) -> str:
-        """SUMO's name of the lane; in a junction ':', its name and '_0'; '' where it has no place."""
+        """SUMO's name of its lane; in a junction ":", the junction's name and "_0"; empty where it has no place."""
         place = self.place_on_lane(name)
         if place is None:
             return ""
@@ -82,20 +84,19 @@ class VehicleCalls(Calls[Simulated]):
         return self.now().map.lane_name(place.link, place.lane)
 
     def getLanePosition(self, name: str) -> float:
-        """The front of the vehicle, in metres from the lane's begin; in a junction 0; TraCI's value for no number where
-        it has no place."""
+        """Metres from the lane's begin to the vehicle's front; 0 in a junction, NOWHERE where it has no place."""
         place = self.place_on_lane(name)
         if place is None:
             return NOWHERE
         return self.front(place) if place.cell is not None else 0.0
 
     def front(self, place: Place) -> float:
-        """Metres from the link's begin to the vehicle's front; in a junction the whole link."""
+        """Metres from the link's begin to the vehicle's front, of a place; in a junction the whole link."""
         link = self.now().map.links[place.link]
         return (place.cell + 1) * link.metres / link.cells if place.cell is not None else link.metres
 
     def getSpeed(self, name: str) -> float:
-        """Metres a second, of cells of 7.5 m; TraCI's value for no number where it has no place."""
+        """Metres a second, in whole cells of 7.5 m; NOWHERE where it has no place."""
         place = self.place(name)
         return NOWHERE if place is None else place.speed * METRES
 
@@ -104,25 +105,25 @@ class VehicleCalls(Calls[Simulated]):
         return self.known(name).fleet.sizes.get(name, 1) * METRES - GAP
 
     def getMinGap(self, name: str) -> float:
-        """Metres of the gap ahead of a vehicle that stands, which its cells hold."""
+        """Metres of the gap ahead of a vehicle that stands; the gap is part of its cells."""
         self.known(name)
         return GAP
 
     def getRoute(self, name: str) -> tuple[str, ...]:
-        """The edges of its plan, those that are driven included."""
+        """The edges of its route, those that it has driven among them."""
         simulation = self.known(name)
         return simulation.edges(simulation.plan(name))
 
 
 class PlaceCalls(Calls[Simulated]):
-    """What is told of a place on the road, by the vehicles that are there."""
+    """Calls on a place on the road, by the vehicles that are there."""
 
     def cars(self, name: str) -> list[int]:
-        """Numbers of the vehicles there, from the stop line."""
+        """The numbers of the vehicles there, from the stop line."""
         raise NotImplementedError
 
     def speeds(self, name: str) -> list[float]:
-        """Metres a second of those that are on cells."""
+        """Metres a second of each vehicle there that is on cells, not in a junction."""
         raise NotImplementedError
 
     def speed_of_nobody(self, _name: str) -> float:
@@ -135,44 +136,47 @@ class PlaceCalls(Calls[Simulated]):
         return tuple(names[car] for car in self.cars(name))
 
     def getLastStepVehicleNumber(self, name: str) -> int:
+        """How many vehicles are there."""
         return len(self.cars(name))
 
     def getLastStepMeanSpeed(self, name: str) -> float:
-        """Metres a second, of those that are on cells; `speed_of_nobody` where none is."""
+        """The mean speed, metres a second, of the vehicles there that are on cells; speed_of_nobody where there are
+        none."""
         speeds = self.speeds(name)
         return sum(speeds) / len(speeds) if speeds else self.speed_of_nobody(name)
 
 
 class StretchCalls(PlaceCalls[Simulated]):
-    """The same of a place with a length, on which vehicles can stand."""
+    """Calls on a place with a length, on which vehicles can stand."""
 
     def getLastStepHaltingNumber(self, name: str) -> int:
-        """How many on cells stand."""
+        """How many vehicles there stand."""
         return sum(not speed for speed in self.speeds(name))
 
 
 class LaneCalls(StretchCalls[Simulated]):
-    """The same of lanes, which can be closed."""
+    """Calls on lanes, which can be closed."""
 
     def getIDList(self) -> tuple[str, ...]:
-        """The lanes that the import kept; those inside junctions are none here."""
+        """The lanes that the import kept; lanes inside junctions are not among them."""
         return tuple(self.now().lane_of)
 
     def places(self, name: str) -> list[tuple[int, int]]:
-        """Its (link, lane), or those of all its lanes."""
+        """Its (link, lane), in a list; a domain whose objects have several lanes gives all of them."""
         self.check(name, self.now().lane_of)
         return [self.now().lane_of[name]]
 
     def getLastStepVehicleIDs(self, name: str) -> tuple[str, ...]:
-        """Vehicles, the rearmost first."""
+        """The names of the vehicles on it, the rearmost first."""
         return super().getLastStepVehicleIDs(name)[::-1]
 
     def getLength(self, name: str) -> float:
-        """Metres, as SUMO has them."""
+        """Its length in SUMO's file, metres."""
         return self.now().map.links[self.places(name)[0][0]].metres
 
     def setDisallowed(self, name: str, classes: str | Sequence[str]) -> None:
-        """Closes the lane where the classes of the import (or all) are disallowed."""
+        """Closes the lane where all classes of the import are among the classes (or "all" is); else it does nothing.
+        classes: those that may not drive there."""
         told = {classes} if isinstance(classes, str) else set(classes)
         lanes = [self.now().map.lane_name(*place) for place in self.places(name)]
         if "all" in told or set(self.now().map.options["classes"]) <= told:
@@ -180,11 +184,12 @@ class LaneCalls(StretchCalls[Simulated]):
                 self.close(lane)
 
     def close(self, lane: str) -> None:
-        """Closes a lane, by SUMO's name, whole."""
+        """Closes a whole lane, by SUMO's name."""
         self.now().close_lane(lane)
 
     def setAllowed(self, name: str, classes: str | Sequence[str]) -> None:
-        """Opens the lane again where one of the classes of the import (or all, or none named) is allowed."""
+        """Opens the lane again where a class of the import is among the classes (or "all" is, or they are empty); else
+        it does nothing. classes: those that may drive there."""
         told = {classes} if isinstance(classes, str) else set(classes)
         lanes = [self.now().map.lane_name(*place) for place in self.places(name)]
         if not told or "all" in told or set(self.now().map.options["classes"]) & told:

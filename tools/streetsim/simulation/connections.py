@@ -25,8 +25,8 @@ class Connections:
         return [turn for turn in self.by_link.get(link, ()) if turn.next == following]
 
     def plan(self, edges: Sequence[str]) -> tuple[int, ...]:
-        """Links along edges, each with a turn to the next; ValueError where there are none, or the map lacks an
-        edge."""
+        """The links along some edges, each with a turn to the next; ValueError where there are none such, no edges, or
+        an unknown edge."""
         if unknown := [edge for edge in edges if edge not in self.map.links_of]:
             raise ValueError(f"the map has no edge {unknown[0]!r}")
         plans: dict[int, tuple[int, ...]]
@@ -39,17 +39,18 @@ class Connections:
         return next(iter(plans.values()))
 
     def departure_lane(self, plan: Sequence[int]) -> int:
-        """The first lane of a plan's first link from which it can be driven; 0 where no lane leads on."""
+        """The first lane of a plan's first link from which a turn leads to its second; 0 where none does, or it has one
+        link."""
         return next((turn.lane for turn in self.to(*plan[:2])), 0) if len(plan) > 1 else 0
 
     def next_lane(self, link: int, lane: int | None, following: int) -> int:
-        """The lane of a next link to which a turn leads: from a lane (none: any) if it leads there, else from any of
-        the link's; 0 where none leads there."""
+        """The lane of a next link to which a turn leads from a lane, or where none does (or lane is None) from any lane
+        of the link; 0 where none leads there."""
         found = self.to(link, following)
         return next((turn.next_lane for turn in found if turn.lane == lane), found[0].next_lane if found else 0)
 
     def turn_at_light(self, link: int, lane: int | None, following: int, lights: Collection[str]) -> MapTurn | None:
-        """A turn to a next link that one of some lights controls, from a lane (none: any) where one leads there; none
-        where none does."""
+        """The turn to a next link that one of some lights controls, from a lane, or where none leads there (or lane is
+        None) from any lane of the link. None where no such turn is."""
         found = [turn for turn in self.to(link, following) if turn.light in lights]
         return next((turn for turn in found if turn.lane == lane), found[0] if found else None)

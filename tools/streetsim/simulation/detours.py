@@ -18,8 +18,9 @@ class Detours:
     begun: dict[str, int] = field(default_factory=dict)  # by name, the links driven before it was entered on the road
 
     def begin(self, edge: str, until: float) -> list[str]:
-        """Those who have not departed or are on the road, and would come to an edge that is shut before a second, take
-        another way. Gives the names of those for whom there is one."""
+        """Gives other ways to the vehicles that would come to an edge, on the road or not departed yet, before the
+        second until, where all lanes of the edge are closed at one place now. Gives the names of those that have one;
+        empty where the edge can be passed."""
         simulation, client = self.simulation, self.simulation.client
         simulation.let_go()
         closed = {place: client.lane(*place).closed for place in simulation.lanes_on(edge)}
@@ -38,16 +39,16 @@ class Detours:
         return [name for name in simulation.fleet.plans if name in ways]
 
     def ahead(self, name: str) -> tuple[int, ...]:
-        """The plan that a vehicle was told when it last entered."""
+        """The links that a vehicle was told when it last entered, the program's plan of it."""
         return self.simulation.fleet.plans[name][self.begun.get(name, 0) :]
 
     def where(self, names: Iterable[str]) -> list[Vehicle]:
-        """Where vehicles are, by the program."""
+        """The program's replies on vehicles, by names."""
         cars = self.simulation.fleet.cars
         return self.simulation.vehicles(cars[name] for name in names)
 
     def not_arrived(self) -> tuple[list[Waiting], dict[str, Waiting]]:
-        """The vehicles that have not departed, of which some may wait for room, and those on the road by name."""
+        """(vehicles that have not departed, those that wait for room among them; vehicles on the road, by name)."""
         clock = self.simulation.clock
         late = [name for name, depart in self.departs.items() if depart < clock]
         seen, waiting, driving = dict(zip(late, self.where(late), strict=True)), [], {}
@@ -63,7 +64,7 @@ class Detours:
         return waiting, driving
 
     def turn_later(self, name: str, way: tuple[int, ...]) -> None:
-        """Has a vehicle on the road leave its plan for a way from where it is."""
+        """Notes that a vehicle on the road leaves its plan for a way, which begins on its present link."""
         plan, [reply] = self.ahead(name), self.where([name])
         plan = plan[plan.index(reply.place[0]) :]
         self.turning.pop(name, None)
@@ -71,7 +72,8 @@ class Detours:
             self.turning[name] = turning(plan, way, self.simulation.clock)
 
     def turn_off(self) -> None:
-        """Those on the road for whom another way begins where they are enter its first link anew."""
+        """Has the vehicles that are where their other way begins enter its first link anew; sets for the others when to
+        look again."""
         clock = self.simulation.clock
         names = [name for name, one in self.turning.items() if one.due <= clock]
         for name, reply in zip(names, self.where(names), strict=True):
@@ -88,9 +90,9 @@ class Detours:
                 self.enter_anew(name, one.rest, clock)
 
     def next_clock(self, target: int) -> int:
-        """The clock at which the next vehicle may be where its way begins, at most a target."""
+        """The clock at which the next vehicle may be where its way begins; target at most."""
         return min([target, *(max(self.simulation.clock + 1, one.due) for one in self.turning.values())])
 
     def enter_anew(self, name: str, rest: tuple[int, ...], depart: int) -> None:
-        """Has a vehicle go on over other links from a clock on."""
+        """Takes a vehicle out, and enters it on other links (rest) at a clock."""
         self.simulation.enter_anew(name, rest, depart, self.simulation.fleet.plans[name][: self.begun.get(name, 0)])

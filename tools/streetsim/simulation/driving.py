@@ -10,7 +10,7 @@ from streetsim.model.runs import Command
 
 
 class Driving:
-    """They are looked at while the simulation goes on."""
+    """The lights of a simulation that detectors drive, looked at while it goes on."""
 
     def __init__(self, lights: Lights, mapping: Map, client: Client) -> None:
         self.lights = lights
@@ -20,14 +20,14 @@ class Driving:
         self.senses = Senses(client.read, lambda place: client.lane(*place))
 
     def begin(self, clock: int) -> Iterator[Command]:
-        """The detectors and signals at the begin."""
+        """The commands that place the detectors and show the lights, at the begin."""
         yield from self.driver.meters(0)
         yield from self.driver.begin(clock)
 
     def steps(self, clock: int, steps: int) -> int:
-        """At most so many steps, until the next look at a light."""
+        """How many of so many steps to make until the next look at a light; 1 at least."""
         return max(1, min(steps, self.driver.due() - clock))
 
     def look(self, clock: int) -> list[Command]:
-        """What is to be sent before the next step."""
+        """The commands that lights send at a clock, before the next step."""
         return list(self.driver.look(clock, self.senses))

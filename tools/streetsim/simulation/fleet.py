@@ -9,7 +9,7 @@ NOWHERE = -1073741824.0  # TraCI's value for a place that is not known
 
 @dataclass(slots=True)
 class Place:
-    """Where a vehicle is; no cell in a junction."""
+    """Where a vehicle is; cell is None in the junction behind its link."""
 
     link: int
     lane: int
@@ -18,7 +18,7 @@ class Place:
 
     @property
     def front(self) -> int:
-        """The cell of its front, of one that is on cells."""
+        """The cell of its front; it must be on cells."""
         assert self.cell is not None
         return self.cell
 
@@ -34,8 +34,8 @@ class Fleet:
     starts: dict[int, tuple[int, int]] = field(default_factory=dict)  # by number: (link, lane) on which it departs
 
     def note(self, name: str, car: int, command: Command, driven: Sequence[int] = ()) -> None:
-        """Notes a vehicle that the program was told of by an enter command; driven: the links behind it, of one that
-        was taken out."""
+        """Notes a vehicle that entered by a command, under its number car. driven: the links that it drove before,
+        where it was taken out and entered anew."""
         plan = command["plan"]
         self.cars[name], self.names[car], self.starts[car] = car, name, (plan[0], command["lane"])
         self.plans[name], self.sizes[name] = (*driven, *plan), command.get("size", 1)

@@ -1,4 +1,4 @@
-"""The metres that SUMO's lanes inside junctions have. Nobody drives them here; distances count them, as SUMO's do."""
+"""The metres of SUMO's lanes inside junctions. Nobody drives on them here; distances count them, as SUMO's do."""
 from collections.abc import Sequence
 from itertools import pairwise
 
@@ -7,22 +7,22 @@ from streetsim.simulation.street_facts import Facts
 
 
 class Inside:
-    """Of a run's links, by the connections of the network's file."""
+    """The metres inside junctions between the links of a run, by the connections of the network's file."""
 
     def __init__(self, mapping: Map, facts: Facts) -> None:
         self.map, self.facts = mapping, facts
         self.known: dict[tuple[int, int | None, int], float] = {}  # by link, lane and next link
 
     def metres(self, link: int, lane: int | None, following: int) -> float:
-        """Metres in the junction from a link's end to the begin of a next one: from a lane (none: any) if it leads
-        there, else from any of the link's; 0 where no connection is known."""
+        """Metres in the junction from a link to a next one: from a lane where it leads there, else (or lane None) from
+        any lane of the link; 0 where no connection is known."""
         way = link, lane, following
         if way not in self.known:
             self.known[way] = self.between(*way)
         return self.known[way]
 
     def between(self, link: int, lane: int | None, following: int) -> float:
-        """As `metres`, looked for among the connections of the link."""
+        """As metres, looked for among the connections of the link's lanes."""
         target = self.map.links[following]
         wanted = {f"{target.edge}_{index}" for index in target.lanes}
         lanes = [self.map.lane_name(link, each) for each in range(len(self.map.links[link].lanes))]
@@ -37,5 +37,5 @@ class Inside:
         return 0.0 if found is None else self.facts.metres_inside(found.via)
 
     def along(self, links: Sequence[int]) -> float:
-        """Metres in all junctions on a way."""
+        """Metres in all junctions between the links of a way."""
         return sum(self.metres(link, None, following) for link, following in pairwise(links))

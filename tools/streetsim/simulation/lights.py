@@ -17,7 +17,7 @@ Link = tuple[str, str, str] | None  # lane, next lane, lane inside the junction
 
 @dataclass(slots=True)
 class Light:
-    """What a light shows: phases of (seconds, state) over and over, of which the first began at a clock."""
+    """What a light shows: phases of (seconds, state), over and over, of which the first began at the clock begin."""
 
     phases: Phases
     begin: float
@@ -29,7 +29,7 @@ class Light:
     programs: dict[str, tuple[Phases, list[str]]] = field(default_factory=dict)
 
     def at(self, clock: float) -> tuple[int, float]:
-        """The index of the phase at a clock, and the seconds that are left of it."""
+        """(index of the phase at a clock, seconds that are left of it)."""
         place = (clock - self.begin) % sum(duration for duration, _ in self.phases)
         for index, (duration, _) in enumerate(self.phases):
             if place < duration:
@@ -38,18 +38,18 @@ class Light:
         return 0, self.phases[0][0]
 
     def starts(self, index: int) -> float:
-        """When a phase begins, in seconds from the first one's begin."""
+        """Seconds from the begin of the first phase to that of the phase of an index."""
         return sum(duration for duration, _ in self.phases[:index])
 
     def shown(self) -> Phases:
-        """The phases as they are sent; a state that is shown all the time is shown whole, also its permissive greens.
-        """
+        """The phases as they are sent. In a program of one phase permissive greens are sent as full greens, as no share
+        of them can be shown."""
         alone = len(self.phases) == 1
         return [(duration, state.replace("g", "G") if alone else state) for duration, state in self.phases]
 
 
 class Control:
-    """What each light shows, and the phases that a script has set to end at a clock."""
+    """What each light shows, and when phases end that a script has given another end."""
 
     def __init__(self, simulation: Simulation, lights: dict[str, Light]) -> None:
         self.simulation, self.lights = simulation, lights
@@ -62,12 +62,12 @@ class Control:
         return self.lights[name]
 
     def driven(self, name: str) -> Controller | None:
-        """What drives a light by detectors now; none where its program is seconds, or a script's."""
+        """What drives a light by detectors now; None where it has a program of seconds, or one of the script."""
         return self.simulation.driving.driver.of(name)
 
     def drive(self, name: str, program: str) -> bool:
-        """Has detectors drive a light by one of its programs, from where that has come to unseen; says whether they
-        can."""
+        """Has detectors drive a light by one of its programs, from where they have brought that meanwhile; gives
+        whether they can."""
         found = self.simulation.driving.driver.of(name, program)
         if found is not None:
             self.end_timers(name)
@@ -77,31 +77,32 @@ class Control:
         return found is not None
 
     def state(self, name: str) -> str:
-        """What a light shows now, a letter for each signal."""
+        """What a light shows now, SUMO's letter for each signal."""
         if (driven := self.driven(name)) is not None:
             return driven.logic.state()
         light = self.lights[name]
         return light.phases[light.at(self.simulation.clock)[0]][1]
 
     def show_due(self) -> None:
-        """Ends the phases that are to end at the clock."""
+        """Ends the phases that a script has set to end by this clock, and shows the next ones."""
         for clock, light, index in [timer for timer in self.timers if timer[0] <= self.simulation.clock]:
             self.timers.remove((clock, light, index))
             self.show_phase(light, index)
 
     def show_phase(self, name: str, index: int) -> None:
-        """Goes on with a phase of the light's program, from its begin."""
+        """Shows the phase of an index of the light's program from now on, from its begin."""
         light = self.light(name)
         light.begin = self.simulation.clock - light.starts(index)
         self.show_cycle(name)
 
     def show_cycle(self, name: str) -> None:
-        """Shows the light's program from its begin on."""
+        """Sends the light's program, as if its first phase had begun at its begin."""
         light = self.light(name)
         self.show(name, light.shown(), light.begin)
 
     def show_program(self, name: str, phases: Phases, index: int, program: str, names: Sequence[str] = ()) -> None:
-        """Shows other phases, (seconds, state), from the begin of one of them (index); names: of the phases."""
+        """Shows other phases, (seconds, state), from the begin of the one at index on; detectors drive the light no
+        more. program: its name; names: of the phases. TraCIException for wrong states or a wrong index."""
         light = self.light(name)
         check_phases(name, phases, light.states)
         check_index(name, phases, index)
@@ -110,7 +111,8 @@ class Control:
         self.go_to(name, index)
 
     def go_to(self, name: str, index: int) -> None:
-        """Goes on with a phase that a script names, and forgets when the present one was to end."""
+        """Shows the phase of an index from now on, and forgets a set end of the present one; a light that detectors
+        drive stays driven. TraCIException for a wrong index."""
         check_index(name, self.light(name).phases, index)
         self.end_timers(name)
         if (driven := self.driven(name)) is None:
@@ -135,18 +137,20 @@ class Control:
         self.show(name, [(CONSTANT, light.phases[index][1].replace("g", "G"))], 0)
 
     def hold(self, name: str, state: str, program: str = "online") -> None:
-        """Shows a state until the next is set."""
+        """Shows a state until another call sets the light; program: the name that the light then tells. TraCIException
+        for a wrong state."""
         check_state(name, state, self.light(name).states)
         self.show_program(name, [(CONSTANT, state)], 0, program)
 
     def resume(self, name: str, node: int) -> None:
-        """Goes on, at a node, with a program that is sent phase by phase, of which the present phase was sent."""
+        """Goes on, at a node of a light, with a program that is sent phase by phase and whose present phase was sent
+        before."""
         light = self.light(name)
         offset = light.begin % light.starts(len(light.phases))
         self.simulation.shown.resume(name, light.shown(), offset, self.simulation.clock, node)
 
     def show(self, name: str, phases: Phases, begin: float) -> None:
-        """Sends a cycle of phases, (seconds, state), of which the first began at a clock."""
+        """Sends a cycle of phases, (seconds, state), of which the first began at the clock begin."""
         if len(phases) == 1 and phases[0][0] == CONSTANT and not set(phases[0][1]) & set(PERMISSIVE):
             self.simulation.show(self.simulation.shown.constant(name, phases[0][1], begin))
         else:
@@ -154,7 +158,7 @@ class Control:
 
 
 def actuated_of(name: str, driven: Controller) -> Actuated:
-    """The logic of a light whose phases a script may choose; TraCIException of another one."""
+    """The logic of a light whose phases a script may choose; TraCIException for a NEMA light."""
     if not isinstance(driven.logic, Actuated):
         raise TraCIException(
             f"Traffic light '{name}' is of type NEMA, whose rings choose its phases: set another program, or a state"
@@ -163,7 +167,8 @@ def actuated_of(name: str, driven: Controller) -> Actuated:
 
 
 def check_state(name: str, state: str, length: int) -> None:
-    """Refuses letters that are no state of a signal, and a state of another length."""
+    """TraCIException where a state has a letter that is none of SUMO's, or not as many letters (length) as the light
+    has signals."""
     wrong = [letter for letter in state if letter not in STATES]
     if wrong:
         raise TraCIException(f"Traffic light '{name}': {wrong[0]!r} is no state of a signal")
@@ -172,8 +177,8 @@ def check_state(name: str, state: str, length: int) -> None:
 
 
 def check_phases(name: str, phases: Sequence[tuple[float, str]], length: int) -> None:
-    """Refuses phases, (seconds, state), with a state that `check_state` refuses, or that last no time. length: how many
-    signals the light has."""
+    """TraCIException where one of the phases, (seconds, state), has a wrong state, or does not last above 0 s. length:
+    how many signals the light has."""
     for duration, state in phases:
         check_state(name, state, length)
         if not duration > 0:
@@ -181,6 +186,6 @@ def check_phases(name: str, phases: Sequence[tuple[float, str]], length: int) ->
 
 
 def check_index(name: str, phases: Phases, index: int) -> None:
-    """Refuses a phase that there is not."""
+    """TraCIException where there is no phase of this index."""
     if not 0 <= index < len(phases):
         raise TraCIException(f"Traffic light '{name}' has no phase {index}")

@@ -23,15 +23,16 @@ PERIOD = 900  # seconds of the rows of edgeData without a period
 
 
 def open_session(words: Sequence[str]) -> Session:
-    """The session of the words of SUMO's command line, without its name."""
+    """Opens a session, by the words of SUMO's command line without SUMO's name; FatalTraCIError or Fault where that
+    cannot be done."""
     options = options_of([*words])
     with TemporaryDirectory() as folder:
         return opened(Path(folder), options)
 
 
 def opened(folder: Path, options: Options) -> Session:
-    """Imports into a folder what the options name, and starts the program; FatalTraCIError where they name no
-    network."""
+    """The session of some options (long names): imports what they name into a folder, and starts the program.
+    FatalTraCIError where they name no network."""
     names = ("route-files", "additional-files")
     routes, additional = ([part.strip() for part in options.get(name, "").split(",") if part.strip()] for name in names)
     if not options.get("net-file"):
@@ -58,7 +59,7 @@ def opened(folder: Path, options: Options) -> Session:
 
 
 def told_of(yielding: Yielding) -> str:
-    """What there is to say of giving way without a light, a line or nothing."""
+    """The line on how many junctions give way without a light; empty where none does."""
     if not yielding.lines:
         return ""
     return (
@@ -68,7 +69,8 @@ def told_of(yielding: Yielding) -> str:
 
 
 def told_of_files(facts: Facts) -> str:
-    """What there is to say of files that additional files ask for, a line or nothing."""
+    """A warning, as a line, of output files that additional files ask for and that are not written; empty where there
+    are none."""
     if not facts.unwritten:
         return ""
     names = ", ".join(dict.fromkeys(facts.unwritten))
@@ -79,7 +81,8 @@ def told_of_files(facts: Facts) -> str:
 
 
 def output_paths(options: Options, facts: Facts) -> dict[str, str]:
-    """By kind the output files that are asked for: by options, and the first edgeData of additional files."""
+    """The paths of the output files that are asked for, by kind: by options, and the first edgeData of additional
+    files."""
     prefix, paths = options.get("output-prefix", ""), {}
     for name, kind in SERVED.items():
         if options.get(name, NOWHERE[0]) not in NOWHERE:
@@ -90,12 +93,13 @@ def output_paths(options: Options, facts: Facts) -> dict[str, str]:
 
 
 def is_on(value: str) -> bool:
-    """Whether an option of yes or no is on; without a value it is."""
+    """Whether the value of a yes-or-no option means yes; an empty value does."""
     return value.lower() in ("", "true", "1", "yes", "on", "t")
 
 
 def tell(said: str, options: Options) -> None:
-    """Tells what the import said, and what options do not do here: on standard error, and in the files of --log."""
+    """Writes what the import said, and which options have no effect, to standard error (unless --no-warnings) and to
+    the files of --log."""
     said = "".join(f"warning: {text}\n" for text in warnings_of(options)) + said
     if not is_on(options.get("no-warnings", "false")):
         sys.stderr.write(said)

@@ -1,4 +1,4 @@
-"""The words of SUMO's command line: what is done by them here, what they do not change here, and what is refused."""
+"""The words of SUMO's command line: which are done here, which have no effect here, and which are refused."""
 import re
 from collections.abc import Mapping
 
@@ -43,8 +43,8 @@ KNOWN = re.compile(
 
 
 def options_of(words: list[str]) -> dict[str, str]:
-    """SUMO's options by their long names, '' where a word has no value; those of a configuration stand behind those of
-    the words. FatalTraCIError for what SUMO does not know either."""
+    """SUMO's options by their long names, as texts, empty where a word has no value; words count before those of a
+    configuration that they name. FatalTraCIError for what SUMO does not know either, or what is refused here."""
     options, at = {}, 0
     if words and not str(words[0]).startswith("-"):
         options["configuration-file"], at = str(words[0]), 1
@@ -65,12 +65,12 @@ def options_of(words: list[str]) -> dict[str, str]:
 
 
 def is_value(word: str) -> bool:
-    """Whether a word is an option's value: no option itself, or a number below 0."""
+    """Whether a word is the value of the option before it: it does not begin with "-", or is a number below 0."""
     return not word.startswith("-") or re.match(r"-[\d.]", word) is not None
 
 
 def name_of(word: str) -> str:
-    """The long name of an option; FatalTraCIError where a word is none."""
+    """The long name of an option; FatalTraCIError where a word is no option of SUMO's."""
     if not word.startswith("-") or word in ("-", "--"):
         raise FatalTraCIError(f"{word!r} is no option: options begin with '--'")
     if not word.startswith("--"):
@@ -82,8 +82,8 @@ def name_of(word: str) -> str:
 
 
 def check_option(name: str, value: str) -> None:
-    """Refuses what cannot be done: unknown options, outputs, steps of another length, what changes the demand;
-    FatalTraCIError."""
+    """FatalTraCIError for options that cannot be done: unknown ones, outputs that are not written here, steps of
+    another length, and what would change the demand."""
     on = value.lower() not in FALSE
     if name == "step-length" and not is_one(value):
         raise FatalTraCIError(f"--step-length {value}: steps are of one second")
@@ -106,7 +106,7 @@ def check_option(name: str, value: str) -> None:
 
 
 def warnings_of(options: Mapping[str, str]) -> list[str]:
-    """What is to be said of SUMO's options that are read and do nothing here."""
+    """Texts on SUMO's options that were given and have no effect here."""
     lacking = [
         name for name in options if KNOWN.fullmatch(name) and not SILENT.fullmatch(name) and not OUTPUT.fullmatch(name)
     ]

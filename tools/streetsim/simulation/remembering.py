@@ -1,4 +1,4 @@
-"""A client that remembers what changed anything."""
+"""A client that remembers all lines that changed anything."""
 from collections.abc import Iterable, Iterator, Sequence
 
 from streetsim.base.client import Client
@@ -7,8 +7,8 @@ ASKING = (b'{"cmd":"lane"', b'{"cmd":"vehicle"', b'{"cmd":"count"', b'{"cmd":"re
 
 
 class Remembering(Client):
-    """A client that can be brought to where it was once: it keeps the lines that changed anything, and a run repeats
-    exactly."""
+    """A client that keeps the lines that changed anything, so that a program started anew can be brought to the same
+    state: a run repeats exactly."""
 
     def __init__(self, program: str | None = None, workers: int = 1) -> None:
         super().__init__(program, workers)
@@ -16,13 +16,14 @@ class Remembering(Client):
         self.changes: list[bytes] = []
 
     def exchange(self, lines: Iterable[bytes]) -> Iterator[bytes]:
-        """As any client; keeps what may change anything."""
+        """As of Client; keeps the lines that are not questions."""
         lines = list(lines)
         self.changes += [line for line in lines if not line.startswith(ASKING)]
         return super().exchange(lines)
 
     def repeat(self, changes: Sequence[bytes]) -> None:
-        """Starts the program anew and brings it to where these lines, which changed something, bring it."""
+        """Starts the program anew and sends some lines, which changed something in an earlier one; they are then its
+        own."""
         self.close()
         super().__init__(*self.words)
         self.changes = list(changes)

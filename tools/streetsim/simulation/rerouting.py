@@ -7,8 +7,9 @@ from streetsim.simulation.session import Session
 
 
 def other_way(session: Session, name: str, place: Place | None, edges: Sequence[str]) -> None:
-    """Has a vehicle go on along other edges, of which the first is the one where it is (place) or, before it departs,
-    departs; TraCIException elsewhere."""
+    """Has a vehicle go on along other edges; the first must be the one where it is (place) or, where place is None, the
+    one on which it will depart. TraCIException otherwise, or where the edges have no connection. Nothing where these
+    are its edges already."""
     plan = session.plan(name)
     here = plan[0] if place is None else place.link
     edge = session.map.links[here].edge
@@ -22,8 +23,9 @@ def other_way(session: Session, name: str, place: Place | None, edges: Sequence[
 
 
 def links_along(session: Session, name: str, first: int | None, edges: Sequence[str]) -> tuple[int, ...]:
-    """Links along edges, from a link on where there is one (first). From that to the next one no turn needs to lead, as
-    the vehicle enters anew there; but the edges must have a connection: TraCIException otherwise."""
+    """The links along some edges, for a vehicle; first: the link where it is, which then is the first of them (None:
+    any). From that to the next one no turn needs to lead, as the vehicle enters anew there, but their edges must have a
+    connection. TraCIException otherwise."""
     plan = session.connections.plan
     try:
         whole = plan(edges)

@@ -14,7 +14,8 @@ TALLIED = ("waiting", "waited", "lost", "travelled")
 
 
 def save_state(session: Session, path: str) -> None:
-    """Writes what restores a session: its lines, vehicles and lights."""
+    """Writes to a file what restores a session: the lines that brought it here, and what is known of its vehicles and
+    lights. TraCIException where detectors drive a light."""
     if driven := [one.name for one in session.driving.driver.controllers if one.in_force]:
         raise TraCIException(
             f"simulation.saveState: detectors drive {some(driven)}, of which a state keeps nothing: start with "
@@ -44,8 +45,8 @@ def save_state(session: Session, path: str) -> None:
 
 
 def load_state(session: Session, path: str) -> None:
-    """Brings a session of the same files to a state that was written; TraCIException where it is of others, or output
-    files are being written."""
+    """Brings a session to a state that was saved of the same files; TraCIException where the file is none, is of other
+    files or words, or output files are being written."""
     try:
         with open_text(path) as file:
             state = json.load(file)
@@ -68,7 +69,7 @@ def load_state(session: Session, path: str) -> None:
 
 
 def restore_vehicles(session: Session, state: State) -> None:
-    """What is known of vehicles and loops."""
+    """Takes what a state knows of vehicles and induction loops."""
     fleet, types, view = session.fleet, session.types, session.view
     fleet.cars, fleet.sizes, fleet.names = state["cars"], state["sizes"], dict(enumerate(state["names"]))
     fleet.plans = {name: tuple(links) for name, links in state["plans"].items()}
@@ -85,7 +86,7 @@ def restore_vehicles(session: Session, state: State) -> None:
 
 
 def restore_lights(session: Session, state: State) -> None:
-    """What the lights show, and the phases that are to come."""
+    """Takes what a state knows of lights, and of phases that are still to be shown."""
     control, shown = session.control, session.shown
     for name, (phases, begin, program, names) in state["lights"].items():
         light = control.lights[name]

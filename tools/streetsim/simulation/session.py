@@ -22,8 +22,8 @@ from streetsim.simulation.writing import Writer
 
 
 class Session(Simulation):
-    """A simulation that is looked at after each step, from the first question on. Vehicles enter the program when they
-    depart, so that what waits for later is not told."""
+    """A simulation for TraCI. From the first call that needs it on, it is looked at after each step. Vehicles of the
+    file are told to the program only when they depart, so that their ways can be changed before."""
 
     kind_of_client = Remembering
     client: Remembering
@@ -31,8 +31,8 @@ class Session(Simulation):
     def __init__(
         self, folder: Path, facts: Facts, options: Mapping[str, str], rounds: int = 0, program: str | None = None
     ) -> None:
-        """folder: has run.jsonl and map.json; options: of SUMO's command line; rounds: of the run, before, by which
-        vehicles of the file give way without a light."""
+        """folder: has run.jsonl and map.json; facts: of SUMO's files; options: of SUMO's command line; rounds: of the
+        run, made before, by which vehicles of the file give way without a light; program: None: the usual one."""
         run, mapping, merging = read_run(folder / "run.jsonl"), read_map(folder / "map.json"), options.get("merge")
         self.driven = options.get("lights", "actuated") != "listed"
         super().__init__(run, mapping, rounds, program, merging=merging != "none")
@@ -50,16 +50,17 @@ class Session(Simulation):
         self.ways: Ways | None = None  # what router gives
 
     def refusal(self, line: bytes, reply: Exception) -> Exception:
-        """TraCI's error: the run cannot go on."""
+        """FatalTraCIError on a refused line, as the run cannot go on."""
         return FatalTraCIError(f"streetsim refused {line[:60].decode()!r}: {reply}")
 
     def write(self, paths: Mapping[str, str], period: int) -> None:
-        """From now on writes SUMO's output files, by kind; period: seconds of the rows of edgeData."""
+        """Has SUMO's output files written from now on, at these paths by kind; period: seconds of the rows of
+        edgeData."""
         self.writer = Writer(dict(paths), self.map, self.dawdle, period, self.clock)
         self.follow()
 
     def close(self) -> None:
-        """Ends the run; output files take their names."""
+        """Ends the run; output files that were written get their names."""
         if self.writer is not None:
             self.writer.close()
         self.client.close()
@@ -67,7 +68,8 @@ class Session(Simulation):
     # Steps
 
     def go_on(self, target: int) -> None:
-        """One step where each is looked at, or where a phase is to end; else as many as may be told at once."""
+        """Makes one step where each is looked at, or where a phase is set to end; else steps up to target, as many as
+        one line may ask for."""
         alone = self.followed or self.control.timers
         target = self.clock + 1 if alone else min(target, self.clock + limits.STEPS)
         self.control.show_due()
@@ -82,8 +84,8 @@ class Session(Simulation):
             self.turn_off()
 
     def follow(self) -> Self:
-        """Looks at each step from now on, and at this one.
-        Who departed before the first look is told by the place alone."""
+        """Has each step looked at from now on, and looks at this one; gives the session. Whether a vehicle departed in
+        the step before the first look is told by its place alone."""
         if not self.view.asked:
             self.look()
             if not self.followed:
@@ -92,13 +94,13 @@ class Session(Simulation):
         return self
 
     def look(self) -> None:
-        """What stands where, with a second more for those who stand."""
+        """Looks at all lanes, and counts a second for vehicles that stand and for lost time."""
         self.view.look()
         self.tally.note(self.view, self.map, self.inside, self.dawdle)
         self.note_loops()
 
     def look_again(self) -> None:
-        """Looks after a state was loaded: nothing is known of the step before."""
+        """Looks after a state was loaded, when nothing is known of the step before."""
         seen, self.loaded = set(self.view.seen), []
         self.view.before = {}
         self.view.look()
@@ -106,12 +108,12 @@ class Session(Simulation):
         self.note_loops()
 
     def note_loops(self) -> None:
-        """Notes who passed the induction loops since the last look."""
+        """Notes which vehicles were on the induction loops in the last step."""
         for loop in self.loops.values():
             loop.note(self.view, self.clock)
 
     def router(self) -> Ways:
-        """Shortest ways by what is known at the clock."""
+        """The search for shortest ways, by the travel times at each clock."""
         self.follow()
         if self.ways is None:
             self.ways = Ways(self, self.inside, self.view)
@@ -120,7 +122,8 @@ class Session(Simulation):
     # Vehicles
 
     def enter_due(self, target: int) -> None:
-        """Tells the program of the file's vehicles that depart before a clock."""
+        """Tells the program of the file's vehicles that depart before the clock target; those that a script took out
+        before are left out."""
         enters, run, names = [], self.source, []
         while self.entered < len(run.enters) and run.needed[self.entered] < target:
             command = run.enters[self.entered].command
@@ -140,36 +143,37 @@ class Session(Simulation):
             self.expect(name, command["depart"])
 
     def add(self, name: str, plan: Sequence[int], depart: int, size: int) -> None:
-        """Adds a vehicle of a script: links, the clock of its departure, the cells that it takes."""
+        """Adds a vehicle of a script. plan: links; depart: clock; size: cells. TraCIException where its name is
+        taken."""
         self.refuse_second(name)
         self.enter(name, plan, self.connections.departure_lane(plan), depart, size)
         self.loaded.append(name)
         self.expect(name, depart)
 
     def refuse_second(self, name: str) -> None:
-        """Refuses a name by which the program was told of a vehicle, also of one that has ended."""
+        """TraCIException where the program was told of a vehicle of this name, also of one that has ended."""
         if name in self.fleet.cars:
             raise TraCIException(f"Vehicle '{name}' exists already.")
 
     def expect(self, name: str, depart: int) -> None:
-        """Tells the output files of a vehicle that departs at a clock."""
+        """Tells the output files of a vehicle that is to depart at a clock; nothing where none are written."""
         if self.writer is not None:
             self.writer.expect(self.fleet.cars[name], name, depart, self.types.name(name))
 
     def remove(self, name: str) -> None:
-        """Takes out a vehicle that the program was told of."""
+        """Takes out a vehicle, of which the program must have been told."""
         car = self.fleet.cars[name]
         self.tell({"cmd": "takeout", "car": car})
         self.view.remove(name, car)
         self.pending.pop(car, None)
 
     def expected(self) -> int:
-        """How many vehicles have not ended, those too that the program was not told of."""
+        """How many vehicles have not ended, those among them of which the program was not told yet."""
         return len(self.source.enters) - self.entered + super().expected()
 
     def route(self, name: str) -> tuple[int, ...]:
-        """The links of a route of the files or of those that a script added; TraCIException where its edges do not lead
-        on."""
+        """The links of a route of the files, or of one that a script added; TraCIException where its edges have no
+        connection."""
         if name not in self.routes:
             try:
                 return self.connections.plan(self.facts.routes[name])
@@ -180,14 +184,14 @@ class Session(Simulation):
     # Other plans: a vehicle enters anew where its other way begins, and is the same one for all calls
 
     def plan(self, name: str) -> tuple[int, ...]:
-        """The links of a vehicle's plan, also before it departs."""
+        """The links of a vehicle's plan, also before it departs, with those that it has driven."""
         if plan := self.fleet.plans.get(name) or self.wishes.get(name):
             return plan
         return tuple(self.source.enters[self.types.known[name]].command["plan"])
 
     def replan(self, name: str, links: tuple[int, ...]) -> None:
-        """Has a vehicle go on along other links, of which the first is the one where it is or departs; who is on a link
-        takes the other way at the node behind it."""
+        """Has a vehicle go on along other links; the first must be the one where it is or will depart. A vehicle on the
+        road takes them from the node behind that link on."""
         car, plans = self.fleet.cars.get(name), self.fleet.plans
         if car is None:
             self.wishes[name] = links
@@ -201,7 +205,7 @@ class Session(Simulation):
             self.turn_off()
 
     def turn_off(self) -> None:
-        """Those in a buffer who are to take another way behind it enter on the next link of that."""
+        """Has the vehicles that are to take another way, and are at the node where it begins, enter its first link."""
         for car, (link, links) in list(self.pending.items()):
             place = self.view.places.get(car)
             if place is None or place.link != link:
@@ -211,7 +215,8 @@ class Session(Simulation):
                 self.turn(car, links, place)
 
     def turn(self, car: int, links: Sequence[int], place: Place | None = None) -> None:
-        """Enters a vehicle anew, by its number, with another plan; place: the node where it is, if it has departed."""
+        """Takes out the vehicle of a number and enters it with another plan; place: the node where it is, None: it has
+        not departed."""
         name = self.fleet.names[car]
         driven = self.fleet.plans[name][: -len(links)] if place is not None else ()
         new = self.enter_anew(name, links, self.clock, driven)

@@ -1,4 +1,4 @@
-"""What is shown at the nodes of lights: whole programs, and long ones phase by phase."""
+"""What is shown at the nodes of lights: programs as one plan, and long ones phase by phase."""
 from collections.abc import Iterable, Iterator, Sequence
 
 from streetsim.base import limits
@@ -14,7 +14,7 @@ CONSTANT = 600  # seconds of a phase that is shown until the next is set
 
 
 class Phases:
-    """The phases of a program that does not fit in one plan, of which each is sent at its clock."""
+    """The phases of a program that does not fit in one plan; each is sent at its clock."""
 
     def __init__(self, own: LitNode, begin: int) -> None:
         """own: the program at a node; begin: the clock from which on it is told."""
@@ -22,17 +22,17 @@ class Phases:
         self.clock, self.command = next(self.lines)
 
     def due(self, clock: int) -> Iterator[Command]:
-        """The commands of the phases that have begun at a clock and were not told before."""
+        """The commands of the phases that have begun by a clock and were not given before."""
         while self.clock <= clock:
             yield self.command
             self.clock, self.command = next(self.lines, (limits.CLOCK + 1, NOTHING))
 
 
 class Shown:
-    """The signals that hold at the nodes of a map's lights, and those of long programs that are to come."""
+    """The signals in force at the nodes of a map's lights, and those of long programs that are still to be sent."""
 
     def __init__(self, mapping: Map, first: Iterable[Command]) -> None:
-        """first: commands of the file, of which some are signals."""
+        """first: the first commands of the file, of which the signals are taken."""
         self.map = mapping
         self.signals = {command["node"]: command for command in first if command["cmd"] == "signal"}  # by node
         self.forgotten: frozenset[int] = frozenset()  # nodes for which lines of the file are no longer sent
@@ -40,7 +40,7 @@ class Shown:
         self.known: dict[int, list[MapTurn]] = {}  # by node: what turns gives
 
     def nodes(self, light: str) -> list[int]:
-        """The nodes of a light."""
+        """The nodes of a light; empty for an unknown one."""
         return [node for name, node in self.map.signals if name == light]
 
     def turns(self, node: int) -> list[MapTurn]:
@@ -52,8 +52,8 @@ class Shown:
     def program(
         self, light: str, phases: Sequence[tuple[float, str]], offset: float, clock: int
     ) -> tuple[list[Command], list[str]]:
-        """The commands that show a cycle of (seconds, state), as a tlLogic has it with its offset, from a clock on, and
-        what there is to warn of; of permissive greens the usual share is shown, as flows are not known here."""
+        """(commands that show a cycle of (seconds, state) at a light from a clock on; warnings). offset: as in a
+        tlLogic, seconds. Of permissive greens the usual share is shown, as flows are not known here."""
         report, commands, coming = Report(), [], {}
         for node in self.nodes(light):
             own = self.own(light, node, phases, offset, report)
@@ -68,15 +68,15 @@ class Shown:
         return commands, report.warnings
 
     def own(self, light: str, node: int, phases: Sequence[tuple[float, str]], offset: float, report: Report) -> LitNode:
-        """A program at one node of a light, as lines are made of it."""
+        """A light's program at one of its nodes, in the form from which signal lines are made."""
         turns = [(turn.link, turn.lane, turn.next, turn) for turn in self.turns(node)]
         edges = {link: self.map.links[link].edge for link, *_ in turns}
         program = Program(offset, list(phases), "static")
         return LitNode(node, turns, edges, light, program, self.map.options["permissive"], report)
 
     def constant(self, light: str, state: str, begin: float) -> list[Command]:
-        """The commands that show a state without permissive greens until the next, in one phase from a clock on: no
-        second differs from another."""
+        """The commands that show a state without permissive greens, in one phase from the clock begin on, until another
+        is sent."""
         self.forget(light)
         commands = []
         for node in self.nodes(light):
@@ -90,19 +90,19 @@ class Shown:
         return commands
 
     def resume(self, light: str, phases: Sequence[tuple[float, str]], offset: float, clock: int, node: int) -> None:
-        """Goes on with a program that is sent phase by phase, of which the present phase was sent."""
+        """Goes on, at a node, with a program that is sent phase by phase and whose present phase was sent before."""
         self.coming[node] = Phases(self.own(light, node, phases, offset, Report()), clock)
         list(self.coming[node].due(clock))
 
     def forget(self, light: str) -> None:
-        """Sends no more of what was to come for a light that a script sets."""
+        """Has nothing more sent of what the file, or a long program, has for a light that a script sets."""
         self.forgotten = self.forgotten | frozenset(self.nodes(light))
         self.coming = {node: phases for node, phases in self.coming.items() if node not in self.forgotten}
 
     def due(self, clock: int) -> list[Command]:
-        """The commands of the phases that begin at a clock."""
+        """The commands of the phases of long programs that begin by a clock."""
         return [command for phases in self.coming.values() for command in phases.due(clock)]
 
     def next_clock(self, target: int) -> int:
-        """The clock at which the next of the phases begins, at most a target."""
+        """The clock at which the next phase of a long program begins; target at most."""
         return min([target, *(phases.clock for phases in self.coming.values())])

@@ -1,4 +1,4 @@
-"""A run under SUMO's names."""
+"""A run under SUMO's names: what scenarios and TraCI share."""
 from collections.abc import Iterable, Sequence
 from math import ceil
 from typing import Any
@@ -17,8 +17,8 @@ from streetsim.works.merges import Merges
 
 
 class Simulation:
-    """A run of the program: its map, clock, vehicles, lanes and lights. The network and the first signals of its file
-    are told at once; of the vehicles each kind of simulation tells when it wants."""
+    """A run of the program: its map, clock, vehicles, lanes and lights. The network and the first lines of the file are
+    sent at once; each kind of simulation sends vehicles when it wants."""
 
     kind_of_client: type[Client] = Client
     driven = True  # its lights, by detectors
@@ -26,8 +26,8 @@ class Simulation:
     def __init__(
         self, source: Run, mapping: Map, rounds: int, program: str | None = None, workers: int = 1, merging: bool = True
     ) -> None:  # fmt: skip
-        """Where vehicles of the file give way without a light, so many rounds of the run come first. merging: whether
-        vehicles merge before works by turns."""
+        """rounds: runs that are made before, by which vehicles of the file give way without a light; program: None: the
+        usual one; merging: whether vehicles merge before works by turns."""
         self.source, self.map = source, mapping
         self.clock, self.sent = source.start(), 0  # sent: how many of the file's timed lines
         self.shown = Shown(mapping, (line.command for line in source.first))
@@ -47,13 +47,13 @@ class Simulation:
 
     @property
     def dawdle(self) -> float:
-        """The chance of slowing down, 0 to 1."""
+        """The chance, 0 to 1, that a vehicle goes on by a cell less in a step."""
         return self.source.load.command.get("dawdle", 0) / 1000
 
     # Lines
 
     def send(self, lines: Iterable[bytes]) -> list[Any]:
-        """Sends lines of the run and gives their replies; raises what is refused."""
+        """Sends lines and gives the replies; raises what refusal gives where one is refused."""
         sent = list(lines)
         replies = [read_reply(text) for text in self.client.exchange(sent)]
         for line, reply in zip(sent, replies, strict=True):
@@ -62,28 +62,29 @@ class Simulation:
         return replies
 
     def refusal(self, _line: bytes, reply: Exception) -> Exception:
-        """What is raised where a line is refused."""
+        """The exception for a line that is refused: the reply itself."""
         return reply
 
     def tell(self, command: Command) -> Any:
-        """The reply to one command."""
+        """Sends one command, and gives its reply."""
         [reply] = self.send([line_of(command)])
         return reply
 
     # The clock
 
     def step(self, time: float = 0) -> None:
-        """One step, or all steps until a time in seconds is reached; none where it is, as in SUMO."""
+        """Makes one step (time 0), or all steps until the clock is at time seconds (rounded up); none where it is there
+        already, as in SUMO."""
         target = ceil(time) if time else self.clock + 1
         while self.clock < target:
             self.go_on(target)
 
     def go_on(self, target: int) -> None:
-        """Makes at least one step, and none beyond a clock."""
+        """Makes at least one step, and none beyond the clock target."""
         self.advance(target)
 
     def advance(self, target: int) -> None:
-        """Steps until a clock, with the lines of the file and the phases that are due on the way."""
+        """Makes the steps until the clock target, with all lines and phases that are due on the way."""
         while self.clock < target:
             steps = min(limits.STEPS, self.send_timed(target) - self.clock)
             merging = self.merges.next()
@@ -95,7 +96,8 @@ class Simulation:
             self.show_driven(self.driving.look(self.clock))
 
     def send_timed(self, target: int) -> int:
-        """Sends the lines that are due; gives the clock at which the next one is, at most a target."""
+        """Sends the lines of the file and the phases that are due now; gives the clock of the next ones, target at
+        most."""
         due = []
         while self.sent < len(self.source.timed) and self.source.timed[self.sent][0] <= self.clock:
             line = self.source.timed[self.sent][1]
@@ -111,19 +113,20 @@ class Simulation:
         return self.shown.next_clock(min([target, *following]))
 
     def show(self, commands: Sequence[Command]) -> None:
-        """Sends signal commands."""
+        """Sends signal commands, which are then in force."""
         self.send(map(line_of, commands))
         self.shown.signals.update({command["node"]: command for command in commands})
 
     def show_driven(self, commands: Iterable[Command]) -> None:
-        """Sends what places detectors of lights, and what these show."""
+        """Sends commands of lights that detectors drive: detectors, and signals."""
         for command in commands:
             self.tell(command)
             if command["cmd"] == "signal":
                 self.shown.signals[command["node"]] = command
 
     def show_program(self, light: str, phases: Sequence[tuple[float, str]], offset: float) -> list[str]:
-        """Shows a cycle of (seconds, state) at a light from the next step on; gives what there is to warn of."""
+        """Shows a cycle of (seconds, state) at a light from the next step on; offset: as in a tlLogic, seconds. Gives
+        warnings."""
         commands, told = self.shown.program(light, phases, offset, self.clock)
         self.show(commands)
         return told
@@ -133,8 +136,8 @@ class Simulation:
     def enter(
         self, name: str, plan: Iterable[int], lane: int, depart: int, size: int = 1, driven: Sequence[int] = ()
     ) -> int:
-        """Tells the program of a vehicle, or anew of one that was taken out after some links (driven); gives its
-        number. plan: links; lane: of the first; depart: clock; size: cells."""
+        """Tells the program of a vehicle; gives its number. plan: links; lane: of the first; depart: clock; size:
+        cells; driven: links that it drove before, where it was taken out."""
         command = {"cmd": "enter", "plan": list(plan), "lane": lane, "depart": depart}
         command |= {"size": size} if size > 1 else {}
         car = self.tell(command)
@@ -142,27 +145,27 @@ class Simulation:
         return car
 
     def vehicles(self, cars: Iterable[int]) -> list[Vehicle]:
-        """Where vehicles of some numbers are."""
+        """The program's replies on vehicles, by their numbers."""
         return self.send(line_of({"cmd": "vehicle", "car": car}) for car in cars)
 
     def enter_anew(self, name: str, links: Sequence[int], depart: int, driven: Sequence[int] = ()) -> int:
-        """Takes a vehicle out, and enters it with another plan, after some links that it has driven; gives its new
-        number. Plans do not change in the program."""
+        """Takes a vehicle out and enters it with another plan, as plans do not change in the program; gives its new
+        number. depart: clock; driven: the links that it drove before."""
         self.tell({"cmd": "takeout", "car": self.fleet.cars[name]})
         lane = self.connections.departure_lane(links)
         return self.enter(name, links, lane, depart, self.fleet.sizes[name], driven)
 
     def plan(self, name: str) -> Sequence[int]:
-        """The links of a vehicle's plan, those that are driven included."""
+        """The links of a vehicle's plan, those that it has driven among them."""
         return self.fleet.plans[name]
 
     def expected(self) -> int:
-        """How many vehicles, of those the program was told of, have not ended."""
+        """How many of the vehicles that the program was told of have not ended."""
         census = self.client.count()
         return census.admitted - census.arrived - census.taken
 
     def edges(self, links: Iterable[int]) -> tuple[str, ...]:
-        """SUMO's names of the edges of links."""
+        """SUMO's name of the edge of each link."""
         return tuple(self.map.links[link].edge for link in links)
 
     # Lanes
@@ -173,37 +176,37 @@ class Simulation:
         return [(link, lane) for link in self.map.links_of[edge] for lane in range(len(links[link].lanes))]
 
     def close_lane(self, lane: str, begin: float = 0.0, end: float | None = None) -> None:
-        """Closes a lane, by SUMO's name, from one place to another (none: its end), in metres: road works. ValueError
-        beyond the lane."""
+        """Closes a lane, by SUMO's name, from begin to end metres (None: the lane's end), as road works do. ValueError
+        for metres beyond the lane, or an end not after the begin."""
         self.change_works({"cmd": "close", **self.works_place(lane, begin, end)})
 
     def reopen_lane(self, lane: str, begin: float = 0.0, end: float | None = None) -> None:
-        """Opens a lane again, as `close_lane` closes it."""
+        """Opens what close_lane closed, with the same lane and metres."""
         self.change_works({"cmd": "reopen", **self.works_place(lane, begin, end)})
 
     def change_works(self, command: Command) -> None:
-        """Closes or reopens, and has vehicles merge before what is closed."""
+        """Sends a close or reopen command, with what merging needs before it."""
         self.send(map(line_of, [*self.merges.before(command), command]))
         self.merges.done(self.clock, command)
 
     def merge(self) -> None:
-        """Looks at works, and sends what has vehicles merge."""
+        """Looks at the lanes with works that are due, and sends what has vehicles merge."""
         for link in self.merges.due(self.clock):
             lanes = self.client.lane(link, 0), self.client.lane(link, 1)
             self.send(map(line_of, self.merges.told(self.clock, link, lanes)))
 
     def stop_merging(self) -> None:
-        """From now on who stands before works waits for a gap."""
+        """Ends merging by turns: from now on a vehicle before works waits for a gap."""
         self.let_go()
         self.merges = Merges({})
 
     def let_go(self) -> None:
-        """Opens what merging holds: nothing is closed but the works, until vehicles merge again."""
+        """Opens what merging holds closed, so that only works are closed until it is told again."""
         self.send(map(line_of, self.merges.end()))
 
     def works_place(self, lane: str, begin: float, end: float | None) -> Command:
-        """The cells of works, as fields of a command; a lane takes the whole metre in which it ends, as streetsim-run
-        --close does. ValueError beyond the lane."""
+        """The fields link, lane, first and last (cells) of a close or reopen command. A lane may be closed to the whole
+        metre in which it ends, as streetsim-run --close allows; ValueError beyond that."""
         number, index = self.lane_of[lane]
         link = self.map.links[number]
         last = link.metres if end is None else end

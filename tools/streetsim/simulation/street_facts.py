@@ -1,5 +1,5 @@
-"""What a network and its additional and route files tell, and a run's map does not: widths and classes of lanes,
-names of streets, connections, junctions, the programs of lights, routes by name."""
+"""What SUMO's network, additional and route files tell and a run's map does not: widths and classes of lanes, names of
+streets, connections, junctions, programs of lights, routes by name."""
 from collections.abc import Container, Sequence
 from dataclasses import dataclass, field
 from xml.etree.ElementTree import Element
@@ -68,7 +68,7 @@ class Facts:
     unwritten: list[str] = field(default_factory=list)
 
     def read_edge(self, path: str, element: Element) -> None:
-        """Takes the lanes of an edge, or the metres of those inside a junction."""
+        """Takes the lanes of an edge; of lanes inside a junction the metres alone."""
         edge = attribute(path, element, "id")
         for lane in element.iter("lane"):
             name, metres = attribute(path, lane, "id"), attribute(path, lane, "length", number)
@@ -81,7 +81,7 @@ class Facts:
             self.streets[edge] = element.get("name") or ""
 
     def read_connection(self, element: Element) -> None:
-        """Takes a way from a lane to a next one; one inside a junction leads on there."""
+        """Takes a connection from a lane to a next one; of one inside a junction, on which lane it goes on."""
         source, target = (
             f"{element.get(edge)}_{element.get(lane)}" for edge, lane in (("from", "fromLane"), ("to", "toLane"))
         )
@@ -93,12 +93,13 @@ class Facts:
             self.lanes[source].links.append(Connection(target, via, direction, state, light, index))
 
     def metres_inside(self, via: str) -> float:
-        """Metres of a way through a junction that begins with a lane inside it."""
+        """Metres of the way through a junction that begins with a lane inside it; 0 for an unknown lane."""
         metres = self.inside.get(via, 0.0)
         return metres + self.metres_inside(self.onward[via]) if via in self.onward else metres
 
     def read_light(self, path: str, element: Element) -> None:
-        """Takes a program of a light. The last one is the one that runs; the others can be chosen."""
+        """Takes a program of a light; the last one of a light is the one that runs, the others can be chosen. One
+        without phases is passed over."""
         phases = [
             (attribute(path, one, "duration", seconds), attribute(path, one, "state")) for one in element.iter("phase")
         ]
@@ -112,7 +113,7 @@ class Facts:
         self.lights[name] = light
 
     def lights_at(self, names: Container[str]) -> dict[str, Light]:
-        """The lights of some names, each with its connections by index."""
+        """The lights whose name is among names, each with its connections by index."""
         links: dict[str, dict[int, tuple[str, str, str]]] = {}
         for lane, fact in self.lanes.items():
             for one in fact.links:
@@ -125,12 +126,12 @@ class Facts:
 
 
 def points(text: str | None) -> tuple[Point, ...]:
-    """The points of a shape as a file has it; none of none."""
+    """The points (x, y) of a shape's text, in metres; empty for None."""
     return tuple((float(x), float(y)) for x, y, *_ in (part.split(",") for part in (text or "").split()))
 
 
 def read_facts(net: str, additional: Sequence[str], routes: Sequence[str]) -> Facts:
-    """The facts of a network, its additional files and its route files."""
+    """The facts of a network and its additional files, and the named routes of route files."""
     facts = Facts()
     for path in (net, *additional):
         for element in elements(path, None):
@@ -144,7 +145,7 @@ def read_facts(net: str, additional: Sequence[str], routes: Sequence[str]) -> Fa
 
 
 def read_element(facts: Facts, path: str, element: Element) -> None:
-    """Takes what an element of a network or an additional file says."""
+    """Takes what an element of a network or an additional file tells; other elements are passed over."""
     if element.tag == "edge":
         facts.read_edge(path, element)
     elif element.tag == "connection":

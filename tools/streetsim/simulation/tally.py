@@ -1,5 +1,5 @@
-"""What is noted second by second: of vehicles how long they have stood and how far they have come; of loops who passed.
-"""
+"""What is noted second by second: how long vehicles have stood and how far they have come, and who passed induction
+loops."""
 from dataclasses import dataclass, field
 
 from streetsim.model.detectors import Detector
@@ -10,7 +10,7 @@ from streetsim.simulation.view import View
 
 @dataclass(slots=True)
 class Tally:
-    """By the number of a vehicle, as long as it is looked at."""
+    """Standing, lost time and distance of vehicles, by their numbers, as far as they were looked at."""
 
     waiting: dict[int, float] = field(default_factory=dict)  # seconds of standing, now
     waited: dict[int, float] = field(default_factory=dict)  # and in all
@@ -18,7 +18,7 @@ class Tally:
     travelled: dict[int, float] = field(default_factory=dict)  # metres of the links and junctions behind it
 
     def note(self, view: View, mapping: Map, inside: Inside, dawdle: float) -> None:
-        """Notes one second more, by a look; dawdle: a chance, 0 to 1."""
+        """Adds one second, by a look; dawdle: the chance, 0 to 1, to go on by a cell less."""
         standing = [car for car, place in view.places.items() if not place.speed]
         self.waiting = {car: self.waiting.get(car, 0) + 1 for car in standing}
         for car in standing:
@@ -31,7 +31,7 @@ class Tally:
                 self.travelled[car] = self.travelled.get(car, 0.0) + metres
 
     def rename(self, car: int, new: int) -> None:
-        """Notes that a vehicle has another number."""
+        """Notes that a vehicle goes on under the number new."""
         for values in (self.waiting, self.waited, self.lost, self.travelled):
             if car in values:
                 values[new] = values.pop(car)
@@ -46,7 +46,7 @@ class Loop:
     last: float = -1.0  # the clock at which one was last on it
 
     def note(self, view: View, clock: int) -> None:
-        """Notes one second more, by a look at a clock."""
+        """Notes who was on the loop in the step that ended at a clock, by a look."""
         self.passed = [car for car in {**view.before, **view.places} if self.was_under(car, view)]
         if self.passed:
             self.last = float(clock)

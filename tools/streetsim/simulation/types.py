@@ -5,7 +5,7 @@ from streetsim.sumo.types import DEFAULT, Kind
 
 
 class Types:
-    """By vehicle the type and the route, and what a type is."""
+    """The type and the route of each vehicle, and what each type is."""
 
     def __init__(self, mapping: Map) -> None:
         self.of_file, self.sizes = mapping.kinds, mapping.options.get("sizes", True)
@@ -15,7 +15,7 @@ class Types:
         self.route_of: dict[str, str] = {}  # by name, of those and of the ones that it sends another way
 
     def name(self, vehicle: str) -> str:
-        """The name of a vehicle's type, the usual one where nobody says another."""
+        """The name of a vehicle's type; DEFAULT_VEHTYPE where nobody tells one."""
         if vehicle in self.kind_of or vehicle not in self.known:
             return self.kind_of.get(vehicle, DEFAULT)
         places, at = self.of_file.get("type", ()), self.known[vehicle]
@@ -26,12 +26,12 @@ class Types:
         return self.kinds.get(self.name(vehicle), Kind())
 
     def cells(self, name: str) -> int:
-        """The cells that a vehicle of a type takes."""
+        """The cells that a vehicle of a type takes; 1 where the import was told to leave sizes out."""
         metres = self.kinds[name].length + self.kinds[name].gap
         return max(1, min(limits.SIZE, int(metres / limits.CELL_METRES + 0.5))) if self.sizes else 1
 
     def route(self, vehicle: str) -> str:
-        """The name of a vehicle's route; '!' and the vehicle's name where the route has none, or was changed."""
+        """The name of a vehicle's route; "!" and the vehicle's name where its route has no name, or was changed."""
         if vehicle in self.route_of or vehicle not in self.known:
             return self.route_of.get(vehicle, f"!{vehicle}")
         named, at = self.of_file.get("route") or (), self.known[vehicle]

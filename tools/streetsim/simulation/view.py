@@ -1,4 +1,4 @@
-"""What stands where in a simulation, as polls of all its lanes show it."""
+"""What stands where in a simulation, by polls of all its lanes."""
 from collections.abc import Iterable
 
 from streetsim.base.client import Entries, Lane, line_of, read_reply
@@ -30,11 +30,11 @@ class View:
         self.gone: dict[str, int | None] = {}  # by name the step of its end
 
     def clear(self) -> None:
-        """Forgets places, which are no longer those of the clock."""
+        """Forgets the places, as the clock has gone on."""
         self.places, self.asked = {}, False
 
     def look(self) -> None:
-        """Notes what stands where at the clock, and what has changed since the last look."""
+        """Polls all lanes; notes where each vehicle is, and who has departed or ended since the look before."""
         self.places, self.asked, self.on_lane, self.in_buffer, self.frame = {}, True, {}, {}, []
         texts = self.simulation.client.exchange(line for _, line in self.polls)
         for (place, _), text in zip(self.polls, texts, strict=True):
@@ -49,7 +49,7 @@ class View:
         self.note_gone([car for car in self.before if car not in self.places])
 
     def note_lane(self, place: tuple[int, int], reply: Lane) -> None:
-        """Takes the reply of a lane."""
+        """Takes the reply on one lane."""
         self.places.update({car: Place(*place, cell, speed) for car, cell, speed, *_ in reply.cells})
         self.places.update({car: Place(*place, None, speed) for car, speed, *_ in reply.buffer})
         self.on_lane[place] = [entry[0] for entry in reply.cells]
@@ -57,12 +57,13 @@ class View:
         self.frame.append((*place, reply.cells, self.in_buffer[place]))
 
     def note_held(self) -> None:
-        """Adds who was taken out at a node to go another way: there until seen on its next link."""
+        """Adds the vehicles that were taken out at a node to go another way: they count as there until they are seen on
+        their next link."""
         self.held = {car: place for car, place in self.held.items() if car not in self.places}
         self.places.update(self.held)
 
     def note_gone(self, cars: Iterable[int]) -> None:
-        """Takes what became of vehicles that are no longer seen."""
+        """Asks what became of vehicles that are no longer seen, by number, and notes who arrived."""
         self.arrived = []
         for reply in self.simulation.vehicles(cars):
             self.gone[self.simulation.fleet.names[reply.car]] = reply.step
@@ -70,17 +71,18 @@ class View:
                 self.arrived.append(reply.car)
 
     def has_just_departed(self, car: int) -> bool:
-        """Whether a vehicle stands where it departs."""
+        """Whether a vehicle stands in the first cell of its plan, as one that has just departed does."""
         fleet, place = self.simulation.fleet, self.places[car]
         return place.cell == 0 and not place.speed and place.link == fleet.plans[fleet.names[car]][0]
 
     def waiting_to_depart(self) -> list[int]:
-        """Numbers of those that the program was told of and that have not departed."""
+        """The numbers of the vehicles that the program was told of and that have not departed."""
         cars = self.simulation.fleet.cars
         return [car for name, car in cars.items() if car not in self.seen and name not in self.gone]
 
     def rename(self, car: int, new: int, place: Place) -> None:
-        """Notes that a vehicle at a node is held there under another number."""
+        """Notes that a vehicle at a node (place) goes on under the number new, and counts as there until it is seen
+        again."""
         self.seen.add(new)
         self.places.pop(car)
         self.places[new] = self.held[new] = Place(place.link, place.lane, None, 0)

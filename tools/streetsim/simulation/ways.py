@@ -1,4 +1,4 @@
-"""Shortest ways in a simulation, by the travel times of now or by metres."""
+"""Shortest ways in a simulation, by the travel times at its clock or by metres."""
 from array import array
 from operator import itemgetter
 
@@ -15,8 +15,8 @@ SLOWEST = 0.1  # metres a second that an edge counts with where all stand, as in
 
 
 class Ways:
-    """Shortest ways over the links of a simulation's map, by the turns between them that its run has: it takes no more.
-    inside: the metres inside junctions; view: whose speeds give the seconds."""
+    """Shortest ways over the links of a simulation's map, by the turns that its run has; it adds none. inside: metres
+    inside junctions; view: whose speeds give the seconds."""
 
     def __init__(self, simulation: Simulation, inside: Inside, view: View) -> None:
         self.simulation, self.map, self.inside, self.view = simulation, simulation.map, inside, view
@@ -27,7 +27,7 @@ class Ways:
         self.by_metres: Router | None = None
 
     def adapt(self, edge: str, seconds: float | None) -> None:
-        """Sets the seconds of an edge, or goes back to those of its traffic (none)."""
+        """Sets the seconds with which an edge counts; None: those of its traffic again."""
         if seconds is None:
             self.adapted.pop(edge, None)
         else:
@@ -35,7 +35,7 @@ class Ways:
         self.now = None
 
     def way(self, origin: str, target: str) -> tuple[tuple[int, ...], float]:
-        """The links of the shortest way from an edge to another by travel times at the clock, and its seconds;
+        """(links of the quickest way from an edge to another by the travel times at the clock, its seconds);
         TraCIException where there is none."""
         clock = self.simulation.clock
         if self.now is None or self.now[0] != clock:
@@ -46,8 +46,8 @@ class Ways:
         return self.search(origin, target, self.now[1])
 
     def metres(self, origin: str, target: str) -> float:
-        """The length of the shortest way, both edges whole, with the junctions between; TraCIException where there is
-        none."""
+        """Metres of the shortest way from an edge to another, both whole, with the junctions between; TraCIException
+        where there is none."""
         if self.by_metres is None:
             links, inside = self.map.links, self.inside
             inner = ((link, 0.0 if to == END else inside.metres(link, None, to)) for link, to in self.graph.movements)
@@ -56,7 +56,8 @@ class Ways:
         return self.search(origin, target, self.by_metres)[1]
 
     def search(self, origin: str, target: str, router: Router) -> tuple[tuple[int, ...], float]:
-        """The best way over the parallel links of both edges, and its cost; TraCIException where there is none."""
+        """(links, cost) of the best way over any of the parallel links of both edges; TraCIException where there is
+        none, or an edge is unknown."""
         links_of = self.map.links_of
         if unknown := [edge for edge in (origin, target) if edge not in links_of]:
             raise TraCIException(f"Edge '{unknown[0]}' is not known.")
@@ -67,7 +68,8 @@ class Ways:
         return path, least
 
     def seconds(self, edge: str) -> float:
-        """The seconds of an edge, at the mean speed of those on it, else at its limit; or as a script has set them."""
+        """The seconds of an edge: those that a script set, else by the mean speed of the vehicles on it, or its limit
+        where it is empty."""
         if edge in self.adapted:
             return float(self.adapted[edge])
         view, lanes = self.view, self.simulation.lanes_on(edge)

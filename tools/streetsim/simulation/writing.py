@@ -1,4 +1,4 @@
-"""SUMO's output files of a session, second by second."""
+"""Writes SUMO's output files of a session, second by second."""
 from collections.abc import Sequence
 
 from streetsim.model.mapping import Map
@@ -9,18 +9,18 @@ SERVED = {f"{kind}-output": kind for kind in ("tripinfo", "summary", "fcd", "que
 
 
 class Writer(Outputs):
-    """Output files that are written while a script runs, and take their names when it closes the run."""
+    """Output files that are written while a script runs; they get their names when it closes the run."""
 
     def __init__(self, paths: dict, mapping: Map, dawdle: float, period: int, start: int) -> None:
         super().__init__(paths, mapping, dawdle, period, start)
         self.first: dict[int, int] = {}  # the first number of a vehicle that entered anew
 
     def rename(self, car: int, new: int) -> None:
-        """Notes that a vehicle has another number; the files go on with its first."""
+        """Notes that a vehicle goes on under the number new; the files keep its first number."""
         self.first[new] = self.first.get(car, car)
 
     def note(self, clock: int, view: View) -> None:
-        """Writes the second that ends at a clock, of which a look has shown what stood where."""
+        """Writes the second that ends at a clock, by a look at it."""
         owner = self.first.get
         lanes: list[Sequence]
         lanes = [

@@ -1,4 +1,4 @@
-"""What the runs of a study differ by, and how sure that is."""
+"""By how much the variants of a study differ, and how sure that is."""
 from collections.abc import Iterator, Mapping, Sequence
 from statistics import fmean, stdev
 
@@ -20,13 +20,13 @@ Difference = tuple[str, float, float | None, float | None, float | None, int, in
 
 
 def means_of(study: Study, results: Mapping[str, Sequence[Outcome]], name: str) -> list[float]:
-    """The mean trips of a variant, seconds, by seed."""
+    """The mean trips of a variant, seconds, in the order of the seeds."""
     cars = len(study.variants[name].session.departs)
     return [one.seconds / cars for one in results[name]]
 
 
 def run_rows(study: Study, results: Mapping[str, Sequence[Outcome]]) -> Iterator[Entry]:
-    """The rows of runs.csv."""
+    """The rows of runs.csv: one for each variant and seed."""
     for name, outcomes in results.items():
         for seed, one, mean in zip(study.seeds, outcomes, means_of(study, results, name), strict=True):
             ends = one.seconds, one.end, one.ended.partition(": ")[2] or "until"
@@ -34,8 +34,10 @@ def run_rows(study: Study, results: Mapping[str, Sequence[Outcome]]) -> Iterator
 
 
 def differences(study: Study, results: Mapping[str, Sequence[Outcome]], precision: float) -> list[Difference]:
-    """A row for each variant, to the base: mean trips of equal seeds (paired), and as if their seeds were others.
-    precision: percent of the base's mean trip, which runs are to reach."""
+    """A row for each variant: its mean trip, and its difference to the base's with two half widths of the 95 %
+    interval: by runs of equal seeds (paired), and as if their seeds were others (unpaired). precision: the half width
+    that runs are to reach, in percent of the base's mean trip. None stands for what the base, or one seed, does not
+    have."""
     base = means_of(study, results, study.base)
     error = fmean(base) * precision / 100
     rows: list[Difference] = []
@@ -54,5 +56,5 @@ def differences(study: Study, results: Mapping[str, Sequence[Outcome]], precisio
 
 
 def written(row: Entry) -> Entry:
-    """A row as texts; none is empty."""
+    """A row of a table as texts; None becomes an empty text, and a number with a fraction gets three decimals."""
     return tuple("" if value is None else f"{value:.3f}" if isinstance(value, float) else value for value in row)

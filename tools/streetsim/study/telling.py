@@ -14,7 +14,8 @@ from streetsim.works.watched import in_runs
 
 
 def draw(study: Study, rows: Sequence[Difference], path: str) -> None:
-    """The differences with their intervals; without matplotlib no picture, which is said."""
+    """Draws the differences to the base with their intervals to a picture at path; nothing without matplotlib (which is
+    said) or with the base alone."""
     shown = [row for row in rows if row[0] != study.base]
     pyplot = drawing_if_there()
     if pyplot is None or not shown:
@@ -39,7 +40,7 @@ def draw(study: Study, rows: Sequence[Difference], path: str) -> None:
 
 
 def doubts(study: Study, name: str, outcomes: Sequence[Outcome]) -> Iterator[str]:
-    """What speaks against the runs of a variant, by its name."""
+    """What speaks against the runs of a variant, by its name, a text each."""
     variant = study.variants[name]
     arrived = fmean(one.arrived for one in outcomes)
     yield from trust.of_missing({"": arrived}, fmean(bisect_right(variant.due, one.end) for one in outcomes))
@@ -53,7 +54,7 @@ def doubts(study: Study, name: str, outcomes: Sequence[Outcome]) -> Iterator[str
 
 
 def tell_ends(study: Study, results: Mapping[str, Sequence[Outcome]]) -> None:
-    """Prints how runs without a last second ended."""
+    """Prints how runs without a last second ended; nothing where the study has one."""
     if study.until is not None:
         return
     clocks = []
@@ -71,7 +72,7 @@ def tell_ends(study: Study, results: Mapping[str, Sequence[Outcome]]) -> None:
 
 
 def tell(rows: Sequence[Difference]) -> None:
-    """Prints a line for each variant."""
+    """Prints for each variant its mean trip, and the difference to the base."""
     for name, mean, difference, half, _, runs, needed, _ in rows:
         line = f"{name}: mean trip {mean:.1f} s"
         if difference is not None:
@@ -84,7 +85,8 @@ def tell(rows: Sequence[Difference]) -> None:
 
 
 def tell_giving_way(results: Mapping[str, Sequence[Outcome]]) -> None:
-    """Prints at how many junctions vehicles give way without a light, and by how many lines in the mean of the runs."""
+    """Prints at how many junctions vehicles give way without a light, and by how many lines in the mean of the runs;
+    nothing where they do nowhere."""
     outcomes = [one for found in results.values() for one in found]
     if any(one.lines for one in outcomes):
         junctions, lines = max(one.junctions for one in outcomes), fmean(one.lines for one in outcomes)

@@ -1,4 +1,4 @@
-"""The variants of a study, as its file says them."""
+"""The variants of a study, read from its TOML file."""
 import contextlib
 import os
 import sys
@@ -49,6 +49,8 @@ class Variant:
 
 @dataclass(slots=True)
 class Study:
+    """A study: its variants, and the seeds with which each is run."""
+
     until: int | None  # none: each run goes on until all have arrived or nobody moves
     seeds: range
     base: str  # the variant to which others are compared
@@ -56,7 +58,8 @@ class Study:
 
 
 def read_study(path: str, simulator: str, rounds: int | None = None) -> Study:
-    """A study, with its variants as bytes; the paths in it are beside it; rounds: in place of those that it names."""
+    """The study of a TOML file, whose paths are read from the file's folder. simulator: path of the program; rounds: in
+    place of those in the file, None: those. Fault where the file is wrong."""
     with reading(path), open_text(path) as file:
         value = load_toml(path, file.read())
     refuse_unknown(path, value, KEYS, "key")
@@ -85,7 +88,7 @@ def read_study(path: str, simulator: str, rounds: int | None = None) -> Study:
 
 @contextlib.contextmanager
 def naming(where: str) -> Iterator[None]:
-    """Has a fault name the variant that it is of."""
+    """Has a Fault begin with where, the variant that it is of."""
     try:
         yield
     except Fault as fault:
@@ -93,7 +96,8 @@ def naming(where: str) -> Iterator[None]:
 
 
 def read_until(path: str, until: Any) -> int | None:
-    """The last second of a study, from a number or a time; none where it names none; Fault otherwise."""
+    """The last second of a study: of a number, or of a time as text (07:00); None where it names none. Fault
+    otherwise."""
     if isinstance(until, str) and whole_seconds(until) is not None:
         until = whole_seconds(until)
     if until is not None and (type(until) is not int or not 1 <= until <= limits.CLOCK):
@@ -102,7 +106,7 @@ def read_until(path: str, until: Any) -> int | None:
 
 
 def load_toml(path: str, text: str) -> Json:
-    """What a TOML file's text says; Fault where it is none."""
+    """What the text of a TOML file says; Fault, with its path, where it is no TOML."""
     try:
         return tomllib.loads(text)
     except tomllib.TOMLDecodeError as fault:
@@ -110,14 +114,14 @@ def load_toml(path: str, text: str) -> Json:
 
 
 def refuse_unknown(where: str, table: Iterable[str], known: Iterable[str], what: str) -> None:
-    """Refuses keys that are not known; what: how the user calls them."""
+    """Fault where a table has a key that is not known; what: the user's word for the keys."""
     if unknown := [key for key in table if key not in known]:
         raise Fault(f"{where}: unknown {what} {unknown[0]!r}; known are {', '.join(sorted(known))}")
 
 
 def joint_lanes(path: str, study: Json) -> dict[tuple[str, str], dict[str, None]]:
-    """The lanes that works of a variant need to be joint, and so are in all variants of the same run: {(run, map):
-    lanes}."""
+    """The lanes that are joint in all variants of a run, as works of one of them need it: {(run, map): lanes}; the
+    lanes are keys, in order."""
     found: dict[tuple[str, str], dict[str, None]] = {}
     for name, variant in study["variant"].items():
         with naming(where := f"{path}: variant {name!r}"):
@@ -130,7 +134,7 @@ def joint_lanes(path: str, study: Json) -> dict[tuple[str, str], dict[str, None]
 
 
 def pair_of(study: Json, variant: Json) -> tuple[str, str]:
-    """The run and the map of a variant."""
+    """The paths of the run and the map of a variant, else those of the study."""
     return variant.get("run", study["run"]), variant.get("map", study["map"])
 
 
@@ -142,8 +146,8 @@ def read_variant(
     joint: Mapping[tuple[str, str], Iterable[str]],
     simulator: str,
 ) -> Variant:
-    """A variant, read and made ready; where: for faults; joint: the lanes that are joint for works, by run and map;
-    simulator: the program."""
+    """A variant, read and made ready; what it does is told on standard error. where: for faults; joint: the lanes that
+    are joint for works, by run and map; simulator: path of the program."""
     refuse_unknown(where, variant, VARIANT, "key")
     beside = partial(os.path.join, os.path.dirname(os.path.abspath(path)))
     run_path, map_path = map(beside, pair_of(study, variant))
@@ -182,7 +186,7 @@ def read_variant(
 
 
 def check_types(where: str, value: Json) -> None:
-    """Refuses values of another kind than their key's."""
+    """Fault where a value of a variant is not of the kind, or in the range, that its key needs."""
     for key in ("run", "map"):
         if not isinstance(value[key], str):
             raise Fault(f"{where}: {key} = {value[key]!r} is no path")
@@ -214,8 +218,8 @@ def check_types(where: str, value: Json) -> None:
 
 
 def signals_of(asked: Reading, run: Run, mapping: Map) -> tuple[bytes, list[str]]:
-    """The signal lines of all lights of the map under the plans of a variant,
-    and which of them SUMO times by detectors."""
+    """(signal lines, as bytes, of all lights of the map under the plans of a variant; the names of the lights among
+    them that SUMO times by detectors)."""
     net = read_plans(asked.plans, mapping)
     found = {name: light_of(name, net.programs[name]) for name in lights_of(asked, mapping, net)}
     plan = {name: timing for name, (_, timing) in found.items()}

@@ -1,4 +1,4 @@
-"""What runs show of the seconds that movements take by time of day, and the costs for a router that are made of it."""
+"""The seconds that movements take by time of day, as runs show them, and the costs that a router makes of them."""
 from array import array
 from collections.abc import Sequence
 from dataclasses import dataclass
@@ -16,28 +16,28 @@ SHARES = [(part + 0.5) / PARTS - 0.5 for part in range(PARTS)]  # of a slice, fr
 
 @dataclass(slots=True)
 class Observed:
-    """What one run showed: seconds and numbers of vehicles of each movement in each slice of
-    time, one after another."""
+    """What one run showed: for each movement in each slice of time the seconds of all vehicles together, and how many
+    they were, at place movement * slices + slice."""
 
     slices: int
     seconds: array
     counts: array
 
     def add(self, movement: int, slice_: int, seconds: float) -> None:
-        """Adds a vehicle that took a movement in so many seconds; slices behind the last count as it."""
+        """Adds a vehicle that took so many seconds for a movement; slices after the last count as the last."""
         place = movement * self.slices + min(slice_, self.slices - 1)
         self.seconds[place] += seconds
         self.counts[place] += 1
 
 
 def nothing_observed(movements: int, slices: int) -> Observed:
-    """What a run shows at first, of so many movements and slices."""
+    """An Observed with nothing in it, for so many movements and slices."""
     zeros = array("d", [0.0]) * (movements * slices)
     return Observed(slices, zeros, array(zeros.typecode, zeros))
 
 
 def mean_of(runs: Sequence[Observed]) -> Observed:
-    """The mean of some runs, one at least."""
+    """The mean of what some runs showed; one run at least."""
     if len(runs) == 1:
         return runs[0]
     seconds, counts = (
@@ -49,7 +49,8 @@ def mean_of(runs: Sequence[Observed]) -> Observed:
 
 @dataclass(slots=True)
 class Costs:
-    """Seconds of movements by time: of each its mean in each slice, or one that is the same at all times."""
+    """The seconds of movements by time: for each its mean in each slice, or one number that is the same at all
+    times."""
 
     width: float  # seconds of a slice
     slices: int
@@ -61,8 +62,8 @@ class Costs:
         return self.width / PARTS
 
     def row(self, movement: int) -> array:
-        """The costs of a movement in each part of all slices, in seconds, between the middles of slices by a straight
-        line."""
+        """The seconds of a movement in each part of all slices: from the middle of a slice to the middle of the next
+        they change along a straight line."""
         means = self.means[movement]
         if isinstance(means, float):
             return array("d", [means]) * (PARTS * self.slices)
@@ -74,13 +75,13 @@ class Costs:
         ])  # fmt: skip
 
     def least(self, movement: int) -> float:
-        """The least seconds of a movement at any time."""
+        """The least seconds that a movement takes at any time."""
         means = self.means[movement]
         return means if isinstance(means, float) else min(means)
 
 
 class Table:
-    """Costs by the clock, whose rows are made when they are first asked for."""
+    """Costs by the clock; the row of a movement is made when it is first asked for."""
 
     def __init__(self, costs: Costs) -> None:
         self.costs = costs
@@ -88,14 +89,14 @@ class Table:
         self.inverse, self.last = 1 / costs.part, PARTS * costs.slices - 1
 
     def row(self, movement: int) -> array:
-        """The costs of a movement, made once."""
+        """The seconds of a movement in each part of all slices; made at the first call."""
         made = self.rows[movement]
         if made is None:
             made = self.rows[movement] = self.costs.row(movement)
         return made
 
     def at(self, movement: int, clock: float) -> float:
-        """The seconds of a movement that begins at a clock; behind the last slice as in it."""
+        """The seconds of a movement that begins at a clock; after the last slice those of its last part."""
         row, part = self.rows[movement], int(clock * self.inverse)
         if row is None:
             row = self.row(movement)
@@ -105,9 +106,9 @@ class Table:
 def costs_of(
     graph: Graph, free: Sequence[float], observed: Observed, width: float, minor: Minor | None = None
 ) -> Costs:
-    """The costs by what was observed; free: seconds of movements; width: seconds of a slice. A movement that n vehicles
-    took in a slice has the mean of their delays and, as of some more vehicles, of the edge's, or what those wait who
-    give way if that is more; what nobody took has this wait alone."""
+    """The costs that follow from what was observed. free: seconds of each movement without traffic; width: seconds of a
+    slice; minor: who gives way, None: nobody. A movement has the mean delay of its vehicles in a slice, together with
+    AS_MOVEMENT further ones that have the mean of its edge, or the wait of those who give way where that is more."""
     slices, counts = observed.slices, observed.counts
     delays = array("d", [
         seconds - counts[place] * free[place // slices] for place, seconds in enumerate(observed.seconds)
@@ -135,7 +136,7 @@ def costs_of(
 
 
 def edge_sums(graph: Graph, slices: int, values: array) -> array:
-    """The sums over the movements of each edge, slice by slice, of values by movement and slice."""
+    """The sums over the movements of each edge, by edge and slice; values: by movement and slice."""
     sums = array("d", [0.0]) * (len(graph.edges) * slices)
     for movement, (edge, _) in enumerate(graph.movements):
         for slice_ in range(slices):
@@ -144,7 +145,7 @@ def edge_sums(graph: Graph, slices: int, values: array) -> array:
 
 
 def flat_costs(graph: Graph, seconds: Sequence[float]) -> Costs:
-    """Costs that are the same at all times, of the seconds of each movement; turning back costs more."""
+    """Costs that are the same at all times; seconds: of each movement. Turning back costs TURN_BACK more."""
     return Costs(
         float("inf"),
         1,

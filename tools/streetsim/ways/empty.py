@@ -1,4 +1,4 @@
-"""A network where no route is known yet."""
+"""A network before any route is known: its map, and the times of its movements."""
 from array import array
 
 from streetsim.base.report import Report
@@ -12,13 +12,13 @@ from streetsim.ways.seconds import capacities, free_seconds
 
 
 def map_without_routes(net: SumoNet, options: Options) -> Map:
-    """The map of an import without vehicles."""
+    """The map that an import without vehicles would make."""
     report = Report()
     return map_of(Network(net, options, report, {}), [], [], report)
 
 
 def times_without_routes(net: SumoNet, graph: Graph, options: Options) -> tuple[array, list[float]]:
-    """Free seconds of movements, and vehicles an hour that they let pass."""
+    """(seconds of each movement without traffic, vehicles an hour that each lets pass), before any route is known."""
     report = Report()
     network = Network(net, options, report, {})
     made = [command for _, command in signals(net, network, {}, report) if "at" not in command]

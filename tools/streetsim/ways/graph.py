@@ -8,14 +8,13 @@ END = -1  # stands for the next edge of a movement that ends a trip
 
 
 class Graph:
-    """Edges go by number. A movement is a way from an edge to a next one, or to the END of a trip on that edge;
-    these stand last.
-
-    Turn restrictions hold, since there is a movement only where the network has a connection.
-    """
+    """A network as a router sees it; edges go by number. A movement is a way from an edge to a next one, or to END,
+    where a trip ends on the edge; those of END stand last. There is a movement only where the network has a connection,
+    so bans on turning hold."""
 
     def __init__(self, edges: Iterable[str], ways: Iterable[tuple[str, str]], ends: dict[str, tuple[str, str]]) -> None:
-        """ways: edge and next edge; ends: for each edge the junctions where it begins and ends."""
+        """ways: (edge, next edge); ends: for each edge the junctions where it begins and ends, by which it is known who
+        turns back."""
         self.edges = list(edges)
         self.number = {name: at for at, name in enumerate(self.edges)}
         found = dict.fromkeys((self.number[edge], self.number[following]) for edge, following in ways)
@@ -32,18 +31,18 @@ class Graph:
         ]
 
     def names(self, path: Iterable[int]) -> tuple[str, ...]:
-        """The edges of a path by their names."""
+        """The names of the edges of a path."""
         return tuple(self.edges[edge] for edge in path)
 
 
 def graph_of_net(net: SumoNet) -> Graph:
-    """The graph of a SUMO network's kept lanes."""
+    """The graph of the edges of a SUMO network, by the connections of its kept lanes."""
     ways = ((one.source, one.target) for one in net.connections)
     return Graph(net.edges, ways, {name: (edge.begin, edge.end) for name, edge in net.edges.items()})
 
 
 def graph_of_map(mapping: Map) -> Graph:
-    """The graph of a run's map."""
+    """The graph of the edges of a run's map, by its turns."""
     links = mapping.links
     ways = ((links[turn.link].edge, links[turn.next].edge) for turn in mapping.turns)
     return Graph(mapping.links_of, ways, {link.edge: (str(link.begin), str(link.end)) for link in links})

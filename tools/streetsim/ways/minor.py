@@ -1,4 +1,5 @@
-"""What those wait who give way where no light is, by the vehicles that go first: for ways that nobody takes yet."""
+"""How long those wait who give way without a light, by the vehicles that go first; for movements that no run has shown
+yet."""
 import math
 from collections.abc import Callable
 
@@ -14,7 +15,7 @@ Hourly = Callable[[int], float]  # vehicles an hour of a movement
 
 
 class Minor:
-    """The movements that give way, by number, with those that go before each."""
+    """The movements without a light that give way, by number, with those that go before each."""
 
     def __init__(self, graph: Graph, net: SumoNet) -> None:
         self.foes: dict[int, list[tuple[int, Gap]]] = {}
@@ -22,7 +23,8 @@ class Minor:
             self.foes[number_of(graph, way)] = [(number_of(graph, foe), gap) for foe, gap in foes.items()]
 
     def wait(self, movement: int, hourly: Hourly) -> float:
-        """The mean seconds until a gap comes in the traffic that goes first, as at random; 0 where none goes first."""
+        """The mean seconds until a gap comes for a movement in traffic that comes at random; hourly: gives vehicles an
+        hour of a movement. 0 where nobody goes first, MOST_WAIT at most."""
         flows = [(min(MOST_HOURLY, hourly(foe)), gap) for foe, gap in self.foes.get(movement, ())]
         every = sum(flow for flow, _ in flows)
         if not every:
@@ -33,6 +35,6 @@ class Minor:
 
 
 def number_of(graph: Graph, way: tuple[str, str]) -> int:
-    """The number of the movement from an edge to a next one."""
+    """The number of the movement from an edge to a next one, of their names."""
     edge, following = way
     return graph.movement_of[graph.number[edge], graph.number[following]]

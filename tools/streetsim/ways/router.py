@@ -17,8 +17,8 @@ Shut = Mapping[int | Way, Sequence[tuple[float, float]]]
 
 
 class Wish(NamedTuple):
-    """A trip as the router sees it: from when on it goes from an edge to another,
-    and the path that it has (none: empty)."""
+    """What the router is asked: a trip, by its number, from an edge to another from a clock on, and the path that it
+    has (empty: none)."""
 
     trip: int
     origin: int
@@ -28,8 +28,8 @@ class Wish(NamedTuple):
 
 
 class Found(NamedTuple):
-    """What the router found for a trip: the best path, its seconds and those of the trip's own path.
-    No path: no way."""
+    """What the router found for a trip, by its number: the best path (empty: there is no way), its seconds, and those
+    of the trip's own path (FAR: it has none)."""
 
     trip: int
     path: Path
@@ -38,7 +38,8 @@ class Found(NamedTuple):
 
 
 class Router:
-    """A* with the least seconds to the target as bound, which are searched backwards once for each target in turn."""
+    """Finds shortest paths by A*. Its bounds, the least seconds to a target, are searched backwards and kept until
+    another target is asked for."""
 
     def __init__(self, graph: Graph, costs: Costs, shut: Shut | None = None) -> None:
         self.graph, self.table, self.shut = graph, Table(costs), shut or {}
@@ -50,7 +51,7 @@ class Router:
         self.target, self.bounds = END, [FAR]
 
     def arcs_of(self, edge: int) -> list[tuple[int, array]]:
-        """The next edges of an edge, each with the costs of going there."""
+        """(next edge, seconds by part of a slice) for each edge that follows an edge."""
         made = self.arcs[edge]
         if made is None:
             made = self.arcs[edge] = [
@@ -59,7 +60,8 @@ class Router:
         return made
 
     def bounds_to(self, target: int) -> list[float]:
-        """The least seconds from the begin of each edge to that of the target; FAR where no way leads there."""
+        """For each edge the least seconds, at any time, from its begin to that of the target; FAR where no way leads
+        there."""
         if self.target == target:
             return self.bounds
         least, into = self.least, self.graph.into
@@ -78,8 +80,8 @@ class Router:
         return found
 
     def search(self, origin: int, target: int, clock: float) -> tuple[Path, float]:
-        """The path that is shortest from a clock on, and its seconds to the end of the target;
-        no path where there is none."""
+        """(the path that is quickest from a clock on, its seconds to the end of the target); an empty path and FAR
+        where there is none. What is shut is waited for outside."""
         bounds, inverse, last, shut = self.bounds_to(target), self.table.inverse, self.table.last, self.shut
         best, before = {origin: clock}, dict[int, int]()
         # Of equal ones the farthest comes first.
@@ -110,14 +112,14 @@ class Router:
 
     @staticmethod
     def traced(before: dict[int, int], origin: int, target: int) -> Path:
-        """The path that a search found."""
+        """The path that a search found; before: for each edge the one from which it was reached."""
         path = [target]
         while path[-1] != origin:
             path.append(before[path[-1]])
         return tuple(reversed(path))
 
     def clocks(self, path: Path, clock: float) -> list[float]:
-        """When each edge of a path is reached, by one that begins at a clock, and when its end is."""
+        """The clocks at which one who begins a path at a clock reaches each of its edges, and at last the end of it."""
         found, movement_of = [clock], self.graph.movement_of
         for way in pairwise((*path, END)):
             reached = found[-1] + self.table.at(movement_of[way], found[-1])
@@ -125,16 +127,17 @@ class Router:
         return found
 
     def opened(self, what: int | Way, clock: float) -> float:
-        """When one may enter an edge, or take a movement, that is reached at a clock; at once where it is open."""
+        """The clock at which one may enter an edge, or take a movement, that is reached at a clock: the same clock
+        where it is open."""
         return next((end for begin, end in self.shut.get(what, ()) if begin <= clock < end), clock)
 
     def entered(self, way: Way, clock: float) -> float:
-        """When one comes to the second of two edges, where it would be reached at a clock."""
+        """The clock at which one comes to the second of two edges, who without works would reach it at a clock."""
         return max(self.opened(way[1], clock), self.opened(way, clock))
 
     def met(self, path: Path, clock: float) -> int | None:
-        """The place of the first edge of a path, from a clock on, that is reached while it is shut, or by a movement
-        while this is; none where none is."""
+        """The place in a path, begun at a clock, of the first edge that is reached while it, or the movement to it, is
+        shut; None where none is."""
         if self.shut.keys().isdisjoint((*path, *pairwise(path))):
             return None
         if self.opened(path[0], clock) != clock:
@@ -151,18 +154,18 @@ class Router:
         return self.clocks(wish.path, wish.clock)[-1] - wish.clock if wish.path else FAR
 
     def found(self, wish: Wish) -> Found:
-        """The best path of a trip, and the seconds of its own."""
+        """The best path of a trip, with its seconds and those of the trip's own path."""
         path, least = self.search(wish.origin, wish.target, wish.clock)
         return Found(wish.trip, path, least, self.own(wish))
 
 
 def in_order(wishes: Sequence[Wish]) -> list[Wish]:
-    """Wishes by target, so that each is searched backwards once."""
+    """Wishes sorted by target, so that bounds are searched once for each."""
     return sorted(wishes, key=lambda wish: (wish.target, wish.trip))
 
 
 def parts_of(wishes: Sequence[Wish], count: int) -> list[list[Wish]]:
-    """The wishes in so many parts at most, by target, so that few targets are searched backwards twice."""
+    """The wishes in count parts at most, sorted by target, so that few targets lie in two parts."""
     order = in_order(wishes)
     size = max(1, -(-len(order) // count))
     return [order[at : at + size] for at in range(0, len(order), size)]

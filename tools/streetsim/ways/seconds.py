@@ -13,8 +13,8 @@ LEAST_CAPACITY = 100.0  # vehicles an hour that any movement lets pass
 
 
 def free_seconds(graph: Graph, mapping: Map, signals: Iterable[dict], dawdle: float) -> array:
-    """For each movement the seconds of its edge, and of crossing with the mean wait at its signal. signals: commands;
-    dawdle: a chance from 0 to 1. Of parallel links the last counts."""
+    """For each movement the seconds of its edge without traffic, and of the crossing with the mean wait at its signal.
+    signals: signal commands; dawdle: the chance, 0 to 1, to go on by a cell less. Of parallel links the last counts."""
     driving, waits = FreeFlow(mapping, dawdle), mean_waits(graph, mapping, signals)
     edge_of = {graph.number[link.edge]: at for at, link in enumerate(mapping.links)}
     seconds = array("d")
@@ -26,8 +26,8 @@ def free_seconds(graph: Graph, mapping: Map, signals: Iterable[dict], dawdle: fl
 
 
 def mean_waits(graph: Graph, mapping: Map, signals: Iterable[dict]) -> dict[tuple[int, int], float]:
-    """The mean seconds, by edge and next edge, that signals hold a vehicle which comes at any time: the least of the
-    lanes of a movement; an hour where it is never green."""
+    """The mean seconds, by (edge, next edge), for which signals hold a vehicle that comes at any time; of several lanes
+    the least, and NEVER where the movement is never green."""
     signals = list(signals)
     lit = {command["node"] for command in signals}
     at_signals = (turn for turn in mapping.turns if mapping.links[turn.link].end in lit)
@@ -41,8 +41,8 @@ def mean_waits(graph: Graph, mapping: Map, signals: Iterable[dict]) -> dict[tupl
 
 
 def greens(graph: Graph, mapping: Map, command: dict) -> Iterator[tuple[tuple[int, int], int]]:
-    """For each link and next link that a signal ever lets go its movement's edges,
-    and its green seconds as bits of a number."""
+    """((edge, next edge), green seconds of the cycle as bits) for each link and next link that a signal command ever
+    lets go."""
     shown: dict[tuple[int, int], int] = defaultdict(int)
     clock = 0
     for duration, turns in command["phases"]:
@@ -59,7 +59,8 @@ def edges_of(graph: Graph, mapping: Map, link: int, following: int) -> tuple[int
 
 
 def reds(green: int, cycle: int) -> list[int]:
-    """The lengths of the reds round a cycle, in seconds; green: bits, second 0 the lowest."""
+    """The lengths, in seconds, of the unbroken reds round a cycle; green: the green seconds as bits, second 0 the
+    lowest."""
     runs = [len(red) for red in "".join("1" if green >> at & 1 else "0" for at in range(cycle)).split("1")]
     if len(runs) > 1:
         runs[0] += runs.pop()
@@ -67,7 +68,8 @@ def reds(green: int, cycle: int) -> list[int]:
 
 
 def capacities(graph: Graph, mapping: Map, signals: Iterable[dict]) -> list[float]:
-    """Vehicles an hour that each movement lets pass: of each lane the saturation flow, times its share of green."""
+    """Vehicles an hour that each movement lets pass: SATURATION for each lane, times its share of green; LEAST_CAPACITY
+    at least."""
     found: dict[tuple[int, int], float] = defaultdict(float)
     for command in signals:
         cycle = sum(duration for duration, _ in command["phases"])

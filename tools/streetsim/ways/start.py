@@ -1,4 +1,5 @@
-"""First ways without a simulation: shortest paths by free flow, waits at signals, and delays by the volumes so far."""
+"""First ways without a simulation: shortest paths by seconds without traffic, waits at signals, and delays by the
+volumes so far."""
 import random
 from collections import defaultdict
 from collections.abc import Callable, Iterable, Sequence
@@ -22,8 +23,9 @@ Searching = Callable[[Sequence[Wish], Costs], Iterable[Found]]
 def first_ways(
     graph: Graph, trips: Sequence[Trip], free: Sequence[float], capacity: Sequence[float], seed: int, search: Searching
 ) -> list[Trip]:
-    """Gives each trip that has no way its first one; gives those for which there is none. free: seconds, capacity:
-    vehicles an hour, of each movement; trips: by departure."""
+    """Gives each trip that has no way its first one; gives the trips for which there is none. trips: in order of
+    departure; free: seconds, and capacity: vehicles an hour, of each movement; seed: of the order in which trips
+    choose; search: finds paths for wishes."""
     wanting = [at for at, trip in enumerate(trips) if not trip.path]
     random.Random(f"start {seed}").shuffle(wanting)
     hours = max(LEAST_HOURS, (trips[-1].depart - trips[0].depart) / 3600)
@@ -46,8 +48,8 @@ def first_ways(
 
 
 def volumes(graph: Graph, trips: Iterable[Trip]) -> list[int]:
-    """How many trips have each movement on their ways. What is no movement of the graph (a change between lanes that an
-    import adds) is left out."""
+    """How many trips have each movement on their ways. Pairs of edges that are no movement of the graph (changes
+    between lanes that an import adds) are passed over."""
     found = [0] * len(graph.movements)
     for way in (way for trip in trips for way in pairwise(trip.path)):
         if way in graph.movement_of:
@@ -61,8 +63,8 @@ def no_way(graph: Graph, trip: Trip) -> Fault:
 
 
 def delayed(graph: Graph, free: Sequence[float], loads: Sequence[float]) -> list[float]:
-    """Seconds of movements under loads (volume over capacity): each has its own delay, or the mean of those of its edge
-    that are used where that is more."""
+    """The seconds of each movement under a load (volume by capacity): those without traffic and its delay, or the mean
+    delay of the used movements of its edge where that is more."""
     delays = [min(MOST_DELAY, STEEPNESS * seconds * load**POWER) for seconds, load in zip(free, loads, strict=True)]
     of_edge = defaultdict(list)
     for (edge, _), delay, load in zip(graph.movements, delays, loads, strict=True):

@@ -1,4 +1,5 @@
-"""Trips of SUMO's files: where each begins and ends, when, and the way that it has; and routes written back."""
+"""Trips of SUMO's files: where each begins and ends, when, and the way that it has; and files of routes written of
+them."""
 from collections.abc import Iterable, Sequence
 from dataclasses import dataclass
 from itertools import pairwise
@@ -28,8 +29,8 @@ BY_STOPS = (
 
 @dataclass(slots=True)
 class Trip:
-    """A trip between two edges by number. path: empty where it has none yet;
-    entry: when it came on the road in the last run."""
+    """A trip between two edges, by their numbers. path: empty where it has no way yet; entry: the clock at which it
+    came on the road in the last run."""
 
     name: str
     depart: float  # seconds
@@ -45,8 +46,8 @@ class Trip:
 
 
 class TripDemand(Demand):
-    """The vehicles of files of trips, flows and routes. One without a route has the edges where it
-    begins and ends alone."""
+    """The vehicles of files of trips, flows and routes. Of one without a route, its edges are just the two where it
+    begins and ends."""
 
     def __init__(self, net: SumoNet, types: Types, seed: int, report: Report) -> None:
         super().__init__(net, types, seed, report)
@@ -54,7 +55,8 @@ class TripDemand(Demand):
         self.told_types: list[str] = []  # vehicle types as they stand in the files
 
     def read(self, path: FilePath) -> None:
-        """Adds what a file of trips, flows or routes has; Fault where persons drive in it."""
+        """Adds what a file of trips, flows or routes has; Fault where persons drive in it. Persons who do not drive,
+        and containers, are reported as skipped."""
         readers = {
             "route": self.read_route,
             "vehicle": self.read_vehicle,
@@ -79,8 +81,8 @@ class TripDemand(Demand):
                 self.report.ignored[f"<{element.tag}> of route files"] += 1
 
     def add(self, path: FilePath, element: ElementTree.Element, departures: Sequence[tuple[str, float]]) -> None:
-        """Adds vehicles of an element, (name, departure), with a route or with the edges where they begin and end;
-        Fault where there are more than enter in a run."""
+        """Adds the vehicles of an element, one for each (name, departure in seconds), with its route or with the edges
+        where it begins and ends. Fault where there are more vehicles than may enter a run."""
         count = len(self.vehicles) + len(departures)
         if count > limits.VEHICLES:
             raise Fault(f"{path}: {count:,} trips, and at most {limits.VEHICLES:,} vehicles enter in a run")
@@ -98,7 +100,8 @@ class TripDemand(Demand):
             self.without.add(name)
 
     def ends(self, path: FilePath, element: ElementTree.Element) -> tuple[str, str]:
-        """The edges where a trip begins and ends; Fault where it has none, or they are not the network's."""
+        """The edges where a trip begins and ends; Fault where it names none, names a via, or the network does not have
+        them."""
         if element.get("via"):
             raise Fault(f"{told(path, element)}: via is not routed here; compute this route with duarouter")
         ends = [element.get("from", ""), element.get("to", "")]
@@ -116,7 +119,8 @@ class TripDemand(Demand):
         return ends[0], ends[1]
 
     def by_stops(self, path: FilePath, element: ElementTree.Element, ends: Sequence[str]) -> tuple[str, str]:
-        """The edges of a trip from stop to stop: those of its first and its last stop, where from or to lack."""
+        """The edges where a trip from stop to stop begins and ends: those of its first and last stop, in place of an
+        empty text in ends. Fault where these are one edge, or not kept."""
         edges = [edge_of(stop, self.net) for stop in stops_in(path, element, self.net)]
         found = ends[0] or edges[0], ends[1] or edges[-1]
         if found[0] == found[1] or not all(name in self.net.edges for name in found):
@@ -126,7 +130,7 @@ class TripDemand(Demand):
 
 @dataclass(slots=True)
 class Trips:
-    """All trips by departure, and the vehicle types of their files."""
+    """All trips in order of departure, and the vehicle types of their files as XML texts."""
 
     all: list[Trip]
     types: list[str]
@@ -135,8 +139,8 @@ class Trips:
 def read_trips(
     paths: Iterable[str], net: SumoNet, graph: Graph, types: Types, options: Options, report: Report
 ) -> Trips:
-    """The trips of files, by departure. Those that can not drive are counted in the report, by reason; Fault where none
-    is left."""
+    """The trips of files, in order of departure. Those that cannot drive are left out and reported by reason; Fault
+    where none is left."""
     demand = TripDemand(net, types, options.seed, report)
     for path in paths:
         demand.read(path)
@@ -157,8 +161,8 @@ def read_trips(
 
 
 def connected(trips: Sequence[Trip], net: SumoNet, graph: Graph, ignore: bool, report: Report) -> list[Trip]:
-    """The trips but for those whose routes have two edges without a connection, which are counted in the report.
-    They are refused where the network has none for any class, unless these are to be left out (ignore)."""
+    """The trips whose routes have a connection between all their edges. The others are left out and reported where the
+    connection is closed to the classes, or with ignore; else they are a Fault. Fault too where none is left."""
     found = []
     for trip in trips:
         ways = [way for way in pairwise(trip.path) if way not in graph.movement_of]
@@ -182,7 +186,7 @@ def connected(trips: Sequence[Trip], net: SumoNet, graph: Graph, ignore: bool, r
 
 
 def reason_against(vehicle: Vehicle, net: SumoNet, begin: int) -> str | None:
-    """Why a vehicle can not drive; none where it can."""
+    """Why a vehicle cannot drive; None where it can. begin: the first clock of the run."""
     if any(edge in net.dropped for edge in vehicle.edges):
         return "an edge of the trip has no lane for the classes"
     if vehicle.depart < begin:
@@ -191,12 +195,12 @@ def reason_against(vehicle: Vehicle, net: SumoNet, begin: int) -> str | None:
 
 
 def vehicles_of(trips: Iterable[Trip], graph: Graph) -> list[Vehicle]:
-    """The trips as vehicles of an import."""
+    """The trips, with their present ways, as vehicles of an import."""
     return [Vehicle(trip.name, trip.depart, graph.names(trip.path), trip.type) for trip in trips]
 
 
 def write_routes(path: str, trips: Trips, graph: Graph) -> None:
-    """A file of routes, as SUMO and streetsim-import take it."""
+    """Writes a file of routes, with the trips' types, as SUMO and streetsim-import take it."""
     with whole_file(path) as file:
         file.write("<routes>\n" + "".join(f"    {one}\n" for one in trips.types))
         for trip in trips.all:
