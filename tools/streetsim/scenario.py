@@ -166,11 +166,11 @@ class Part(Calls[Scenario]):
 
 
 class Simulation(Part, SimulationCalls[Scenario]):
-    """Time, and who is left."""
+    """Calls on the run itself: its time, and how many vehicles are left."""
 
 
 class Route(Part):
-    """The ways that a script adds."""
+    """Calls on the routes that a script adds."""
     def add(self, name: str, edges: Iterable[str]) -> None:
         """Names a route along edges, for vehicle.add; ValueError where two edges have no connection. A second route of
         a name replaces the first."""
@@ -178,7 +178,7 @@ class Route(Part):
 
 
 class Vehicle(Part, VehicleCalls[Scenario]):
-    """Vehicles of the file and of the script."""
+    """Calls on vehicles of the file and of the script. KeyError for a name that neither has."""
     def add(self, name: str, route: str, depart: float | None = None, size: int = 1) -> None:
         """Adds a vehicle of size cells (1 to 4) on a route that route.add named; it departs at depart seconds, rounded
         up (None: now). ValueError where its name is taken."""
@@ -239,7 +239,7 @@ class Stretch(Part, StretchCalls[Scenario]):
 
 
 class Lane(LaneCalls[Scenario], Stretch):
-    """Lanes, which can be closed."""
+    """Calls on lanes, which can be closed."""
     def close(self, lane: str) -> None:
         """Closes the whole lane."""
         self.scenario.close(lane)
@@ -253,7 +253,7 @@ class Edge(Stretch):
 
 
 class InductionLoop(Part):
-    """Detectors that a script places."""
+    """Calls on detectors that a script places. KeyError for an unknown name."""
     def add(self, name: str, lane: str, place: float, period: int) -> None:
         """Places a detector at place metres of a lane, with rows of period seconds."""
         link, index = self.scenario.lane_of[lane]
@@ -287,7 +287,7 @@ class InductionLoop(Part):
 
 
 class TrafficLight(Part):
-    """The lights of the network."""
+    """Calls on the lights of the network."""
     def getIDList(self) -> tuple[str, ...]:
         """The names of all lights, sorted."""
         return tuple(sorted({light for light, _ in self.scenario.map.signals}))

@@ -93,12 +93,12 @@ class Fleet:
             bus.due += self.seconds(bus, 0, 0)
 
     def due(self) -> int:
-        """The next clock at which a bus is looked at; the last possible clock where there is none."""
+        """The next clock at which a bus is looked at; the last possible clock where no bus is left."""
         return min((bus.due for bus in self.buses.values()), default=limits.CLOCK)
 
     @property
     def is_holding(self) -> bool:
-        """Whether a bus stands at its stop."""
+        """Whether any bus stands at its stop now."""
         return any(bus.stopping and bus.stopping.state == STANDING for bus in self.buses.values())
 
     def look(self, clock: int, ask: Ask, lanes: Look) -> Iterator[Command]:

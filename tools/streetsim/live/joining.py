@@ -13,7 +13,7 @@ from streetsim.works.sites import Asking, with_works
 
 @dataclass(slots=True)
 class Joining:
-    """A run, and with what its page is made."""
+    """A run as a page shows it, and what else its page is made of."""
 
     run: Run
     mapping: Map

@@ -66,7 +66,7 @@ def barred_ways(works: Iterable[Works], graph: Graph, mapping: Map) -> dict[tupl
 
 
 def common(one: Iterable[Times], other: Collection[Times]) -> list[Times]:
-    """The (first, last) seconds that are in both lists; a list of none where they share nothing."""
+    """The (first, last) seconds that are in both lists; an empty list where they share nothing."""
     both = [(max(first, begin), min(last, end)) for first, last in one for begin, end in other]
     return [(first, last) for first, last in both if first < last]
 

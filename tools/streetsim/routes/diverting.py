@@ -87,8 +87,9 @@ def placed(path: str, share: float | None, many: bool) -> str:
 
 
 def give_ways(trips: Sequence[Trip], before: Trips, graph: Graph, where: str) -> None:
-    """Gives each trip the path that the trip of its name has in before, read from the file where. Fault where it has
-    none there, one with another first or last edge, or one with two edges between which there is no connection."""
+    """Gives each trip the path of the trip of the same name in before, which was read from the file where. Fault where
+    before has no path of this name, the path begins or ends on another edge than the trip, or two of its edges have no
+    connection."""
     ways = {trip.name: trip for trip in before.all}
     for trip in trips:
         found = ways.get(trip.name)

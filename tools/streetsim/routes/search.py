@@ -259,8 +259,9 @@ def gap_of(found: Sequence[Found]) -> float:
 
 
 def changes(found: Sequence[Found], share: float) -> list[Found]:
-    """The trips that change: of those who gain more than LEAST_GAIN seconds the ones with the greatest relative loss,
-    at most a share (0 to 1) of all found, but one at least; none where nobody gains. In order of trips."""
+    """The trips that change, in order of trips: of those who gain more than LEAST_GAIN seconds the ones with the
+    greatest relative loss, at most a share (0 to 1) of all found, but at least one. Empty where nobody gains so
+    much."""
     worth = sorted(
         (one for one in found if gain(one) > LEAST_GAIN), key=lambda one: (-gain(one) / max(1.0, one.least), one.trip)
     )

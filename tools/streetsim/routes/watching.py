@@ -42,7 +42,7 @@ class Ground:
     driven: bool = True
 
     def lights(self, run: Run, mapping: Map) -> Lights:
-        """The lights of a run that detectors drive; none where they are not to."""
+        """The lights of a run that detectors drive; LISTED, without any, where detectors are to drive no light."""
         return driven_lights(run, mapping) if self.driven and mapping.actuated else LISTED
 
     @property

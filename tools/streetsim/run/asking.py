@@ -21,7 +21,7 @@ SELDOM = (20, 30, 60, 120, 300, 600, 900, 1800, 3600)  # seconds between polls t
 
 @dataclass(slots=True)
 class Asking:
-    """What a run asks and when."""
+    """What a run asks of the program, and when: polls of lanes, and detectors at the ends of lanes."""
 
     every: int  # seconds between polls of the lanes; 0: none
     measured: list[Place]  # (link, lane) with a detector, at which speeds and densities are sampled

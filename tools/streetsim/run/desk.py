@@ -94,7 +94,7 @@ class Desk:
         return False
 
     def vehicles(self, _owners: Iterable[int]) -> list[Vehicle]:
-        """The replies on vehicles, by their numbers in the file; none here, where buses are not looked at."""
+        """The replies on vehicles, by their numbers in the file; always empty here, where buses are not looked at."""
         return []
 
     def advance(self, clock: int, target: int) -> int:

@@ -9,7 +9,7 @@ from streetsim.model.runs import Line
 
 @dataclass(slots=True)
 class Sight:
-    """Where a vehicle was seen last."""
+    """Where a vehicle was seen last: the lane and cell of the link at a place of its plan."""
 
     place: int  # in its plan
     clock: int

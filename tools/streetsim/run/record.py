@@ -205,7 +205,7 @@ class Recorder(Desk):
         self.records.rescues[owner] += 1
 
     def departure_lane(self, plan: Sequence[int]) -> int:
-        """A lane of a plan's first link that leads to its second; 0 where there is none."""
+        """The first lane of a plan's first link that leads to its second link; 0 where no lane does."""
         return next(
             (turn.lane for turn in self.mapping.turns if len(plan) > 1 and (turn.link, turn.next) == plan[:2]), 0
         )

@@ -77,7 +77,7 @@ class Round(Recorder):
         return self.entered == len(self.run.enters) and last is not None and last.admitted == last.arrived + last.taken
 
     def measure(self, clock: int, lanes: Mapping[Place, Lane], sampled: bool, ended: bool) -> None:
-        """Nothing is measured."""
+        """Measures nothing: a round has no detectors, and makes no tables."""
 
     def note_lanes(self, clock: int, lanes: Mapping[Place, Lane]) -> None:
         """Notes where a poll sees vehicles: at a cell, or past the stop line, in the buffer."""
@@ -102,7 +102,7 @@ def gaps_of(
     run: Run, mapping: Map, settings: Settings, rounds: int, start: Start, tell: Tell
 ) -> tuple[list[tuple[int, Line]], Yielding]:
     """The signal lines, (clock, line), by which the vehicles of a run give way without a light, and how many they are;
-    none where rounds is 0 or the map has nobody who gives way. start, tell: as of giving_way."""
+    an empty list where rounds is 0 or nobody in the map gives way. start, tell: as of giving_way."""
     if not rounds or not mapping.yields:
         return [], Yielding()
     places = places_of(mapping)

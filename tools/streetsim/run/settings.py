@@ -10,7 +10,7 @@ class Settings:
     """What a run is asked for; times are seconds."""
 
     until: int  # the last clock
-    every: int | None = None  # seconds between polls of the lanes; none: 10; 0: never
+    every: int | None = None  # seconds between polls of the lanes; None: 10; 0: never
     period: int = 900  # seconds of a count
     rescue: int = 300  # after so many steps of standing at a stop line; 0: never
     edges: tuple[str, ...] = ()  # those to poll; all where it is empty

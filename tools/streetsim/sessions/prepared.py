@@ -63,7 +63,7 @@ class Outcome:
     ended: str = ""  # why a run without a last second ended
     junctions: int = 0  # without a light, at which vehicles give way
     lines: int = 0  # signals by which they do
-    gone: int | None = None  # the clock at which all had arrived; none where some have not
+    gone: int | None = None  # the clock at which all had arrived; None where some have not
     at_works: tuple[str, ...] = ()  # what speaks against the run, by what was seen before its works
 
 

@@ -76,8 +76,8 @@ def outcomes(
 def searched_bounds(
     asked: Asked, workers: Machines, ground: Ground, tried: Sequence[int]
 ) -> tuple[Search, bool]:
-    """Searches for bounds; gives the search when it has ended, and whether the user ended it. tried: seeds whose runs
-    of the given bounds say how many of them the search uses, where none are asked for."""
+    """Searches for bounds; gives the search when it has ended, and whether the user ended it. tried: seeds for first
+    runs of the given bounds, which say how many of them the search uses; used only where asked.seeds is empty."""
     cars, meanwhile = len(ground.town.session.departs), Meanwhile("simulations", asked.budget)
     seeds = asked.seeds
     if not seeds:
@@ -149,8 +149,9 @@ class Found:
 
 
 def write_found_bounds(output: str, out: str, ground: Ground, found: Found) -> int:
-    """Writes bounds (to the file output) and tables (into the folder out), all or none, and prints what was found.
-    Gives the exit status: 0 where the bounds are shown to be better wherever they were run, else 1."""
+    """Writes bounds (to the file output) and tables (into the folder out), or nothing where one cannot be written, and
+    prints what was found. Gives the exit status: 0 where the bounds are shown to be better wherever they were run, else
+    1."""
     best, rows, doubts = found.search.best[1], found.rows(len(ground.town.session.departs)), [*found.doubts(ground)]
     with whole_folder(out, LAST, ()) as folder:
         told = [(name, *(f"{value:.3f}" for value in values), runs) for name, *values, runs in rows]

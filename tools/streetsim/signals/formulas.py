@@ -54,9 +54,9 @@ def streets_of(run: Run, mapping: Map, lights: Mapping[str, Light]) -> Streets:
 
 
 def ways_between(plans: Iterable[Sequence[int]], light_of: Sequence[str | None]) -> Ways:
-    """How many vehicles go from one light to another with none between, by their way: {(light, other): {links:
-    vehicles}}. A way is from the link that ends at the first light to the one after the other. light_of: by link the
-    light at its end, None: without one."""
+    """How many vehicles go from one light to another without a third between, by their way: {(light, other): {links:
+    vehicles}}. A way is from the link that ends at the first light to the link after the other. light_of: by link the
+    light at its end; None: no light there."""
     ways: Ways = defaultdict(Counter)
     for plan in plans:
         met = [(at, light) for at in range(len(plan) - 1) if (light := light_of[plan[at]])]
@@ -159,7 +159,7 @@ def webster_cycle(lost: float, flow_ratio: float) -> float | None:
 
 
 def critical_cycle(lights: Mapping[str, Light], plan: Plan, streets: Streets) -> int | None:
-    """The longest of the lights' cycles after Webster, in seconds; None where a light is at capacity, or none has
+    """The longest of the lights' cycles after Webster, in seconds; None where a light is at capacity, or no light has
     phases that may be stretched."""
     cycles = [
         webster_cycle(light.lost(plan[name]), sum(streets.loads[name][at] for at in light.free) / SATURATION)

@@ -34,7 +34,7 @@ def compared(
     town: Town, before: Sequence[Outcome], after: Sequence[Outcome], sumo: Verified | None = None
 ) -> list[Compared]:
     """The rows of before-after.csv, of runs of the plan given and the plan found with equal seeds: means over all
-    vehicles; one that has not arrived counts until the end. The last row is of SUMO's mean trips; none without sumo."""
+    vehicles; one that has not arrived counts until the end. With sumo a last row has SUMO's mean trips."""
     cars, free = len(town.session.departs), free_trip(town)
     figures: dict[str, Callable[[Outcome], float]] = {
         "mean_trip_s": lambda one: one.seconds / cars,
@@ -71,8 +71,8 @@ class Target:
 
 
 def write_found(target: Target, town: Town, search: Search, rows: Sequence[Compared], doubts: Sequence[str]) -> None:
-    """Writes the plan, the tables and the pictures, all or none. rows: of before-after.csv; doubts: why the result is
-    not to be trusted, empty where it is."""
+    """Writes the plan, the tables and the pictures, or nothing where one cannot be written. rows: of before-after.csv;
+    doubts: why the result is not to be trusted, empty where it is."""
     plan = search.best[1]
     with whole_folder(target.folder, LAST, ("before.png", "after.png")) as folder:
         told = [(name, *(f"{value:.3f}" for value in values), runs) for name, *values, runs in rows]

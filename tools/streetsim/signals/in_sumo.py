@@ -85,8 +85,8 @@ def environment() -> dict[str, str]:
 
 
 def first_error(text: str) -> str:
-    """The first line of SUMO's standard error that begins with Error, else the first that is not blank; other words
-    where there is none."""
+    """The first line of SUMO's standard error that begins with Error, else the first that is not blank; where all are
+    blank, words that say so."""
     lines = [line for line in text.splitlines() if line.strip()]
     return next(
         (line for line in lines if line.startswith("Error")), lines[0] if lines else "nothing on standard error"

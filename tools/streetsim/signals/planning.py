@@ -11,7 +11,8 @@ DRAWN = 500  # seconds of the pictures
 
 
 def tried_seeds(check: range) -> list[int]:
-    """The seeds with which the given plan is run to tell how many a search needs: none of the report's."""
+    """The TRIED seeds with which the given plan is run to tell how many seeds a search needs; seeds of the report
+    (check) are passed over."""
     return [seed for seed in range(1, TRIED + len(check) + 1) if seed not in check][:TRIED]
 
 

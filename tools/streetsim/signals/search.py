@@ -45,7 +45,7 @@ class Search:
     told: Callable[[Search], bool] = lambda search: False
     seen: dict[Any, float] = field(default_factory=dict)
     trials: list[Trial] = field(default_factory=list)
-    best: tuple[float, Any] = (float("inf"), None)  # value and plan, none before the first trial
+    best: tuple[float, Any] = (float("inf"), None)  # value and plan; None before the first trial
     spent: bool = False  # the budget ended it
     # What names a plan: equal ones have equal keys.
     key_of: Callable[[Any], Any] = lambda plan: key_of(plan)

@@ -153,7 +153,7 @@ def warn_of_others(reading: Reading, town: Town) -> None:
 
 
 class Runner:
-    """Runs plans of a town on some workers."""
+    """Runs plans of a town with seeds on some workers, and gives what the runs gave."""
 
     def __init__(self, workers: Machines, town: Town) -> None:
         self.workers, self.town, self.cars = workers, town, len(town.session.departs)
@@ -182,7 +182,7 @@ class Runner:
         place: int = EXACT,
     ) -> Iterator[Any]:
         """What a function of a worker gives for each plan with each seed, in this order. A seed is run by the session
-        at its place in places, and where it has none there at place."""
+        at places[seed], or at place where places does not have the seed."""
         made = ((self.town.signals(plan), seed) for plan in plans for seed in seeds)
         tasks = [
             (f"the run with seed {seed}", function, places.get(seed, place), signals, seed) for signals, seed in made

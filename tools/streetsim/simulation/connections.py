@@ -14,19 +14,19 @@ class Connections:
 
     @cached_property
     def by_link(self) -> dict[int, list[MapTurn]]:
-        """The turns from each link."""
+        """The turns from each link, by the link's number; links without a turn are left out."""
         found: defaultdict[int, list[MapTurn]] = defaultdict(list)
         for turn in self.map.turns:
             found[turn.link].append(turn)
         return dict(found)
 
     def to(self, link: int, following: int) -> list[MapTurn]:
-        """The turns from a link to a next one."""
+        """The turns, one for each lane that has one, from a link to a next one; empty where no lane has one."""
         return [turn for turn in self.by_link.get(link, ()) if turn.next == following]
 
     def plan(self, edges: Sequence[str]) -> tuple[int, ...]:
-        """The links along some edges, each with a turn to the next; ValueError where there are none such, no edges, or
-        an unknown edge."""
+        """Links along some edges, each with a turn to the next; ValueError where no such links exist, edges is empty,
+        or an edge is unknown."""
         if unknown := [edge for edge in edges if edge not in self.map.links_of]:
             raise ValueError(f"the map has no edge {unknown[0]!r}")
         plans: dict[int, tuple[int, ...]]
@@ -44,13 +44,13 @@ class Connections:
         return next((turn.lane for turn in self.to(*plan[:2])), 0) if len(plan) > 1 else 0
 
     def next_lane(self, link: int, lane: int | None, following: int) -> int:
-        """The lane of a next link to which a turn leads from a lane, or where none does (or lane is None) from any lane
-        of the link; 0 where none leads there."""
+        """The lane of a next link to which a turn leads: from a lane, or, where that has no such turn (or lane is
+        None), from any lane of the link; 0 where the link has no such turn."""
         found = self.to(link, following)
         return next((turn.next_lane for turn in found if turn.lane == lane), found[0].next_lane if found else 0)
 
     def turn_at_light(self, link: int, lane: int | None, following: int, lights: Collection[str]) -> MapTurn | None:
-        """The turn to a next link that one of some lights controls, from a lane, or where none leads there (or lane is
-        None) from any lane of the link. None where no such turn is."""
+        """The turn to a next link that one of some lights controls: from a lane, or, where that has no such turn (or
+        lane is None), from any lane of the link. None where the link has no such turn."""
         found = [turn for turn in self.to(link, following) if turn.light in lights]
         return next((turn for turn in found if turn.lane == lane), found[0] if found else None)

@@ -167,8 +167,8 @@ def actuated_of(name: str, driven: Controller) -> Actuated:
 
 
 def check_state(name: str, state: str, length: int) -> None:
-    """TraCIException where a state has a letter that is none of SUMO's, or not as many letters (length) as the light
-    has signals."""
+    """TraCIException where a state has a letter that SUMO does not use, or another number of letters than the light has
+    signals (length)."""
     wrong = [letter for letter in state if letter not in STATES]
     if wrong:
         raise TraCIException(f"Traffic light '{name}': {wrong[0]!r} is no state of a signal")

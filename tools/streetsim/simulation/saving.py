@@ -45,8 +45,8 @@ def save_state(session: Session, path: str) -> None:
 
 
 def load_state(session: Session, path: str) -> None:
-    """Brings a session to a state that was saved of the same files; TraCIException where the file is none, is of other
-    files or words, or output files are being written."""
+    """Brings a session to a state that was saved of the same files; TraCIException where the file has no state, the
+    state is of other files or words, or output files are being written."""
     try:
         with open_text(path) as file:
             state = json.load(file)

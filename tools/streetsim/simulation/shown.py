@@ -44,7 +44,7 @@ class Shown:
         return [node for name, node in self.map.signals if name == light]
 
     def turns(self, node: int) -> list[MapTurn]:
-        """The turns at a node."""
+        """The turns at a node: of all links that end there."""
         if node not in self.known:
             self.known[node] = [turn for turn in self.map.turns if self.map.links[turn.link].end == node]
         return self.known[node]

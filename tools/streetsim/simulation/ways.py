@@ -15,8 +15,8 @@ SLOWEST = 0.1  # metres a second that an edge counts with where all stand, as in
 
 
 class Ways:
-    """Shortest ways over the links of a simulation's map, by the turns that its run has; it adds none. inside: metres
-    inside junctions; view: whose speeds give the seconds."""
+    """Shortest ways over the links of a simulation's map, by the turns that its run has; no turn is added. inside:
+    metres inside junctions; view: whose speeds give the seconds."""
 
     def __init__(self, simulation: Simulation, inside: Inside, view: View) -> None:
         self.simulation, self.map, self.inside, self.view = simulation, simulation.map, inside, view

@@ -51,7 +51,7 @@ class Variant:
 class Study:
     """A study: its variants, and the seeds with which each is run."""
 
-    until: int | None  # none: each run goes on until all have arrived or nobody moves
+    until: int | None  # None: each run goes on until all have arrived or nobody moves
     seeds: range
     base: str  # the variant to which others are compared
     variants: dict[str, Variant]

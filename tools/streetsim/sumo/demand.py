@@ -41,7 +41,7 @@ class Unrouted(Fault):
 
 @dataclass(slots=True)
 class Vehicle:
-    """A vehicle that files tell."""
+    """A vehicle as files tell it, with its route."""
 
     name: str
     depart: float  # seconds
@@ -131,8 +131,8 @@ class Demand:
         return self.choices.choices(*self.mixes[name])[0] if name in self.mixes else name
 
     def edges(self, path: FilePath, owner: Element, route: Element) -> tuple[str, ...]:
-        """The edges of a route, as many times over as its repeat says. Fault where it has none, or the network does not
-        know one of them."""
+        """The edges of a route, as many times over as its repeat says. Fault where it has no edges, or the network does
+        not know one of them."""
         names = tuple(attribute(path, route, "edges").split())
         unknown = [name for name in names if name not in self.net.edges and name not in self.net.dropped]
         if unknown or not names:
@@ -155,7 +155,7 @@ class Demand:
             route = f"!{element.get('id')}"
             self.mixes[route] = self.mix(path, element, mix, route)
         edges = self.edges(path, element, inner) if inner is not None else None
-        kind: Any = optional(path, element, "type", filled, None)  # none until `finish` where the file has none
+        kind: Any = optional(path, element, "type", filled, None)  # None until `finish` where the file tells no type
         for name, depart in departs:
             vehicle = Vehicle(name, depart, edges or (), kind, route, *self.riding(path, element, depart))
             self.vehicles.append(vehicle)
@@ -163,8 +163,9 @@ class Demand:
                 self.later.append((vehicle, told(path, element)))
 
     def riding(self, path: FilePath, element: Element, depart: float) -> tuple[tuple[Stop, ...], str]:
-        """The stops of a vehicle that departs at a second, and its line of public transport (empty: none). Stops of a
-        route that it names are not among them; those of a flow are given for a departure at its begin, and moved."""
+        """(the stops of a vehicle that departs at a second, its line of public transport or an empty text). Stops of a
+        route that it names are left out here; those of a flow are written for a departure at the flow's begin, and are
+        moved."""
         begin = optional(path, element, "begin", at_least_zero(seconds), 0.0) if element.tag == "flow" else depart
         inner = element.find("route")
         own = stops_in(path, inner, self.net) if inner is not None and element.get("route") is None else ()
@@ -172,8 +173,8 @@ class Demand:
         return tuple(one.later(depart - begin) for one in stops), element.get("line", "")
 
     def inner_route(self, path: FilePath, element: Element) -> tuple[Element | None, Element | None]:
-        """(route, distribution) that stand in an element, each None where there is none. Both are None where its
-        attribute names a route, which counts; Fault where it has two."""
+        """(route, distribution) that stand in an element, each None where it has no such element inside. Both are None
+        where its attribute route names a route, which then counts. Fault where it has two routes inside."""
         routes = [inner for inner in element if inner.tag in ("route", "routeDistribution")]
         if element.get("route") is not None:
             self.report.ignored[f"routes in {element.tag}s that name another one"] += len(routes)

@@ -23,7 +23,7 @@ class SumoDetector:
     kind: str
     lane: str
     begin: float  # metres; below 0: from the lane's end
-    end: float | None  # of an e2; none: to the lane's end
+    end: float | None  # of an e2; None: to the lane's end
     period: int
     friendly: bool  # a place beyond the lane is moved onto it
     goes_on: bool  # beyond the lane it goes on, in SUMO, on the next one

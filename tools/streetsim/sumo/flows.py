@@ -63,7 +63,7 @@ def moments(
 
 
 def rate_of(text: str) -> float:
-    """Vehicles a second of the text exp(RATE) without its begin "exp("; ValueError where it is none."""
+    """Vehicles a second, of the text exp(RATE); ValueError where it does not end with ")" or RATE is not above 0."""
     if not text.endswith(")"):
         raise ValueError(text)
     return above_zero(number)(text.removeprefix("exp(").removesuffix(")"))

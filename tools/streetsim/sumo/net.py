@@ -50,7 +50,7 @@ class Connection:
     source_lane: int
     target_lane: int
     light: str | None
-    index: int  # in the light's state
+    index: int  # of its letter in the light's state
     state: str  # M: major, m: minor, ..
     request: int | None = None  # its place among the requests of its junction
     speed: float | None = None  # metres a second inside the junction
@@ -64,7 +64,7 @@ class Program:
     offset: float
     phases: list[tuple[float, str]]  # seconds and state
     kind: str  # static, actuated, ..
-    # For each phase its minDur and maxDur, or none.
+    # For each phase its minDur and maxDur in seconds; None: not written.
     bounds: list[tuple[float | None, float | None]] = field(default_factory=list)
     following: list[tuple[int, ...]] = field(default_factory=list)  # the phases that each names as its next
     parameters: dict[str, str] = field(default_factory=dict)
@@ -99,7 +99,7 @@ class SumoNet:
     called: dict[str, str] = field(default_factory=dict)  # names of junctions that have one
 
     def yields_of(self, connection: Connection) -> set[int]:
-        """The requests of its junction that a connection gives way to; none where its own request is not known."""
+        """The requests of its junction that a connection gives way to; empty where its own request is not known."""
         at_junction = self.yields.get(self.edges[connection.source].end, {})
         return at_junction.get(connection.request, set()) if connection.request is not None else set()
 
@@ -188,7 +188,7 @@ def read_edge(path: FilePath, element: Element, net: SumoNet, classes: Collectio
 
 
 def street_of(element: Element) -> str:
-    """The name of an edge, else of its first lane that has one; empty where there is none."""
+    """The street's name that an edge tells, else that of its first lane with one; empty where neither tells one."""
     own = (one.get("name", "").strip() for one in (element, *element.iter("lane")))
     return next(filter(None, own), "")
 

@@ -273,7 +273,7 @@ class Network:
         }
 
     def over_limits(self) -> Iterator[str]:
-        """The limits of the simulator that this network passes, a text each; none where it fits."""
+        """The limits of the simulator that this network passes, a text each; nothing where it fits."""
         for what, count, most in (
             ("nodes", len(self.nodes), limits.NODES),
             ("links", len(self.links), limits.LINKS),

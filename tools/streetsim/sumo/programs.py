@@ -118,8 +118,8 @@ def lane_of(edge: str, index: int, net: SumoNet, before: dict[tuple[str, int], l
 
 
 def node_of(number: int, connections: Sequence[Connection], net: SumoNet, flows: Flows, name: str) -> Json:
-    """What says who gives way at a node: its connections that its light controls or none does, who gives way to whom,
-    and the flows. All three are empty where one of them is not known. name: of its junction."""
+    """What says who gives way at a node: the connections that its light controls or that have no light, who gives way
+    to whom, and the flows. All three lists are empty where one of them is not known. name: of the node's junction."""
     light = light_of(connections, net)
     own = [one for one in connections if one.light in (light, None)]
     known = bool(flows) and bool(net.yields.get(name)) and all(one.request is not None for one in own)

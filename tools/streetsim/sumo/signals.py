@@ -41,7 +41,7 @@ class LitNode:
     edges: Mapping[int, str]  # of the turns' links
     light: str
     program: Program
-    permissive: float | None  # the share, of each permissive green its last part; none: the usual one
+    permissive: float | None  # the share, of each permissive green its last part; None: DEFAULT_SHARE
     report: Report
     found: Mapping[int, Movement] = field(default_factory=dict)  # by request: who gives way there
 
@@ -89,7 +89,7 @@ def movements_of_junction(
 
 def light_of(turns: Iterable[Connection], net: SumoNet) -> str | None:
     """The name of the light that counts at a node, of those of its turns or connections: the first by name that has a
-    program. None where none has."""
+    program; None where no light there has one."""
     lights = {turn.light for turn in turns if turn.light}
     return min((light for light in lights if light in net.programs and net.programs[light].phases), default=None)
 

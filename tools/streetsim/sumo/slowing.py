@@ -38,7 +38,7 @@ class Slow:
 
 @dataclass(slots=True, frozen=True)
 class Part:
-    """What an edge becomes between two places."""
+    """The part of an edge between two places, as it is cut for a lower limit."""
 
     name: str
     begin: float  # metres

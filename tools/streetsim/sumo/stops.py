@@ -200,7 +200,7 @@ class Stops:
         return found
 
     def place(self, stop: Stop) -> BusStop | None:
-        """The place of a stop; None where it has none. Fault where it names a bus stop that no file has."""
+        """The place of a stop; None for a stop without one. Fault where it names a bus stop that no file has."""
         if stop.name and stop.name not in self.net.bus_stops and not stop.why:
             raise Fault(f"{stop.where}: there is no busStop {stop.name!r}")
         return self.net.bus_stops.get(stop.name) if stop.name else stop.place

@@ -87,7 +87,7 @@ def class_of(path: FilePath, element: Element) -> str:
 
 
 def weights_of(text: str) -> list[float]:
-    """Numbers with spaces between, none below 0; ValueError otherwise."""
+    """Numbers of 0 or more, of a text with spaces between; ValueError otherwise."""
     return [at_least_zero(number)(part) for part in text.split()]
 
 

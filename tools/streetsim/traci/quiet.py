@@ -11,7 +11,7 @@ SHOWN = "shows nothing here: there is no window; streetsim-live and streetsim-pl
 
 
 class Quiet:
-    """A domain whose calls do nothing."""
+    """A domain whose calls only change what a window shows: they do nothing; NotHere for any other call."""
 
     def __init__(self, name: str, calls: tuple[str, ...]) -> None:
         self.name, self.calls, self.told = name, calls, False

@@ -114,7 +114,7 @@ class Simulation(Domain, SimulationCalls[Session]):
         return 0
 
     def nobody(self) -> tuple[str, ...]:
-        """Empty, as none gives 0."""
+        """An empty tuple: none of the vehicles or persons that SUMO would name here can exist under a script."""
         return ()
 
     getStartingTeleportNumber = getEndingTeleportNumber = getCollidingVehiclesNumber = none

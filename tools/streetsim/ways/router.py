@@ -81,7 +81,7 @@ class Router:
 
     def search(self, origin: int, target: int, clock: float) -> tuple[Path, float]:
         """(the path that is quickest from a clock on, its seconds to the end of the target); an empty path and FAR
-        where there is none. What is shut is waited for outside."""
+        where there is no way. An edge or movement that would be reached while it is shut is not used."""
         bounds, inverse, last, shut = self.bounds_to(target), self.table.inverse, self.table.last, self.shut
         best, before = {origin: clock}, dict[int, int]()
         # Of equal ones the farthest comes first.
@@ -136,8 +136,8 @@ class Router:
         return max(self.opened(way[1], clock), self.opened(way, clock))
 
     def met(self, path: Path, clock: float) -> int | None:
-        """The place in a path, begun at a clock, of the first edge that is reached while it, or the movement to it, is
-        shut; None where none is."""
+        """The place in a path, begun at a clock, of the first edge that is reached while it is shut, or by a movement
+        that is shut; None where the whole path is open."""
         if self.shut.keys().isdisjoint((*path, *pairwise(path))):
             return None
         if self.opened(path[0], clock) != clock:
@@ -154,7 +154,7 @@ class Router:
         return self.clocks(wish.path, wish.clock)[-1] - wish.clock if wish.path else FAR
 
     def found(self, wish: Wish) -> Found:
-        """The best path of a trip, with its seconds and those of the trip's own path."""
+        """The best path of a trip with its seconds, and the seconds of the trip's own path."""
         path, least = self.search(wish.origin, wish.target, wish.clock)
         return Found(wish.trip, path, least, self.own(wish))
 

@@ -94,14 +94,14 @@ class TripDemand(Demand):
         ends = self.ends(path, element)
         for name in set(element.keys()) - READ - ENDS:
             self.report.ignored[f"{name} of {element.tag}s"] += 1
-        kind: Any = optional(path, element, "type", filled, None)  # none until `finish` where the file has none
+        kind: Any = optional(path, element, "type", filled, None)  # None until `finish` where the file tells no type
         for name, depart in departures:
             self.vehicles.append(Vehicle(name, depart, ends, kind, "", *self.riding(path, element, depart)))
             self.without.add(name)
 
     def ends(self, path: FilePath, element: ElementTree.Element) -> tuple[str, str]:
-        """The edges where a trip begins and ends; Fault where it names none, names a via, or the network does not have
-        them."""
+        """The edges where a trip begins and ends; Fault where it does not name them (or, without them, stops), names a
+        via, or the network does not have them."""
         if element.get("via"):
             raise Fault(f"{told(path, element)}: via is not routed here; compute this route with duarouter")
         ends = [element.get("from", ""), element.get("to", "")]
@@ -161,8 +161,8 @@ def read_trips(
 
 
 def connected(trips: Sequence[Trip], net: SumoNet, graph: Graph, ignore: bool, report: Report) -> list[Trip]:
-    """The trips whose routes have a connection between all their edges. The others are left out and reported where the
-    connection is closed to the classes, or with ignore; else they are a Fault. Fault too where none is left."""
+    """The trips whose routes have a connection between all their edges. Others are left out and reported where the
+    connection is closed to the classes, or with ignore; else they are a Fault. Fault too where no trip is left."""
     found = []
     for trip in trips:
         ways = [way for way in pairwise(trip.path) if way not in graph.movement_of]

@@ -30,7 +30,7 @@ class Works:
 
 @dataclass(slots=True)
 class Site:
-    """Works on a link of a map."""
+    """Works on a link of a map, on the cells of one of its lanes."""
 
     works: Works
     link: int

@@ -25,13 +25,13 @@ Cells = tuple[set[int], set[int]]  # by lane
 
 
 def no_cells() -> Cells:
-    """No cells on both lanes."""
+    """An empty set of cells for each of the two lanes."""
     return set(), set()
 
 
 @dataclass(slots=True, frozen=True)
 class Seen:
-    """A vehicle on a lane."""
+    """A vehicle on a lane, as a look shows it."""
 
     car: int
     cell: int  # of its front
@@ -81,7 +81,7 @@ class Place:
 
 @dataclass(slots=True)
 class Turn:
-    """Whose turn it is at one place."""
+    """Who waits to merge at one place, since when, and which cells of the other lane are held for it."""
 
     head: int | None = None  # who stands first
     since: int = 0  # clock

@@ -49,7 +49,7 @@ class Queue:
 
 @dataclass(slots=True, frozen=True)
 class Stand:
-    """Who stood longest at a look."""
+    """How long the vehicle stood, at a look, that had stood longest in its cell before the works."""
 
     clock: int
     seconds: int  # of who stands longest in its cell
@@ -63,7 +63,7 @@ class Watched:
     streets: Streets
     pace: Sequence[float]  # seconds a cell on each link, alone on the road
     coming: dict[int, Coming] = field(default_factory=dict)  # by car
-    beyond: set[int] | None = None  # cars on the link past the works' begin; none before the first look
+    beyond: set[int] | None = None  # cars on the link past the works' begin; None before the first look
     standing: dict[tuple[int, int, int], int] = field(default_factory=dict)  # car, lane, cell: since
     passed: list[Passed] = field(default_factory=list)
     queues: list[Queue] = field(default_factory=list)
