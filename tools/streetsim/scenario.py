@@ -50,6 +50,8 @@ class Scenario(Running):
         self, run: FilePath, mapping: FilePath, program: str | None = None, workers: int = 1,
         joint: Iterable[str] = (), rounds: int = ROUNDS,
     ) -> None:  # fmt: skip
+        """run, mapping: paths; program: None: the usual one; workers: threads of the program; joint: edges or lanes to
+        be closed later; rounds: runs that are made before, by which vehicles give way."""
         source, read, _ = with_works(*read_with_map(run, mapping), mapping, [], Asking(tuple(joint)))
         super().__init__(source, read, rounds, program, workers)
         for told in filter(None, (*self.driving.lights.notes(), why_unmade(len(self.map.visits)))):
@@ -157,6 +159,7 @@ class Part(Calls[Scenario]):
     """One domain of a scenario's calls, as vehicle or lane."""
 
     def __init__(self, scenario: Scenario) -> None:
+        """scenario: of which the calls are."""
         super().__init__(lambda: scenario)
         self.scenario, self.name = scenario, type(self).__name__.lower()
 

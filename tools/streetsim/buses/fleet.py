@@ -77,6 +77,7 @@ class Fleet:
     """The buses of a run, and the vehicles for which lights wait."""
 
     def __init__(self, plan: Planned, run: Run, mapping: Map) -> None:
+        """plan: the stops to make, and the lights that wait for vehicles of the run."""
         self.mapping, self.turns = mapping, {(turn.link, turn.lane, turn.next) for turn in mapping.turns}
         self.plan, self.calls = plan, Calls()
         self.done: list[Done] = []

@@ -34,6 +34,7 @@ class Refusal(Exception):
     """A request that is not served: its status, and why in a sentence."""
 
     def __init__(self, status: HTTPStatus, why: str) -> None:
+        """status: of the answer; why: a sentence for the user."""
         super().__init__(why)
         self.status, self.why = status, why
 
@@ -44,6 +45,8 @@ class Bridge(ThreadingHTTPServer):
     daemon_threads = True
 
     def __init__(self, engines: Sequence[Engine], page: bytes, port: int = 0, join: Join | None = None) -> None:
+        """engines: the traffic as it is, and as it was without changes; port: 0: any free one; join: imports the run
+        anew, None: a session that is kept."""
         super().__init__((HOST, port), Handler)
         self.engines, self.page, self.join = engines, page, join
         self.token, self.owner, self.lock = secrets.token_urlsafe(24), "", threading.Condition()

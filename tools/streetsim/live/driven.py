@@ -20,6 +20,8 @@ class DrivenEngine(Engine):
     A light whose plan the page sets is driven no more, until all is begun anew."""
 
     def __init__(self, program: str, lines: list[bytes], made: Made) -> None:
+        """lines: the run's own, each with its LF; made: gives the run that the page shows, its map and texts to
+        tell."""
         super().__init__(program, lines)
         self.made, self.driver, self.clock = made, Driver((), made()[1]), 0
         self.nodes: dict[int, str] = {}  # the lights that are driven

@@ -29,7 +29,7 @@ MOST_BYTES = 100_000_000  # of the packed data; browsers are slow with more
 
 
 def own_lines(run: Run) -> list[bytes]:
-    """The run's lines that are sent before the first step, as bytes with LF: the load, first lines, and all
+    """The run's lines that are sent before the first step, as bytes with LF: the load, the first lines, and all
     vehicles."""
     return [line.text.encode() + b"\n" for line in (run.load, *run.first, *run.enters)]
 

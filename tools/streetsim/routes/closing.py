@@ -73,7 +73,7 @@ def common(one: Iterable[Times], other: Collection[Times]) -> list[Times]:
 
 def knows(name: str, share: float, seed: int) -> bool:
     """Whether the driver of a trip knows of the works, where a share (0 to 1) of all drivers do. The same seed and name
-    give the same answer; who knows at a share knows at each greater one."""
+    give the same answer, and a driver who knows of them at a share does at each greater one."""
     return random.Random(f"knowing {seed} {name}").random() < share
 
 

@@ -106,8 +106,8 @@ def give_ways(trips: Sequence[Trip], before: Trips, graph: Graph, where: str) ->
 
 def check_works(texts: Sequence[str], signs: Sequence[str], trips: Sequence[Trip], town: Town, until: int) -> None:
     """Refuses by a Fault, before anything runs, works that end by the start or begin after until (clocks, seconds),
-    signs on unknown edges, and trips that begin on a closed edge. Who ends on a closed edge is known only after the
-    runs without works."""
+    signs on unknown edges, and trips that begin on an edge while it is closed. Which trips end on a closed edge is
+    known only after the runs without works."""
     mapping = map_without_routes(town.net, town.options)
     works = [works_of(text, mapping) for text in texts]
     if over := [one.text for one in works if one.last <= town.options.begin]:

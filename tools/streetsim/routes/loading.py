@@ -36,6 +36,7 @@ class Town:
     """A network and its vehicle types, read once, with the works that its runs have."""
 
     def __init__(self, net: SumoNet, types: Types, options: Options) -> None:
+        """options: of the import, which each run of the town is made with."""
         self.net, self.types, self.options = net, types, options
         self.graph: Graph = graph_of_net(net)
         self.minor = Minor(self.graph, net)

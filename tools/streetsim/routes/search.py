@@ -89,8 +89,8 @@ class Best:
     passed: list[Passed] = field(default_factory=list)
 
     def is_below(self, lacking: int, gap: float, trust: float = 1.0) -> bool:
-        """Whether it is better than an iteration with so many trips that did not arrive and such a gap, even with its
-        own gap taken trust times."""
+        """Whether it is better than an iteration in which lacking trips did not arrive, with the relative gap gap; its
+        own gap counts trust times."""
         return (self.lacking, trust * self.gap) < (lacking, gap)
 
 

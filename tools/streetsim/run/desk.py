@@ -28,6 +28,7 @@ class Desk:
     def __init__(
         self, sim: Client, run: Run, mapping: Map, settings: Settings, detectors: Sequence[Detector] = ()
     ) -> None:
+        """sim: the program, with nothing loaded; detectors: of the map, those that the run places."""
         self.sim, self.run, self.mapping, self.settings, self.detectors = sim, run, mapping, settings, detectors
         self.start = run.start()
         self.records = Records(clock=self.start, edgedata=Edgedata(self.start, settings.period))

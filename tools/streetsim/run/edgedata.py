@@ -19,6 +19,7 @@ class Samples:
     equal intervals, which could fall in with a signal's cycle."""
 
     def __init__(self, start: int, period: int, count: int) -> None:
+        """start: the run's first clock; period: seconds; count: samples in a period, 0: none ever."""
         self.start, self.period, self.count = start, period, count
 
     def after(self, clock: int) -> int | None:
@@ -40,6 +41,7 @@ class Edgedata:
     which those of other lanes can be added."""
 
     def __init__(self, start: int, period: int) -> None:
+        """start: the run's first clock; period: seconds."""
         self.start, self.period = start, period
         self.samples: Counter[int] = Counter()  # by period
         self.vehicles: Counter[tuple[int, int]] = Counter()  # by (period, link)

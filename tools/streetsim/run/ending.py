@@ -43,6 +43,7 @@ class Ending:
     """Looks each minute whether a run without a last second is over, and then has it end."""
 
     def __init__(self, run: Run) -> None:
+        """run: whose signal cycles say how long a standstill must last."""
         self.run = run
         self.census: tuple | None = None  # the last one that differed from the one before it, without its clock
         self.since = 0  # its clock

@@ -49,6 +49,7 @@ class Round(Recorder):
     def __init__(
         self, sim: Client, run: Run, mapping: Map, settings: Settings, places: Sequence[Place], tell: Tell
     ) -> None:
+        """places: the (link, lane) that are looked at; tell: gets the clock and the last census."""
         super().__init__(sim, run, mapping, settings, None, tell)
         self.polled = list(places)
         self.passings = Passings(mapping, run.enters, run.load.command.get("dawdle", 0))

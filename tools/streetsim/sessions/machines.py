@@ -61,6 +61,8 @@ class Machines:
     """Runs functions of (session, ..) on some workers; a session is named by its place in a list."""
 
     def __init__(self, executor: Executor, held: Sequence[Held | int]) -> None:
+        """held: by place what a worker is given for a session: the session itself, or its place where workers hold the
+        sessions."""
         self.executor, self.held = executor, held
 
     def submit(self, function: Function, place: int, *arguments: Any) -> Any:

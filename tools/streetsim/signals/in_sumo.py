@@ -94,7 +94,7 @@ def first_error(text: str) -> str:
 
 
 def teleports_of(path: str) -> int:
-    """The number of teleports in a statistic output of SUMO."""
+    """The number of vehicles that SUMO moved out of the way (teleports), of its statistic output at path."""
     return sum(attribute(path, one, "total", int) for one in elements(path, ["statistics"]) if one.tag == "teleports")
 
 

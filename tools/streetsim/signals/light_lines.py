@@ -20,6 +20,7 @@ class Driven:
     """A vehicle of a run, as the import counts flows."""
 
     def __init__(self, command: Command, links: Sequence[MapLink]) -> None:
+        """command: the vehicle's enter command; links: of the map."""
         self.edges, self.depart = [links[link].edge for link in command["plan"]], command["depart"]
 
 
@@ -39,6 +40,7 @@ class LightLines:
     anew only where its greens change."""
 
     def __init__(self, net: SumoNet, run: Run, mapping: Map) -> None:
+        """net: whose programs are replaced by those of plans, in a copy."""
         self.net, self.mapping = replace(net, programs=dict(net.programs)), mapping
         self.flows = hourly_flows([Driven(line.command, mapping.links) for line in run.enters])
         self.limits_of = {link.edge: link.limit for link in mapping.links}

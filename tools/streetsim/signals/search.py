@@ -118,8 +118,8 @@ def search_plan(
 def climb_all(
     search: Search, plan: Plan, lights: Mapping[str, Light], streets: Streets, changed: Collection[str]
 ) -> None:
-    """Climbs from a plan: each light alone, by the four steps of SHARES and SECONDS, then by the last three again with
-    its group too: all lights behind it in the tree."""
+    """Climbs from a plan: each light alone, by the four steps of SHARES and SECONDS, then by the last three again,
+    where the offset of a light is first moved together with all lights behind it in the tree."""
     passes = [(share, seconds, False) for share, seconds in zip(SHARES, SECONDS, strict=True)]
     passes += [(share, seconds, True) for share, seconds in zip(SHARES[1:], SECONDS[1:], strict=True)]
     for share, seconds, with_groups in passes:

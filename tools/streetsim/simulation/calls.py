@@ -18,6 +18,7 @@ class Calls(Generic[Simulated]):
     name = ""
 
     def __init__(self, now: Callable[[], Simulated]) -> None:
+        """now: gives the simulation that is under way."""
         self.now = now  # the simulation
 
     def __getattr__(self, call: str) -> Any:

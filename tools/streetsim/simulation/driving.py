@@ -13,6 +13,7 @@ class Driving:
     """The lights of a simulation that detectors drive, looked at while it goes on."""
 
     def __init__(self, lights: Lights, mapping: Map, client: Client) -> None:
+        """lights: those that detectors drive; LISTED: no light is driven, nor can a script have one driven."""
         self.lights = lights
         left = limits.METERS - len(mapping.detectors) - lights.meters
         idle = idle_lights(mapping, left) if lights is not LISTED else ()

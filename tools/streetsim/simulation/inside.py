@@ -10,6 +10,7 @@ class Inside:
     """The metres inside junctions between the links of a run, by the connections of the network's file."""
 
     def __init__(self, mapping: Map, facts: Facts) -> None:
+        """facts: of the network's file."""
         self.map, self.facts = mapping, facts
         self.known: dict[tuple[int, int | None, int], float] = {}  # by link, lane and next link
 

@@ -52,6 +52,7 @@ class Control:
     """What each light shows, and when phases end that a script has given another end."""
 
     def __init__(self, simulation: Simulation, lights: dict[str, Light]) -> None:
+        """lights: by name, as the files have them."""
         self.simulation, self.lights = simulation, lights
         self.timers: list[tuple[int, str, int]] = []  # (clock, light, index): the phase that begins then
 

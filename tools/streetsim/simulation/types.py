@@ -8,6 +8,7 @@ class Types:
     """The type and the route of each vehicle, and what each type is."""
 
     def __init__(self, mapping: Map) -> None:
+        """mapping: has the types and routes of the file's vehicles."""
         self.of_file, self.sizes = mapping.kinds, mapping.options.get("sizes", True)
         self.known = {name: at for at, name in enumerate(mapping.cars)}  # the vehicles of the run file: their place
         self.kinds = {name: Kind(*rest) for name, *rest in self.of_file.get("types", ())} or {DEFAULT: Kind()}

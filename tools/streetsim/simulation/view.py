@@ -12,6 +12,7 @@ class View:
     """The vehicles on the road at the clock of a look, and what has changed since the look before."""
 
     def __init__(self, simulation: Simulation) -> None:
+        """simulation: whose lanes are polled."""
         self.simulation = simulation
         places = simulation.map.lanes()
         self.polls = [(place, line_of({"cmd": "lane", "link": place[0], "lane": place[1]})) for place in places]

@@ -172,6 +172,7 @@ class Stops:
     """The stops of an import: gives those of each vehicle their cells, and reports those that cannot be made."""
 
     def __init__(self, net: SumoNet, types: Types, report: Report) -> None:
+        """types: by which losses at stops are reckoned; report: gets what cannot be made."""
         self.net, self.types, self.report = net, types, report
         self.unmade: defaultdict[str, list[str]] = defaultdict(list)  # vehicle at stop, by reason
         self.visits: list[Visit] = []

@@ -171,6 +171,7 @@ class Sizes:
     type: without that, all trucks of 9.6 m would take one cell."""
 
     def __init__(self, types: Types) -> None:
+        """types: whose metres are turned into cells."""
         self.types = types
         self.rests: defaultdict[str, float] = defaultdict(float)  # by type: cells that are owed
         self.count: Counter[int] = Counter()  # vehicles by size

@@ -20,6 +20,7 @@ class Domain(Calls[Session]):
     first: tuple[int, ...] = ()  # that are subscribed to where none is told
 
     def __init__(self, now: Callable[[], Session]) -> None:
+        """now: gives the session; FatalTraCIError where no run is under way."""
         super().__init__(now)
         self.subscribed: dict[str, tuple[int, ...]] = {}  # variables by object
         self.around: dict[str, tuple[float, tuple[int, ...]]] = {}  # by object: metres, and variables of the vehicles

@@ -14,6 +14,7 @@ class Quiet:
     """A domain whose calls only change what a window shows: they do nothing; NotHere for any other call."""
 
     def __init__(self, name: str, calls: tuple[str, ...]) -> None:
+        """name: of the domain; calls: the names that do nothing."""
         self.name, self.calls, self.told = name, calls, False
 
     def __getattr__(self, call: str) -> Callable[..., None]:

@@ -84,6 +84,7 @@ class Table:
     """Costs by the clock; the row of a movement is made when it is first asked for."""
 
     def __init__(self, costs: Costs) -> None:
+        """costs: of all movements of a graph."""
         self.costs = costs
         self.rows: list[array | None] = [None] * len(costs.means)
         self.inverse, self.last = 1 / costs.part, PARTS * costs.slices - 1

@@ -18,6 +18,7 @@ class Minor:
     """The movements without a light that give way, by number, with those that go before each."""
 
     def __init__(self, graph: Graph, net: SumoNet) -> None:
+        """graph: of the edges of net, whose connections say who gives way."""
         self.foes: dict[int, list[tuple[int, Gap]]] = {}
         for way, foes in gaps_of_ways(net).items():
             self.foes[number_of(graph, way)] = [(number_of(graph, foe), gap) for foe, gap in foes.items()]

@@ -42,6 +42,8 @@ class Router:
     another target is asked for."""
 
     def __init__(self, graph: Graph, costs: Costs, shut: Shut | None = None) -> None:
+        """costs: seconds of the graph's movements by time; shut: edges and movements that cannot be used at times,
+        None: none."""
         self.graph, self.table, self.shut = graph, Table(costs), shut or {}
         ways = [way for way in self.shut if isinstance(way, tuple)]
         # By edge: those to which one may not turn at times.

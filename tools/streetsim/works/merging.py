@@ -40,7 +40,7 @@ class Seen:
 
     @property
     def rear(self) -> int:
-        """The last cell that it takes."""
+        """The cell of its rear, the last one that it takes."""
         return self.cell - self.size + 1
 
     def covers(self) -> range:

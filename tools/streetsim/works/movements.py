@@ -108,8 +108,8 @@ def coming_on(way: Way, run: Run, mapping: Map, first: int, last: int) -> int:
 
 
 def told_of(lost: Iterable[Lost], mapping: Map, how: str, searched: bool = False) -> Iterator[str]:
-    """What is said of each lost movement, a text each. how: of LOST; searched: whether ways round are searched where it
-    is barred."""
+    """What is said of each movement that loses its lane, a text each. how: of LOST; searched: whether ways round are
+    searched where the movement is barred."""
     for one in lost:
         lanes = some([mapping.lane_name(*lane) for lane in one.lanes])
         only = "the only lane" if len(one.lanes) == 1 else "the only lanes"

@@ -147,8 +147,8 @@ class Watched:
 
 
 def in_runs(told: Sequence[Sequence[str]]) -> Iterator[str]:
-    """One text on what was seen before works in several runs: in how many of them, with the texts of the first such
-    run. told: the texts of each run. Nothing where no run has any."""
+    """One text on what was seen before works in several runs: in how many of them, with the texts of the first run that
+    has any. told: the texts of each run. Nothing where no run has a text."""
     doubted = [one for one in told if one]
     if doubted:
         where = f"in {len(doubted):,} of {len(told):,} runs " if len(told) > 1 else ""
