@@ -26,7 +26,6 @@ class View {
   draw(part, isPlaying) {
     const { scene } = this, shown = [...this.links], lanes = shown.reduce((sum, link) => sum + link.lanes, 0), far = lanes > MOST_LOOKS;
     scene.colours = colours();
-    scene.clear();
     this.drawStreets(shown, far, isPlaying);
     if (!far) {
       this.drawClosed();
@@ -44,7 +43,8 @@ class View {
     if (!isPlaying || this.kept?.key !== key) {
       this.kept = { key, canvas: this.kept?.canvas ?? element("canvas") };
       Object.assign(this.kept.canvas, { width, height });
-      scene.pen = this.kept.canvas.getContext("2d");
+      scene.pen = this.kept.canvas.getContext("2d", { alpha: false });
+      scene.clear();
       this.drawGround(shown, far);
       scene.pen = pen;
     }

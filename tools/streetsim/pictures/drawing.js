@@ -41,7 +41,7 @@ function placeOnLane(link, lane, share) {
 class Scene {
   constructor(canvas, links) {
     this.canvas = canvas;
-    this.pen = canvas.getContext("2d");
+    this.pen = canvas.getContext("2d", { alpha: false }); // who draws fills it whole
     this.links = links;
     this.colours = LIGHT;
     this.x = this.y = 0;
