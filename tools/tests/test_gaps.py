@@ -8,6 +8,7 @@ from streetsim.importing.convert import convert
 from streetsim.model.mapping import MapLink, MapTurn
 from streetsim.model.runs import Line
 from streetsim.model.waiting import Foe, Gap, Pace, Waiting, waiting_of
+from streetsim.run.crowded import crowded, uses
 from streetsim.run.gaps import (
     PATIENCE, Counts, be_patient, followings, gap_lines, phases_of, red_seconds, slow_down, with_wishes,
 )
@@ -103,6 +104,20 @@ class Reds(unittest.TestCase):
         self.assertEqual(seconds_red((3, 0, 2)), 7)
         self.assertGreaterEqual(seconds_red((3, 0, 2), wished), 11 * 6)  # the one at 0 s is before the begin
         self.assertEqual(seconds_red((1, 0, 2), wished), seconds_red((1, 0, 2)))
+
+    def test_who_starts_from_a_stand_is_out_of_the_way_later(self):
+        gap = Gap(5.5, 0.0, 3.5).later(1.0)
+        red = red_seconds(Waiting(1, ((2, 0, 1),), (foe(gap),)), {(0, 0, 1): [30.0]}, 0, 60)
+        self.assertEqual([at for at, closed in enumerate(red) if closed], list(range(24, 32)))
+
+    def test_how_far_a_lane_is_used(self):
+        """Green 10 s of each minute lets some 5 pass, so 40 in a quarter of an hour take half of its time and more."""
+        red = bytearray(b"\1" * 50 + b"\0" * 10) * 15
+        passing = {(0, 0): [(22.0 * at, 1) for at in range(40)]}
+        ((place, vehicles, share),) = uses([(Waiting(1, ((0, 0, 1),), ()), red)], passing, 0)
+        self.assertEqual((place, vehicles), ((0, 0), 40))
+        self.assertTrue(0.45 < share < 0.6, share)
+        self.assertEqual(crowded(Links, [(Waiting(1, ((0, 0, 1),), ()), bytearray(900))], passing, 0), {})
 
     def test_more_traffic_shorter_red(self):
         waiting = Waiting(1, ((2, 0, 1),), (foe(CROSSING),))

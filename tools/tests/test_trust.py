@@ -29,6 +29,13 @@ class Marks(unittest.TestCase):
         self.assertEqual(self.trips(row(0, 20)).told(), "1 vehicles, 1 arrived, mean trip 20.0 s")
         self.assertEqual(self.trips(row(0)).told(), "1 vehicles, 0 arrived, no trip, 1000.0 s to date of 1 under way")
 
+    def test_nearly_full_streets(self):
+        """Above one passage of them in ten vehicles; most of all those that most pass."""
+        self.assertEqual(list(trust.of_crowded(300, {"a": 30})), [])
+        (told,) = trust.of_crowded(300, {"a": 11, "b": 20})
+        self.assertTrue(told.startswith("2 streets that give way without a light are nearly full, for 31 passages"))
+        self.assertTrue(told.endswith("most of all b, a"))
+
     def test_rescues(self):
         """Above one in a hundred, and more than one."""
         for vehicles, rescues, told in (

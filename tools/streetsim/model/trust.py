@@ -23,6 +23,7 @@ MOST_WAITING = 0.05  # of the vehicles that wait to enter, at the worst minute
 STILL = 600  # seconds without an arrival
 OTHER_LENGTH = 0.1  # of the metres that are driven
 MOST_ACTUATED = 0.1  # of the vehicles, that pass lights which SUMO times by detectors
+MOST_CROWDED = 0.1  # of the vehicles, that pass nearly full streets which give way
 NAMED = 3  # edges, or lights
 
 
@@ -176,6 +177,17 @@ def of_actuated(clock: int, run: Run, mapping: Map, lights: Sequence[str]) -> It
         yield (
             f"{count:,} of {len(plans):,} vehicles pass lights that are actuated in SUMO and show their listed seconds "
             f"here: most of all {', '.join(most)}"
+        )
+
+
+def of_crowded(vehicles: int, crowded: Mapping[str, int]) -> Iterator[str]:
+    """Where many of so many vehicles pass streets that give way without a light and are nearly full: {edge: who passes
+    it then}."""
+    if (count := sum(crowded.values())) > MOST_CROWDED * vehicles:
+        most = ", ".join(sorted(crowded, key=lambda edge: (-crowded[edge], edge))[:NAMED])
+        yield (
+            f"{len(crowded):,} streets that give way without a light are nearly full, for {count:,} passages of "
+            f"{vehicles:,} vehicles, and their queues may be other than in SUMO: most of all {most}"
         )
 
 

@@ -18,6 +18,7 @@ class Gap:
     least: float  # seconds at any flow
     beside: float = 1.0  # weight, 0 to 1, of those on further lanes of the foe's street
     others: float = 1.0  # weight, 0 to 1, of those on other streets
+    after: float = 1.0  # seconds after a foe passed its stop line, until it is out of the way
 
     def before(self, lane: float, street: float, every: float) -> float:
         """The seconds that have to be free, by the vehicles an hour of the foe's lane, of all lanes of its street, and
@@ -32,6 +33,10 @@ class Gap:
     def longer(self, more: float) -> Self:
         """The gap with `more` seconds added, whatever the flow."""
         return replace(self, seconds=self.seconds + more, least=self.least + more)
+
+    def later(self, more: float) -> Self:
+        """The gap before one who is out of the way so many seconds later."""
+        return replace(self, after=self.after + more)
 
 
 @dataclass(slots=True, frozen=True)

@@ -101,6 +101,7 @@ def one_run(making: Making, run: Run, mapping: Map, settings: Settings, folder: 
     write_tables(made, trips)
     driven, rescues = trust.trips_at(records.clock, run.start(), trips), records.rescues.total()
     doubts = [*trust.doubts(driven, rescues, records.censuses, run, mapping, settings.lights.going_by(mapping))]
+    doubts += trust.of_crowded(driven.vehicles, yielding.crowded)
     doubts += beyond
     doubts += doubts_of(records.works, mapping)
     doubts += beyond_joint(run, mapping, [one.closure for one in records.works])

@@ -13,7 +13,6 @@ State = tuple[int, ...]  # for each group whether it is red
 Group = tuple[Sequence[TurnKey], Sequence[int]]  # turns that give way, and for each second whether they are red
 Passed = Mapping[Place, Sequence[tuple[float, int]]]  # {(link, lane): [(second, next link)]}
 Times = Mapping[TurnKey, Sequence[float]]  # when vehicles pass, by turn
-AFTER = 1  # seconds after one that goes first until the next may go
 AROUND = 300  # seconds before and after, in which those that go first are counted
 SHOWN, HIDDEN = 3, 2  # seconds in turn, where those that use a gap follow each other slowly
 # Seconds between two of them that may use one gap, and before and after them for what differs from run to run.
@@ -28,17 +27,26 @@ def gap_lines(mapping: Map, passed: Passed, start: int, wished: Passed | None = 
     """The signal lines, (clock, line), for nodes without a light where vehicles give way: green in the gaps between
     those who go first. passed: when vehicles passed in a run, {(link, lane): [(second, next link)]}; wished: the same
     of a run in which nobody gives way, None: not known."""
+    return lines_of(mapping, reds_of(mapping, passed, start, wished), start)
+
+
+def reds_of(mapping: Map, passed: Passed, start: int, wished: Passed | None = None) -> list[tuple[Waiting, bytearray]]:
+    """Those who give way, and for each second from the start whether they are red; as `gap_lines` has it."""
     end = int(max((second for each in passed.values() for second, _ in each), default=start)) + TAIL
     times = by_turn(passed)
     coming = times if wished is None else coming_of(mapping, times, by_turn(wished))
+    reds = ((one, red_seconds(one, times, start, end, coming)) for one in mapping.yields)
+    return [(one, red) for one, red in reds if red is not None]
+
+
+def lines_of(mapping: Map, reds: Iterable[tuple[Waiting, Sequence[int]]], start: int) -> list[tuple[int, Line]]:
+    """The signal lines, (clock, line), of what `reds_of` gave."""
     turns_at: defaultdict[int, list[TurnKey]] = defaultdict(list)
     groups_at: defaultdict[int, list[Group]] = defaultdict(list)
     for turn in mapping.turns:
         turns_at[mapping.links[turn.link].end].append((turn.link, turn.lane, turn.next))
-    for one in mapping.yields:
-        red = red_seconds(one, times, start, end, coming)
-        if red is not None:
-            groups_at[one.node].append((one.turns, red))
+    for one, red in reds:
+        groups_at[one.node].append((one.turns, red))
     found = [pair for node, groups in groups_at.items() for pair in node_lines(node, turns_at[node], groups, start)]
     return sorted(found, key=lambda pair: (pair[0], pair[1].command["node"]))
 
@@ -130,9 +138,9 @@ def red_seconds(waiting: Waiting, times: Times, start: int, end: int, coming: Ti
     for second, foe in comes:
         if not foe.gap.seconds:  # all stop, and go in turn
             continue
-        length = foe.gap.before(*counts.around(second, foe)) + AFTER + owed
+        length = foe.gap.before(*counts.around(second, foe)) + foe.gap.after + owed
         owed = length % 1
-        last = round(second) + AFTER - start
+        last = round(second + foe.gap.after) - start
         close(red, last - int(length), last)
     if any(foe.slow for _, foe in comes):
         for sooner, later in followings(sorted(second for turn in waiting.turns for second in times.get(turn, ()))):

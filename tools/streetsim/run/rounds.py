@@ -3,7 +3,7 @@ one has signals that are green in the gaps between those who go first. As who wa
 repeated."""
 from collections.abc import Callable, Iterable, Mapping, Sequence
 from contextlib import AbstractContextManager
-from dataclasses import dataclass, replace
+from dataclasses import dataclass, field, replace
 from functools import partial
 from operator import itemgetter
 
@@ -14,7 +14,8 @@ from streetsim.base.serving import serving
 from streetsim.model.mapping import Map, Place
 from streetsim.model.runs import Line, Run
 from streetsim.run.asking import EVERY, MINUTE, Asking
-from streetsim.run.gaps import Passed, gap_lines
+from streetsim.run.crowded import crowded
+from streetsim.run.gaps import Passed, lines_of, reds_of
 from streetsim.run.passings import Passings
 from streetsim.run.record import Recorder
 from streetsim.run.records import Tell
@@ -32,6 +33,7 @@ class Yielding:
     junctions: int = 0
     lines: int = 0  # signals that were sent
     every: int = 0  # seconds between the polls of the rounds
+    crowded: dict[str, int] = field(default_factory=dict)  # edges that are nearly full, and who passes them then
 
     def told(self) -> str:
         """How many junctions give way by how many signal lines, for the user; empty where there are none."""
@@ -118,9 +120,11 @@ def gaps_of(
     for _ in range(rounds):
         with start() as sim:
             passed = Round(sim, made, mapping, asked, places, tell).record()
-        lines = gap_lines(mapping, passed, run.start(), wished)
+        reds = reds_of(mapping, passed, run.start(), wished)
+        lines = lines_of(mapping, reds, run.start())
         wished, made = wished or passed, with_lines(run, lines)
     yielding.lines, yielding.junctions = len(lines), len({line.command["node"] for _, line in lines})
+    yielding.crowded = crowded(mapping, reds, passed, run.start())
     return lines, yielding
 
 

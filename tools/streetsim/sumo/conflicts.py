@@ -16,10 +16,12 @@ from streetsim.sumo.network import Network
 FAST = 10.0  # metres a second before the junction, in a roundabout inside it: a stream like that is a fast one
 # SUMO's states of connections: minor, right before left, stop sign, all-way stop.
 MINOR, EQUALS, STOPS, ALL_STOP = "m", "=", "s", "w"
-# Seconds more before one who crosses and gives way too: in which gaps these go changes from run to run.
-FACING = {MINOR: 0.6, STOPS: 6.0}
+# One who gives way too starts from a stand: so many seconds later it is out of the way than one who does not.
+STANDING = {MINOR: 1.0}
+# Seconds more before one who is crossed and gives way too: in which gaps these go changes from run to run.
+FACING = {STOPS: 6.0}
 # To cross a stream, to join a slow and a fast one.
-CROSSING, ENTERING, JOINING = Gap(7.0, 3.6, 3.5, 0.0, 0.4), Gap(7.2, 2.0, 3.5), Gap(8.4, 3.0, 5.0)
+CROSSING, ENTERING, JOINING = Gap(7.0, 3.6, 3.5, 0.0, 0.4), Gap(7.2, 2.0, 3.5), Gap(8.4, 3.0, 5.0, 1.0, 0.4)
 NONE = Gap(0.0, 0.0, 0.0)  # where all stop they go in turn
 AFTER_STOP = Gap(26.0, 32.0, 9.0, 1.0, 0.4)  # to join any stream
 # The same where nobody has a main street, and at a stop sign.
@@ -77,6 +79,8 @@ def foes(one: Connection, other: Connection, network: Network) -> dict[TurnKey, 
         gap = gap.across(sum(len(network.links[link].lanes) for link in links))
         if one.state == other.state:
             gap = gap.longer(FACING.get(one.state, 0.0))
+    if one.state == other.state:
+        gap = gap.later(STANDING.get(one.state, 0.0))
     slow = fast and one.state not in PACES  # which have a pace of their own
     return {
         (link, lane, following): Foe(link, lane, following, gap, slow, links[0])
