@@ -62,7 +62,7 @@ class Stopping:
 
     @property
     def other(self) -> int:
-        """The lane beside its own."""
+        """The lane beside its own, on a link of two lanes."""
         return 1 - self.lane
 
     def look(self, clock: int, bus: Seen, lanes: Mapping[int, Sequence[Seen]]) -> int:

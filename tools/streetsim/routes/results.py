@@ -42,7 +42,7 @@ def write_results(
 
 
 def iteration_rows(iterations: Sequence[Iteration]) -> Iterator[tuple]:
-    """The rows of iterations.csv."""
+    """The rows of iterations.csv, one for each iteration."""
     for one in iterations:
         yield (
             *(
@@ -54,7 +54,7 @@ def iteration_rows(iterations: Sequence[Iteration]) -> Iterator[tuple]:
 
 
 def check_rows(judged: Judged) -> Iterator[tuple]:
-    """The rows of check.csv."""
+    """The rows of check.csv, one for each check seed."""
     for seed, one in zip(judged.seeds, judged.outcomes, strict=True):
         yield seed, f"{one.mean:.3f}", one.arrived, one.rescues
 

@@ -193,7 +193,8 @@ class Search:
         return Seen(ways, outcomes, costs, found, [one.passed for one in outcomes], gap_of(found), lacking)
 
     def noted(self, loaded: Loaded, outcomes: Sequence[Outcome]) -> Costs:
-        """The costs that runs showed; gives each trip its mean entry in them, a clock."""
+        """Notes for each trip its mean entry, a clock, in some runs of the trips, and gives the costs that these runs
+        showed."""
         for at, trip in enumerate(self.trips):
             trip.entry = fmean(one.entries[at] for one in outcomes)
         observed = mean_of([one.observed for one in outcomes])

@@ -66,9 +66,9 @@ class WaysRound:
         times: tuple[float, float],
         seed: int,
     ) -> dict[str, Path]:
-        """The new plans, by name, of those who would come to shut edges within times (first and last second). Vehicles
-        that begin or end there, drive a round, or have no way round are left out. vehicles: all that count for the
-        volumes; signals: the signal commands in force."""
+        """The new plans, by name, of vehicles that would come to the edges in shut within times (first and last
+        second). Vehicles that begin or end there, drive a round, or have no way round are left out. vehicles: all that
+        count for the volumes; signals: the signal commands in force."""
         free = free_seconds(self.graph, self.by_link, signals, self.dawdle)
         closed = self.shut(shut, times)
         trips = sorted((trip_of(one) for one in vehicles), key=lambda trip: trip.depart)
@@ -124,7 +124,7 @@ def trip_of(vehicle: Waiting) -> Trip:
 def shut_edges(
     mapping: Map, edges: Iterable[str], closed: Mapping[tuple[int, int], Sequence[tuple[int, int]]]
 ) -> list[str]:
-    """Those of some edges that nobody can pass, as all lanes of each of their links are closed at one place. closed:
+    """The edges, among some, that nobody can pass, as all lanes of each of their links are closed at one place. closed:
     the closed cells, (first, last), by (link, lane)."""
     return [
         edge

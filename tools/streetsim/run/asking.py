@@ -34,8 +34,8 @@ def asking_of(
     run: Run, settings: Settings, places: Sequence[Place], polled: Collection[Place], detectors: int
 ) -> Asking:
     """What a run asks. places: all (link, lane) of the map; polled: those of them that are looked at at each poll;
-    detectors: how many induction loops of SUMO's the map has, whose places are taken from those of the lanes. Where
-    lanes are more than detectors left, the most used come first."""
+    detectors: how many detectors of SUMO's the map has, for which as many lanes get none. Where there are more lanes
+    than detectors left, the most used lanes come first."""
     every = EVERY if settings.every is None else settings.every
     here = limits.METERS - detectors - settings.lights.meters
     use = Counter(link for line in run.enters for link in line.command["plan"])

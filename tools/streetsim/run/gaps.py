@@ -52,7 +52,7 @@ def lines_of(mapping: Map, reds: Iterable[tuple[Waiting, Sequence[int]]], start:
 
 
 def by_turn(passed: Passed) -> dict[TurnKey, list[float]]:
-    """The same passings by turn, {(link, lane, next link): [second]}."""
+    """When vehicles passed, by turn in place of lane, {(link, lane, next link): [second]}."""
     times: defaultdict[TurnKey, list[float]] = defaultdict(list)
     for (link, lane), each in passed.items():
         for second, following in each:

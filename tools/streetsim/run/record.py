@@ -211,7 +211,7 @@ class Recorder(Desk):
         )
 
     def found_ends(self) -> list[Vehicle | None]:
-        """The last reply on each vehicle of the file; None for those that were never sent."""
+        """The last reply on each vehicle of the file; None for vehicles that the program was never told of."""
         return [*self.vehicles(range(self.entered)), *[None] * (len(self.run.enters) - self.entered)]
 
 

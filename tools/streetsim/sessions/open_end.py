@@ -23,7 +23,7 @@ class Summed(Client):
         self.sum = hashlib.sha256()
 
     def turn(self, chunk: list[bytes]) -> list[bytes]:
-        """As of Client; adds the replies to the sum."""
+        """Sends some lines and gives the replies, as Client does; adds the replies to the sum."""
         replies = super().turn(chunk)
         for reply in replies:
             self.sum.update(reply)

@@ -125,7 +125,8 @@ def verified(in_sumo: InSumo, town: Town, plan: Plan, seeds: Sequence[int], jobs
 
 
 def verified_files(in_sumo: InSumo, town: Town, paths: Sequence[str], seeds: Sequence[int], jobs: int) -> Verified:
-    """The same of two files of signal programs: paths has the one given and the one found."""
+    """What SUMO says of two files of signal programs, by runs with each seed: paths has the file of what was given and
+    that of what was found; jobs: how many run side by side."""
     enters = zip(town.mapping.cars, (line.command["depart"] for line in town.run.enters), strict=True)
     departs = {name: depart for name, depart in enters if depart < in_sumo.until}
 

@@ -85,8 +85,8 @@ def read_pair(run_path: str, map_path: str, until: int | None = None) -> tuple[R
 
 
 def read_town(reading: Reading) -> Town:
-    """Reads the town of a search, and warns on standard error of what is not as its run has it. Fault where a file is
-    wrong or no light may be changed."""
+    """Reads the town of a search; warns on standard error where the run's signals differ from the plans, which count.
+    Fault where a file is wrong or no light may be changed."""
     run, mapping = read_pair(reading.run, reading.map, reading.until)
     net = read_plans(reading.plans, mapping)
     lights, plan = searched_lights(reading, run, mapping, net)

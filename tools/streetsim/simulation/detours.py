@@ -39,7 +39,7 @@ class Detours:
         return [name for name in simulation.fleet.plans if name in ways]
 
     def ahead(self, name: str) -> tuple[int, ...]:
-        """The links that a vehicle was told when it last entered, the program's plan of it."""
+        """The links of a vehicle's plan as the program has it, from its last entering on."""
         return self.simulation.fleet.plans[name][self.begun.get(name, 0) :]
 
     def where(self, names: Iterable[str]) -> list[Vehicle]:

@@ -16,7 +16,7 @@ class Remembering(Client):
         self.changes: list[bytes] = []
 
     def exchange(self, lines: Iterable[bytes]) -> Iterator[bytes]:
-        """As of Client; keeps the lines that are not questions."""
+        """Sends lines and gives the replies, as Client does; keeps the lines that are not questions."""
         lines = list(lines)
         self.changes += [line for line in lines if not line.startswith(ASKING)]
         return super().exchange(lines)

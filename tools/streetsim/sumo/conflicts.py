@@ -52,9 +52,9 @@ def conflicts_of(net: SumoNet, network: Network, flows: Flows) -> list[Waiting]:
 def foes_by_way(
     connections: Iterable[Connection], yields: Mapping[int, Iterable[int]], network: Network, flows: Flows
 ) -> dict[Way, dict[TurnKey, Foe]]:
-    """Those who go before each used movement of a junction, {(edge, next edge): {(link, lane, next link): foe}}.
-    yields: the requests that each request gives way to. Where all have to stop, these are all who come from other
-    streets."""
+    """The vehicles that go before each used movement of a junction, by their turns, {(edge, next edge): {(link, lane,
+    next link): foe}}. yields: the requests that each request gives way to. Where all have to stop, these are all who
+    come from other streets."""
     used = (one for one in connections if flows.get((one.source, one.target)))
     of_request = {one.request: one for one in used if one.request is not None}
     found: dict[Way, dict[TurnKey, Foe]] = {(one.source, one.target): {} for one in of_request.values()}
@@ -103,8 +103,8 @@ def gap_of(one: Connection, other: Connection, fast: bool) -> Gap:
 
 
 def gaps_of_ways(net: SumoNet) -> dict[Way, dict[Way, Gap]]:
-    """Those who go before each movement without a light, whether or not routes take it: {(edge, next edge): {movement
-    that goes first: the gap before it}}."""
+    """The movements that go before each movement without a light, whether or not routes take it, with the gap in
+    seconds before each: {(edge, next edge): {(edge, next edge) that goes first: gap}}."""
     found: defaultdict[Way, dict[Way, Gap]] = defaultdict(dict)
     for junction, connections in connections_of(net).items():
         of_request = {one.request: one for one in connections if one.request is not None and not one.light}

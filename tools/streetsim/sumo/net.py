@@ -335,8 +335,8 @@ def more_of(program: Element) -> tuple[str, ...]:
 
 
 def actuated(net: SumoNet, lights: Iterable[str]) -> list[str]:
-    """Those of some lights whose program is not static: SUMO times them by detectors, or by anything but seconds
-    alone."""
+    """The names of lights, among some, whose program is not static: SUMO times them by detectors, or by anything but
+    seconds alone."""
     return [light for light in dict.fromkeys(lights) if net.programs[light].kind != STATIC]
 
 

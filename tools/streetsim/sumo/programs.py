@@ -57,8 +57,8 @@ def kept_programs(
 def fixed_programs(
     net: SumoNet, network: Network, lights: Iterable[tuple[str, int]], flows: Flows, wanted: Container[str]
 ) -> list[Json]:
-    """Of those of lights that are in wanted and static, what kept_programs keeps but for detectors: so that they can
-    wait for buses."""
+    """What a map keeps of each static program of a light in wanted, so that the light can wait for buses: as
+    kept_programs, but for detectors. lights: (light, node)."""
     nodes = defaultdict(list)
     for light, node in lights:
         if light in wanted and net.programs[light].kind == STATIC:

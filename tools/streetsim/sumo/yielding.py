@@ -428,9 +428,9 @@ def hidden_start(length: int, speed: float, limit: int) -> int:
 
 @cache
 def hidden_middle(length: int, speed: float, limit: int) -> tuple[int, int]:
-    """The (begin, end) of the seconds that are not shown from half of a green on, for the same reason: who has waited
-    alone for its begin then goes at once, as in SUMO. As a queue starts twice they are more seconds. A green below
-    TWO_PARTS has them at its begin."""
+    """The (begin, end) of the seconds that are not shown from half of a green of length seconds on, so that as many
+    pass here as in SUMO: who has waited alone for its begin then goes at once, as in SUMO. As a queue starts twice they
+    are more seconds than at the begin. A green below TWO_PARTS has them at its begin."""
     if length < TWO_PARTS:
         return 0, hidden_start(length, speed, limit)
     half, vehicles = length // 2, leaving(length, speed)

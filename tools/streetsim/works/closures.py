@@ -42,8 +42,8 @@ def closures_of(run: Run, until: int) -> list[Closure]:
 
 
 def begun_here(closures: Iterable[Closure], mapping: Map) -> list[Closure]:
-    """Those closures that do not go on from another one on the part of the edge before: a queue before the others is
-    seen at the one where they begin. A closure that goes on has its further metres in beyond."""
+    """The closures before which a queue can begin. One that continues another, from the part of the edge before, is
+    left out, as its queue is seen at that other one, which gets its metres in beyond."""
     closures = list(closures)
     begins = {(one.link, one.lane, one.begin, one.end): one for one in closures if one.first <= 1}
     further: dict[Closure, Closure] = {}

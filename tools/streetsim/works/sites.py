@@ -108,7 +108,7 @@ def shut_links(sites: list[Site], mapping: Map) -> dict[int, list[tuple[int, int
 
 
 def parallel_names(names: Iterable[str], mapping: Map) -> list[str]:
-    """Those of some names of edges and lanes, to be joint, whose edges are several links and that are not joint yet.
+    """The names of edges and lanes to be joint, among some, whose edges are several links and that are not joint yet.
     Fault where the map has no such name, or the edge has one lane."""
     found, known = [], mapping.options.get("joint", ())
     for name in dict.fromkeys(names):
@@ -130,9 +130,8 @@ def lanes_to_join(works: Iterable[Works], mapping: Map) -> list[str]:
 
 
 def lanes_to_lead(works: Iterable[Works], mapping: Map) -> list[str]:
-    """Those lanes with works whose vehicles can be led over the links beside from the begin of the edge on, so that
-    they need not be joint: works close them to their end, from at most NEAR metres on, and a movement has no other
-    lane."""
+    """The lanes with works whose vehicles can be led over the links beside from the begin of the edge on, so that they
+    need not be joint: works close them to their end, from at most NEAR metres on, and a movement has no other lane."""
     works = list(works)
     sites = in_the_way(works, mapping)
     ended = closed_ends(closures_at(sites_of(works, mapping)), mapping)
