@@ -132,7 +132,7 @@ class KeptEngine(Engine):
         return replies
 
     def go_on(self) -> None:
-        """Has the program that keeps take over from the one that does not; Fault where it is not at the same state."""
+        """Has the program that keeps take over from the one that does not; Fault where the two are not at one state."""
         assert self.client is not None
         before, now = self.client, Client(self.program, keep=self.file)
         alike = list(now.exchange([COUNT])) == list(before.exchange([COUNT]))

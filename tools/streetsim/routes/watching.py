@@ -88,7 +88,8 @@ class Watcher(Recorder):
         self.seen: list[list[Sight]] = [[] for _ in run.enters]
 
     def asking(self) -> Asking:
-        """What is asked: all lanes each minute, and each EVERY seconds where there are lanes of those who go first."""
+        """What is asked: a look at all lanes each minute, and each EVERY seconds at the lanes of vehicles that go
+        first, where there are any."""
         return Asking(EVERY if self.first else MINUTE, [], 0)
 
     def record(self) -> Records:

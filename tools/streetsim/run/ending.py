@@ -24,7 +24,7 @@ def first_guess(run: Run) -> int:
 
 
 class UnderWay(Protocol):
-    """What an Ending needs of a run under way."""
+    """A run under way, as far as an Ending must know it; its lanes and end_at are those of Desk and Recorder."""
 
     run: Run
     settings: Settings

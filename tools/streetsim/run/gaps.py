@@ -114,8 +114,8 @@ def node_lines(node: int, turns: Sequence[TurnKey], groups: Sequence[Group], sta
 
 
 def phases_of(reds: Sequence[Sequence[int]]) -> list[tuple[int, State]]:
-    """Phases of the seconds in which the same groups are red, (seconds, (red or not by group)); reds: for each group a
-    byte for each second, 1: red."""
+    """The phases of a node, (seconds, (red or not by group)): each is a stretch of seconds in which no group changes,
+    of PHASE_STEPS at most. reds: for each group a byte for each second, 1: red."""
     made = []
     for state, run in groupby(zip(*reds, strict=True)):
         length = sum(1 for _ in run)

@@ -38,7 +38,7 @@ VARIANT |= {"knowing"}
 
 @dataclass(slots=True)
 class Variant:
-    """A variant, ready to run."""
+    """A variant of a study, read and made ready to run."""
 
     session: Session
     signals: bytes  # lines

@@ -131,8 +131,8 @@ class Network:
         self.rings = sorted(net.roundabouts & net.edges.keys())
 
     def add_connections(self, net: SumoNet, report: Report) -> None:
-        """Adds the turns of all connections. Of several from one lane to one next link that to the same lane is kept,
-        else that to the lowest lane; this is reported."""
+        """Adds the turns of all connections. Of several from one lane to one next link the one that leads to the lane
+        of the same number is kept, else the one to the lowest lane; this is reported."""
         doubled = set()
         for connection in net.connections:
             self.movements[connection.source, connection.target].append(connection)

@@ -43,7 +43,8 @@ def timings_of_files(net_path: str, additional: Iterable[str], classes: Sequence
 
 
 def conflict(net: SumoNet, light: str, pair: tuple) -> bool:
-    """Whether two connections, both of one light, are foes at one junction: their vehicles would meet."""
+    """Whether two connections (pair), both of one light, meet at one junction, as the network's foes say. False where
+    they end at different junctions, or a request is not known."""
     one, other = pair
     junction = net.edges[one.source].end
     if net.edges[other.source].end != junction or one.request is None or other.request is None:

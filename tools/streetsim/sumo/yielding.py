@@ -72,7 +72,8 @@ class Movement:
     headway: float  # seconds between vehicles of a queue, in SUMO
     limit: int  # of its link, cells a step
     runs: dict[int, int]  # first second of a permissive green: its length
-    stops: dict[int, int] = field(default_factory=dict)  # the same of reds in which one may go after a stop
+    # First second of a red in which one may go after a stop: its length.
+    stops: dict[int, int] = field(default_factory=dict)
     foes: list[Movement] = field(default_factory=list)  # that it gives way to
     meets: dict[int, list[Meeting]] = field(default_factory=dict)  # by first second of a permissive green
     # By first second of a permissive green: how many seconds of it are shown.

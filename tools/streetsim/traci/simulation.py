@@ -48,7 +48,7 @@ class Simulation(Domain, SimulationCalls[Session]):
     first = (tc.VAR_DEPARTED_VEHICLES_IDS,)
 
     def subjects(self) -> tuple[str, ...]:
-        """The one simulation, which has no name."""
+        """The names that can be subscribed to: an empty one, as the one simulation has no name."""
         return ("",)
 
     # Time and vehicles

@@ -26,7 +26,7 @@ class Phase:
 
 @dataclass
 class Logic:
-    """A program, as SUMO's scripts read it."""
+    """A program, as SUMO's scripts read it: its name, SUMO's number of its kind, and its phases."""
 
     programID: str
     type: int

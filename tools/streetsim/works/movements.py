@@ -55,7 +55,7 @@ def lost_movements(run: Run, mapping: Map, closures: Iterable[Closure]) -> list[
 
 
 def closures_at(sites: Iterable[Site]) -> list[Closure]:
-    """What works on sites close, and when."""
+    """The closed stretches that works on sites make, with their clocks."""
     return [Closure(site.link, site.lane, *site.cells, site.works.first, site.works.last) for site in sites]
 
 
