@@ -81,7 +81,8 @@ class Scenario(Running):
         self.step(time)
 
     def go_on(self, target: int) -> None:
-        """Goes on until a clock at most, and stops earlier where somebody may be where another way of its begins."""
+        """Goes on until the clock target at most, and stops earlier where somebody may be where another way of its
+        begins."""
         self.detours.turn_off()
         self.advance(self.detours.next_clock(target))
 
@@ -132,7 +133,7 @@ class Scenario(Running):
             raise ValueError(f"until {until:g} s nobody can take another way: the clock is at {self.clock} s")
 
     def reopen(self, lane: str, begin: float = 0.0, end: float | None = None) -> None:
-        """Opens what close closed, with the same lane and metres."""
+        """Opens what close closed, with the same lane and metres; end: None: the lane's end."""
         self.reopen_lane(lane, begin, end)
 
     def trips(self) -> list[tuple[object, ...]]:

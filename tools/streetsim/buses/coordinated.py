@@ -15,13 +15,13 @@ class Coordinated(Actuated):
     planned: int = 0  # clock at which the plan has the phase begin that is shown
 
     def start(self, now: int, offset: int = 0) -> None:
-        """Begins in the phase in which the plan is at the clock now."""
+        """Begins, at the clock now, in the phase in which the plan is then; offset: of the plan, seconds."""
         Actuated.start(self, now, offset)
         self.planned = self.due - self.phases[self.at].seconds
 
     def look(self, now: int, gap: GapOf) -> bool:
-        """Goes on to the next phase where the present one is over; gives whether it does. The plan's clock goes on with
-        it, by whole cycles where it is far off."""
+        """Goes on to the next phase where the present one is over at the clock now; gives whether it does. The plan's
+        clock goes on with it, by whole cycles where it is far off."""
         seconds, self.due = self.phases[self.at].seconds, now
         if not Actuated.look(self, now, gap):
             return False

@@ -56,7 +56,7 @@ class Calls:
         self.changed: set[str] = set()  # lights
 
     def set(self, owner: int, ahead: Ahead | None) -> None:
-        """Has a vehicle, by its number in the file, call at one light alone; None: at none."""
+        """Has a vehicle, by its number in the file (owner), call at one light alone; None: at none."""
         for light, calls in self.by_light.items():
             if owner in calls and (ahead is None or ahead.light != light):
                 del calls[owner]

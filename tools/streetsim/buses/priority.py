@@ -36,8 +36,8 @@ class Priority:
 
 
 def prioritised(run: Run, mapping: Map, names: Sequence[str], seen: int, driven: Lights) -> Priority:
-    """The lights that wait for vehicles of the classes and lines in names, which a light sees so many seconds before
-    the stop line. driven: the lights that detectors drive. Fault where a name has no vehicle."""
+    """The lights that wait for vehicles of the classes and lines in names, which a light sees (seen) so many seconds
+    before the stop line. driven: the lights that detectors drive. Fault where a name has no vehicle."""
     owners = named(run, mapping, names)
     timed = {line.command["node"] for _, line in run.timed if line.command["cmd"] == "signal"}
     changed = {light for light, node in mapping.signals if node in timed}
@@ -79,8 +79,9 @@ def lights_of(run: Run, mapping: Map, owners: Iterable[int]) -> set[str]:
 
 
 def fixed_light(light: str, kept: Mapping[str, Any], seen: int, unlike: Mapping[str, Collection[str]]) -> Fixed:
-    """A light with listed seconds, of what the map keeps of its program (kept, by light); unlike: the names of lights
-    that cannot wait, by reason. Raises Listed, with the reason, where it cannot wait."""
+    """A light with listed seconds, of what the map keeps of its program (kept, by light). seen: seconds before the stop
+    line at which a vehicle is seen; unlike: the names of lights that cannot wait, by reason. Raises Listed, with the
+    reason, where it cannot wait."""
     if light in unlike["changed"]:
         raise Listed("as lines of the run change their plans")
     if light in unlike["rings"]:

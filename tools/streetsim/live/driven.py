@@ -28,7 +28,8 @@ class DrivenEngine(Engine):
         self.shown: list[Command] = []  # that the page was not told of
 
     def begin(self, anew: bool = False) -> list[bytes]:
-        """Starts the run and its lights from nothing; gives the replies to the run's own lines."""
+        """Starts the run and its lights from nothing; gives the replies to the run's own lines. anew has no effect
+        here."""
         replies = super().begin(anew)
         run, mapping, _ = self.made()
         lights = driven_lights(run, mapping)

@@ -279,8 +279,8 @@ def steps_of(found: Sequence[Found], share: float, tried: int) -> list[list[Foun
 def iteration_of(
     number: int, outcomes: Sequence[Outcome], found: Sequence[Found], gap: float, changed: int, back: bool
 ) -> Iteration:
-    """What is kept of an iteration: of its runs, of its searches, and how many trips change next; back: whether its
-    routes were taken back."""
+    """What is kept of an iteration: of its runs, of its searches, of its relative gap, and how many trips change next
+    (changed); back: whether its routes were taken back."""
     return Iteration(
         number=number,
         mean=fmean(one.mean for one in outcomes),

@@ -135,11 +135,11 @@ class Watcher(Recorder):
                 self.passings.note(self.owners[car], clock, link, lane, self.mapping.links[link].cells, True)
 
     def note(self, owner: int, clock: int, link: int, cell: int, speed: int) -> None:
-        """Notes that a vehicle, by its number in the file, is in a cell of a link; speed: cells a step."""
+        """Notes that a vehicle, by its number in the file (owner), is in a cell of a link; speed: cells a step."""
         self.seen[owner].append(Sight(clock, link, (cell + 1) * self.scale[link], speed))
 
     def note_at_end(self, owner: int, clock: int, link: int) -> None:
-        """Notes that a vehicle, by its number in the file, is past the stop line of a link, and stands."""
+        """Notes that a vehicle, by its number in the file (owner), is past the stop line of a link, and stands."""
         self.seen[owner].append(Sight(clock, link, self.driving[link], 0))
 
 

@@ -1,4 +1,5 @@
-"""How far the lanes that give way without a light are used in a run: by the seconds that are green to them."""
+"""How much of their time the lanes that give way without a light are used in a run, by the seconds that are green to
+them."""
 from collections import Counter, defaultdict
 from collections.abc import Iterable, Iterator, Sequence
 from itertools import groupby
@@ -18,7 +19,9 @@ Reds = Iterable[tuple[Waiting, Sequence[int]]]  # who gives way, and for each se
 
 
 def crowded(mapping: Map, reds: Reds, passed: Passed, start: int) -> dict[str, int]:
-    """The edges of lanes that are nearly full in some parts of the time, and how many pass these then."""
+    """The edges of which lanes that give way are used for a share FULL of their time or more, in some parts of PART
+    seconds, with how many vehicles pass these lanes then. reds: for each Waiting a byte for each second from start, 1:
+    red; passed: when vehicles passed."""
     found: Counter[str] = Counter()
     for (link, _), vehicles, share in uses(reds, passed, start):
         if share >= FULL and vehicles >= LEAST:
@@ -27,8 +30,8 @@ def crowded(mapping: Map, reds: Reds, passed: Passed, start: int) -> dict[str, i
 
 
 def uses(reds: Reds, passed: Passed, start: int) -> Iterator[tuple[Place, int, float]]:
-    """Lane by lane that gives way, and part by part of the time: the lane, how many pass, and what share of its time
-    they take, if by its greens a queue left it."""
+    """(lane, how many vehicles pass, the share of the lane's time that they take) for each lane that gives way and each
+    part of PART seconds in which any pass; a share above 1 is more than a queue could. Arguments: as of crowded."""
     room: dict[TurnKey, list[float]] = {}
     for one, red in reds:
         room.update(dict.fromkeys(one.turns, list(passing(red))))
@@ -42,13 +45,14 @@ def uses(reds: Reds, passed: Passed, start: int) -> Iterator[tuple[Place, int, f
 
 
 def taking(vehicles: int, room: Sequence[float] | None, part: int) -> float:
-    """The share of a lane's time that so many of a turn take; room: how many could pass in each part, or none where
-    they need not wait."""
+    """The share of a lane's time, in a part by its number, that so many vehicles of one turn take; room: how many could
+    pass in each part, None: they need not wait."""
     return vehicles * FREE / PART if room is None else vehicles / max(1.0, room[part])
 
 
 def passing(red: Sequence[int]) -> Iterator[float]:
-    """How many vehicles of a queue could pass in each part, the last one too, by whether each second is red."""
+    """How many vehicles of a queue could pass in each part of PART seconds, the last one, which may be shorter, too;
+    red: for each second whether it is red."""
     for begin in range(0, len(red), PART):
         runs = (sum(1 for _ in run) for hidden, run in groupby(red[begin : begin + PART]) if not hidden)
         yield sum(passing_here(seconds, LIMIT) for seconds in runs)

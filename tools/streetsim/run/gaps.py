@@ -219,8 +219,8 @@ def followings(seconds: Sequence[float]) -> Iterator[tuple[float, float]]:
 
 
 def slow_down(red: bytearray, first: int, last: int) -> None:
-    """Makes some seconds red in each gap between two seconds from the start: HIDDEN after every SHOWN, so that no more
-    vehicles use the gap than can."""
+    """Makes some seconds red in each gap between the seconds first and last from the start: HIDDEN after every SHOWN,
+    so that no more vehicles use the gap than can."""
     at = red.find(0, max(0, first), max(0, last))
     while at >= 0:
         close(red, at + SHOWN, at + SHOWN + HIDDEN)

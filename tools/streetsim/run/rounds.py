@@ -133,7 +133,7 @@ def giving_way_to_scripts(
 ) -> tuple[Run, Yielding]:
     """The run of a script with signal lines by which the vehicles of its file give way without a light, and how many
     they are. As its end is not known, rounds end when all have arrived, or an hour after the last departure; nobody is
-    rescued. program: None: the usual one."""
+    rescued. program: None: the usual one; workers: its threads."""
     settings = Settings(script_end(run), rescue=0, lights=lights)
     return giving_way(run, mapping, settings, rounds, partial(serving, program, run.path, workers), lambda *_: None)
 

@@ -115,7 +115,7 @@ def search_bounds(search: Search, given: Bounded, lowest: int) -> None:
 
 def for_all(given: Bounded, lowest: int) -> Iterator[tuple[str, Bounded]]:
     """Bounds that are tried for all lights at once, (name of the step, bounds): each gap of GAPS, then all mosts
-    shorter and longer."""
+    shorter and longer. lowest: as of Bounds.with_green."""
     for gap in GAPS:
         yield f"gaps of {gap:g} s", {name: replace(own, gap=gap) for name, own in given.items()}
     for share in (SHORTER, LONGER):

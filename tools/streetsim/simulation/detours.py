@@ -94,5 +94,5 @@ class Detours:
         return min([target, *(max(self.simulation.clock + 1, one.due) for one in self.turning.values())])
 
     def enter_anew(self, name: str, rest: tuple[int, ...], depart: int) -> None:
-        """Takes a vehicle out, and enters it on other links (rest) at a clock."""
+        """Takes a vehicle out, and enters it on other links (rest) at the clock depart."""
         self.simulation.enter_anew(name, rest, depart, self.simulation.fleet.plans[name][: self.begun.get(name, 0)])

@@ -11,6 +11,7 @@ class Remembering(Client):
     state: a run repeats exactly."""
 
     def __init__(self, program: str | None = None, workers: int = 1) -> None:
+        """program: None: the usual one; workers: its threads."""
         super().__init__(program, workers)
         self.words = program, workers
         self.changes: list[bytes] = []

@@ -68,7 +68,8 @@ class Shown:
         return commands, report.warnings
 
     def own(self, light: str, node: int, phases: Sequence[tuple[float, str]], offset: float, report: Report) -> LitNode:
-        """A light's program at one of its nodes, in the form from which signal lines are made."""
+        """A light's program at one of its nodes, in the form from which signal lines are made; offset: as in a tlLogic,
+        seconds."""
         turns = [(turn.link, turn.lane, turn.next, turn) for turn in self.turns(node)]
         edges = {link: self.map.links[link].edge for link, *_ in turns}
         program = Program(offset, list(phases), "static")
@@ -90,7 +91,8 @@ class Shown:
         return commands
 
     def resume(self, light: str, phases: Sequence[tuple[float, str]], offset: float, clock: int, node: int) -> None:
-        """Goes on, at a node, with a program that is sent phase by phase and whose present phase was sent before."""
+        """Goes on, at a node, with a program that is sent phase by phase and whose present phase was sent before.
+        offset: as in a tlLogic, seconds; clock: now."""
         self.coming[node] = Phases(self.own(light, node, phases, offset, Report()), clock)
         list(self.coming[node].due(clock))
 

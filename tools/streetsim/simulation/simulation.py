@@ -27,7 +27,7 @@ class Simulation:
         self, source: Run, mapping: Map, rounds: int, program: str | None = None, workers: int = 1, merging: bool = True
     ) -> None:  # fmt: skip
         """rounds: runs that are made before, by which vehicles of the file give way without a light; program: None: the
-        usual one; merging: whether vehicles merge before works by turns."""
+        usual one; workers: its threads; merging: whether vehicles merge before works by turns."""
         self.source, self.map = source, mapping
         self.clock, self.sent = source.start(), 0  # sent: how many of the file's timed lines
         self.shown = Shown(mapping, (line.command for line in source.first))
@@ -205,8 +205,9 @@ class Simulation:
         self.send(map(line_of, self.merges.end()))
 
     def works_place(self, lane: str, begin: float, end: float | None) -> Command:
-        """The fields link, lane, first and last (cells) of a close or reopen command. A lane may be closed to the whole
-        metre in which it ends, as streetsim-run --close allows; ValueError beyond that."""
+        """The fields link, lane, first and last (cells) of a close or reopen command for a lane from begin to end
+        metres (None: its end). A lane may be closed to the whole metre in which it ends, as streetsim-run --close
+        allows; ValueError beyond that."""
         number, index = self.lane_of[lane]
         link = self.map.links[number]
         last = link.metres if end is None else end

@@ -152,8 +152,8 @@ class Network:
             )
 
     def turn(self, link: int, next_lane: int, connection: Connection, added: bool) -> Turn:
-        """The turn of a connection from a link to a lane of the next link; added: SUMO has no connection from this lane
-        or link."""
+        """The turn of a connection from a link to the lane next_lane of the next link; added: SUMO has no connection
+        from this lane or link."""
         speed = connection.speed or self.links[link].speed
         return Turn(next_lane, connection.light, connection.index, added, speed, self.links[link].limit)
 
@@ -434,8 +434,8 @@ def limit_and_cells(lane: Lane, dawdle: float, in_ring: bool, free_limits: range
 
 
 def buffers(links: Sequence[Link], nodes: int, options: Options) -> list[int]:
-    """How many vehicles the buffer of each node holds: those of the options, and for each lane that leads there a share
-    of those for whom links behind the node have fewer cells than their length, for the sake of speed."""
+    """For each of so many nodes how many vehicles its buffer holds: those of the options, and for each lane that leads
+    there a share of those for whom links behind the node have fewer cells than their length, for the sake of speed."""
     lanes, lacking = Counter[int](), Counter[int]()
     for link in links:
         lanes[link.end] += len(link.lanes)

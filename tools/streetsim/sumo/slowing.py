@@ -148,7 +148,7 @@ def lane_of(lane: Lane, part: Part, metres: float, slow: Slow) -> Lane:
 
 
 def cut(shape: Sequence[Point], begin: float, end: float) -> list[Point]:
-    """The piece of a line between two shares (0 to 1) of its length."""
+    """The piece of a line between two shares, begin and end (0 to 1), of its length."""
     ways = list(accumulate((dist(*pair) for pair in pairwise(shape)), initial=0.0))
     first, last = begin * ways[-1], end * ways[-1]
     inside = [point for point, way in zip(shape, ways, strict=True) if first < way < last]

@@ -41,7 +41,7 @@ class Stop:
     why: str = ""  # it can not be made
 
     def later(self, shift: float) -> Stop:
-        """The stop with its until so many seconds later; without until it stays as it is."""
+        """The stop with its until shift seconds later; without until it stays as it is."""
         return self if self.until is None else replace(self, until=self.until + round(shift))
 
 

@@ -283,8 +283,9 @@ def lane_there(movement: Movement, start: int, length: int, factor: float) -> fl
 
 
 def lane_queue(movement: Movement, foe: Movement, factor: float) -> int:
-    """As queue_seconds, for the whole lane of a foe, as those who wait hold up the others; where most on it do not go
-    first, of those who do alone."""
+    """The seconds of the cycle, as bits, in which the queue of a foe's whole lane leaves, where traffic is factor times
+    the usual: all on the lane, as those who wait hold up the others; where most on it do not go before movement, of
+    those who do alone."""
     first = [one for one in movement.foes if one.lane == foe.lane]
     most = 2 * sum(one.passing for one in first) >= sum(one.passing for one in foe.sharing)
     seconds = sum(one.passing * time_of(one, most_against(one)) for one in (foe.sharing if most else first))
@@ -431,7 +432,8 @@ def hidden_start(length: int, speed: float, limit: int) -> int:
 def hidden_middle(length: int, speed: float, limit: int) -> tuple[int, int]:
     """The (begin, end) of the seconds that are not shown from half of a green of length seconds on, so that as many
     pass here as in SUMO: who has waited alone for its begin then goes at once, as in SUMO. As a queue starts twice they
-    are more seconds than at the begin. A green below TWO_PARTS has them at its begin."""
+    are more seconds than at the begin. A green below TWO_PARTS has them at its begin. speed: metres a second; limit:
+    cells a step."""
     if length < TWO_PARTS:
         return 0, hidden_start(length, speed, limit)
     half, vehicles = length // 2, leaving(length, speed)

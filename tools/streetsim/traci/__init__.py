@@ -68,7 +68,8 @@ def simulationStep(step: float = 0) -> None:
 
 
 def close(wait: bool = True) -> None:
-    """Ends the run: output files are written under their names, and all subscriptions and listeners are forgotten."""
+    """Ends the run: output files are written under their names, and all subscriptions and listeners are forgotten. wait
+    has no effect."""
     session = _now()
     _running.clear()
     for domain in _domains:
@@ -119,7 +120,7 @@ def addStepListener(listener: StepListener) -> int | None:
 
 
 def removeStepListener(listenerID: int) -> bool:
-    """Takes off the listener of a number; gives whether there was one."""
+    """Takes off the listener of a number (listenerID); gives whether there was one."""
     _now()
     return _listeners.remove(listenerID)
 

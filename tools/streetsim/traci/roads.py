@@ -185,8 +185,8 @@ class Edge(Lane):
     def adaptTraveltime(
         self, name: str, time: float | None = None, begin: float | None = None, end: float | None = None
     ) -> None:
-        """Sets the seconds with which the edge counts for ways that are searched from now on; None: those of its
-        traffic again. NotHere with begin or end."""
+        """Sets the time, in seconds, with which the edge counts for ways that are searched from now on; None: that of
+        its traffic again. NotHere with begin or end."""
         self.check(name, self.now().map.links_of)
         if begin is not None or end is not None:
             raise NotHere("edge.adaptTraveltime: times of day are not here; set the seconds when they begin to count")

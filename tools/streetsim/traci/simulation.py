@@ -133,8 +133,8 @@ class Simulation(Domain, SimulationCalls[Session]):
         return self.now().facts.boundary
 
     def convert2D(self, edgeID: str, pos: float, laneIndex: int = 0, toGeo: bool = False) -> Point:
-        """The point (x, y) of a place on a lane; pos: metres from its begin, those beyond the lane count as its ends.
-        NotHere for degrees (toGeo)."""
+        """The point (x, y) in metres of a place on a lane, by edge and laneIndex; pos: metres from its begin, those
+        beyond the lane count as its ends. NotHere for degrees (toGeo)."""
         if toGeo:
             raise NotHere("simulation.convert2D: degrees are not here; streetsim-export writes them")
         lane = self.lane(edgeID, laneIndex)
@@ -160,8 +160,8 @@ class Simulation(Domain, SimulationCalls[Session]):
     def getDistance2D(
         self, x1: float, y1: float, x2: float, y2: float, isGeo: bool = False, isDriving: bool = False
     ) -> float:
-        """Metres between two points, in a straight line, or (isDriving) on the road between the places nearest to them.
-        NotHere for degrees (isGeo)."""
+        """Metres between two points, given in metres: in a straight line, or (isDriving) on the road between the places
+        nearest to them. NotHere for degrees (isGeo)."""
         if isGeo:
             raise NotHere("simulation.getDistance2D: degrees are not here")
         if not isDriving:

@@ -271,8 +271,8 @@ class Vehicle(VehicleCalls[Session], Placed):
         return None
 
     def between(self, other: int, metres: float, front: float) -> float:
-        """Metres from a front, front metres along a link, to the rear of another vehicle, whose link begins metres
-        further on; 0 at least."""
+        """Metres from a front, front metres along a link, to the rear of another vehicle (other: its number), whose
+        link begins metres further on; 0 at least."""
         fleet, place = self.now().fleet, self.now().view.places[other]
         link = self.now().map.links[place.link]
         rear = (place.front + 1 - fleet.sizes[fleet.names[other]]) * link.metres / link.cells
@@ -300,7 +300,7 @@ class Vehicle(VehicleCalls[Session], Placed):
     isStoppedParking = isStoppedTriggered = isAtBusStop = isAtContainerStop = isStopped
 
     def getStops(self, name: str, limit: int = 0) -> tuple[object, ...]:
-        """Empty: a run under TraCI makes no stops."""
+        """Empty: a run under TraCI makes no stops. limit has no effect."""
         self.where(name)
         return ()
 

@@ -24,7 +24,8 @@ class Observed:
     counts: array
 
     def add(self, movement: int, slice_: int, seconds: float) -> None:
-        """Adds a vehicle that took so many seconds for a movement; slices after the last count as the last."""
+        """Adds a vehicle that took so many seconds for a movement which it began in a slice; slices after the last
+        count as the last."""
         place = movement * self.slices + min(slice_, self.slices - 1)
         self.seconds[place] += seconds
         self.counts[place] += 1
@@ -137,7 +138,8 @@ def costs_of(
 
 
 def edge_sums(graph: Graph, slices: int, values: array) -> array:
-    """The sums over the movements of each edge, by edge and slice; values: by movement and slice."""
+    """The sums over the movements of each edge, at place edge * slices + slice; values: at place movement * slices +
+    slice."""
     sums = array("d", [0.0]) * (len(graph.edges) * slices)
     for movement, (edge, _) in enumerate(graph.movements):
         for slice_ in range(slices):

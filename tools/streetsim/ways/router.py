@@ -129,8 +129,8 @@ class Router:
         return found
 
     def opened(self, what: int | Way, clock: float) -> float:
-        """The clock at which one may enter an edge, or take a movement, that is reached at a clock: the same clock
-        where it is open."""
+        """The clock at which one may enter an edge, or take a movement (what), that is reached at a clock: the same
+        clock where it is open."""
         return next((end for begin, end in self.shut.get(what, ()) if begin <= clock < end), clock)
 
     def entered(self, way: Way, clock: float) -> float:

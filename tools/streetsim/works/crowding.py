@@ -45,8 +45,8 @@ def too_many(run: Run, mapping: Map, here: Sequence[Closure]) -> str:
 
 
 def coming(run: Run, mapping: Map, links: Sequence[int], first: int, last: int) -> int:
-    """How many vehicles would come to the first of some links between two seconds, if nobody were in their way, with
-    all these links one after the other in their plan."""
+    """How many vehicles would come to the first of some links between the seconds first and last, if nobody were in
+    their way, with all these links one after the other in their plan."""
     free_flow, plans, count = FreeFlow(mapping, run.load.command.get("dawdle", 0) / 1000), 0, len(links)
     for line in run.enters:
         plan = line.command["plan"]

@@ -101,8 +101,8 @@ def in_common(times: Iterable[Sequence[Times]]) -> Iterator[Times]:
 
 
 def coming_on(way: Way, run: Run, mapping: Map, first: int, last: int) -> int:
-    """How many vehicles would come to the movement's edge between two seconds, and go on to its next edge, if nobody
-    were in their way."""
+    """How many vehicles would come to the movement's edge between the seconds first and last, and go on to its next
+    edge, if nobody were in their way."""
     pairs = product(*(mapping.links_of[edge] for edge in way))
     return sum(coming(run, mapping, pair, first, last) for pair in pairs)
 
