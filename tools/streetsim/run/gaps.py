@@ -31,7 +31,8 @@ def gap_lines(mapping: Map, passed: Passed, start: int, wished: Passed | None = 
 
 
 def reds_of(mapping: Map, passed: Passed, start: int, wished: Passed | None = None) -> list[tuple[Waiting, bytearray]]:
-    """Those who give way, and for each second from the start whether they are red; as `gap_lines` has it."""
+    """(one who gives way, a byte for each second from start, 1: red) for each Waiting of a map; those before whom
+    nobody comes are left out. Arguments: as of gap_lines."""
     end = int(max((second for each in passed.values() for second, _ in each), default=start)) + TAIL
     times = by_turn(passed)
     coming = times if wished is None else coming_of(mapping, times, by_turn(wished))
@@ -40,7 +41,7 @@ def reds_of(mapping: Map, passed: Passed, start: int, wished: Passed | None = No
 
 
 def lines_of(mapping: Map, reds: Iterable[tuple[Waiting, Sequence[int]]], start: int) -> list[tuple[int, Line]]:
-    """The signal lines, (clock, line), of what `reds_of` gave."""
+    """The signal lines, (clock, line), of what reds_of gave, by rising clocks; start: the run's first clock."""
     turns_at: defaultdict[int, list[TurnKey]] = defaultdict(list)
     groups_at: defaultdict[int, list[Group]] = defaultdict(list)
     for turn in mapping.turns:

@@ -27,13 +27,13 @@ HOUR = 3600  # seconds
 
 @dataclass(slots=True)
 class Yielding:
-    """How vehicles give way without a light in a run."""
+    """How vehicles give way without a light in a run: by how many rounds, junctions and lines."""
 
     rounds: int = 0  # that were made for it
     junctions: int = 0
     lines: int = 0  # signals that were sent
     every: int = 0  # seconds between the polls of the rounds
-    crowded: dict[str, int] = field(default_factory=dict)  # edges that are nearly full, and who passes them then
+    crowded: dict[str, int] = field(default_factory=dict)  # by nearly full edge: vehicles that pass it then
 
     def told(self) -> str:
         """How many junctions give way by how many signal lines, for the user; empty where there are none."""

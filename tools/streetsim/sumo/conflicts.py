@@ -70,7 +70,7 @@ def foes_by_way(
 
 def foes(one: Connection, other: Connection, network: Network) -> dict[TurnKey, Foe]:
     """The turns of another connection, to which vehicles of one give way, {(link, lane, next link): foe}; each foe has
-    the gap in seconds that must be free before it."""
+    the gap in seconds that must be free before it, and how many seconds later it is out of the way."""
     link, lane = network.place_of[other.source, other.source_lane]
     links = network.links_of[other.source]
     fast = joins_fast(one, other, network.links[link].speed, other.source in network.rings)
