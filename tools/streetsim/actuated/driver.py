@@ -112,7 +112,9 @@ class Driver:
             one.in_force = one.in_force and one.name != light
 
     def meters(self, first: int) -> Iterator[Command]:
-        """The commands that place the detectors; first: the number in the run that the first of them gets."""
+        """The commands that place the detectors, one for each, in their order. first: the number in the run that the
+        first of them gets; it is kept as the commands are taken, and `look` asks detectors by it, so they are taken
+        before the first look."""
         self.first = first
         for one in self.cells:
             yield {"cmd": "meter", "link": one.link, "lane": one.lane, "cell": one.cell, "period": 1}

@@ -375,7 +375,9 @@ class Nema:
         return one.way(next(each for each in self.by_ring[one.ring] if each.phase.name == name))
 
     def following(self, one: Running) -> list[Way]:
-        """The changes that a ring wishes for from the phase that it shows; to itself where there is no other."""
+        """The change that a ring wishes for from the phase that it shows, one always, in a list: the nearest that it
+        may make now, where a next phase was decided on (`chosen`) on that one's side of the barrier. Where it may make
+        none, to the phase that was decided on, or to itself."""
         found: list[Way] = []
         decided = one.chosen
         if one.ready:

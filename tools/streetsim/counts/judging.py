@@ -60,7 +60,8 @@ class Sums:
 
     @property
     def share(self) -> float:
-        """The share, 0 to 1, of its counts whose GEH is below 5."""
+        """The share, 0 to 1, of its counts whose GEH is below 5; shorter periods of a place and class that begin in the
+        hour are one count."""
         return self.good / self.counts
 
     @property
@@ -105,7 +106,8 @@ class Judged:
 
     @property
     def share(self) -> float:
-        """The share, 0 to 1, of the counts of all hours whose GEH is below 5."""
+        """The share, 0 to 1, of the counts of all hours whose GEH is below 5. These are those of `hourly`: shorter
+        periods of a place and class that begin in one hour of the clock are one count."""
         return sum(one.good for one in self.hours) / sum(one.counts for one in self.hours)
 
     @property

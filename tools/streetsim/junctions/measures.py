@@ -113,7 +113,9 @@ class Measures:
         self.capacity = Capacity(self.greens, passages.logs, passed, self.flows, passages.start)
 
     def crossing(self, passage: Passage) -> Crossing | None:
-        """What a vehicle lost on a passage over an approach; none where its plan ends on the approach."""
+        """What a vehicle lost on a passage of an approach, which must have ended; none where its plan ends on the
+        approach. Where the edge stands in the plan twice, both passages are judged as the first: by the edge that
+        follows there, and by the time that one alone takes to it."""
         plan = self.plans[passage.car]
         at = next((at for at, link in enumerate(plan) if self.mapping.links[link].edge == passage.edge), None)
         if at is None or at + 1 == len(plan):

@@ -57,8 +57,9 @@ def gaps(session: Session, signals: bytes, seed: int) -> tuple[list, Yielding]:
 
 
 def with_gaps(session: Session, lines: list) -> Session:
-    """The session with signal lines, (clock, line), by which vehicles give way without a light, and with no more
-    rounds; its giving must not be None."""
+    """The session with signal lines, (clock, line), by which vehicles give way without a light, and without a giving:
+    no more rounds are made, and the run ends at its last clock, without merging before works, lights that detectors
+    drive and stops of buses. The giving of the given session must not be None."""
     giving = session.giving
     assert giving is not None
     made = session_of(session.program, with_lines(giving.run, lines), giving.until, giving.without)

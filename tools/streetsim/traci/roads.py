@@ -29,7 +29,8 @@ class Places(Placed, PlaceCalls[Session]):
         return [places[car].speed * METRES for car in self.cars(name) if car in places]
 
     def lengths(self, name: str) -> list[float]:
-        """The length of each vehicle there, metres, without the gap ahead of it."""
+        """The length of each vehicle there, metres, in the order of `cars`: its whole cells without the gap ahead, 5 m
+        for one cell and 12.5 m for two; not the length of its type in SUMO's file."""
         fleet = self.now().fleet
         return [fleet.sizes[fleet.names[car]] * METRES - GAP for car in self.cars(name)]
 
@@ -165,7 +166,8 @@ class Edge(Lane):
         return self.now().lanes_on(name)
 
     def getLaneNumber(self, name: str) -> int:
-        """How many lanes it has."""
+        """How many of its lanes the import kept, those open to the import's vehicle classes; so it may be fewer than in
+        SUMO, and their indexes need not begin at 0. TraCIException for an unknown edge."""
         return len(self.places(name))
 
     def getMaxSpeed(self, name: str) -> float:
