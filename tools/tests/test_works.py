@@ -1,5 +1,6 @@
 """Road works: parallel links are joint for the run, and what cannot be had is said."""
 import csv
+import gzip
 import json
 import os
 import unittest
@@ -111,6 +112,23 @@ class Works(Case):
             self.assertEqual((arrived, "joint" in told), (100, False))
             self.assertGreater(late, mean + 100)
             self.assertIn(words, told)
+
+    def test_works_that_share_metres(self):
+        """Works that end reopen nothing that others still close, in whichever order they are given."""
+        run, mapped = self.imported(more=("--joint", "a"))
+        [link] = read_map(mapped).links_of["a"]
+        for closed in (
+            ("a_0:50-200:60-200", "a_0:100-250:100-900"),
+            ("a_0:100-250:100-900", "a_0:50-200:60-200"),
+            ("a_0:100-250:200-900", "a_0:100-250:60-200"),
+        ):
+            self.run_with(run, mapped, *closed, more=("--every", 5))
+            first, last = read_map(mapped).links[link].cells_between(110, 190)
+            with gzip.open(self.folder / "out/lanes.jsonl.gz", "rt", encoding="utf-8") as file:
+                polls = [json.loads(line) for line in file]
+            lanes = [one for poll in polls if 300 <= poll["clock"] < 900 for one in poll["lanes"] if one[0] == link]
+            cells = {(lane, cell) for _, lane, on_it, *_ in lanes for _, cell, *_ in on_it if first <= cell <= last}
+            self.assertEqual({lane for lane, _ in cells}, {1}, closed)
 
     def test_three_lanes(self):
         """Of three lanes two are closed: one is joint with the open one, and who has the other takes a turn before."""

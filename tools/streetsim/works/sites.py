@@ -76,18 +76,30 @@ def closed(run: Run, mapping: Map, works: list[Works], how: str, searched: bool 
     sites = sites_of(works, mapping)
     closures = closures_at(sites)
     lost = lost_movements(run, mapping, closures)
-    timed = sorted([*run.timed, *(line for site in sites for line in lines_of(site))], key=lambda pair: pair[0])
+    timed = sorted([*run.timed, *lines_of(sites)], key=lambda pair: pair[0])
     stay = frozenset[Way]() if how == "lead" else frozenset(lost_ways(closed_ends(closures, mapping), mapping))
     made = round_works(replace(run, timed=timed), mapping, shut_links(sites, mapping), stay)
     told = list(told_of(lost, mapping, how, searched))
     return made if how == "lead" else waiting(made, mapping, lost), mapping, told
 
 
-def lines_of(site: Site) -> Iterator[tuple[int, Line]]:
-    """The timed lines of works, (clock, line): a close and a reopen."""
-    place = {"link": site.link, "lane": site.lane, "first": site.cells[0], "last": site.cells[1]}
-    for clock, name in ((site.works.first, "close"), (site.works.last, "reopen")):
-        yield clock, Line(0, json.dumps({"cmd": name, **place}), {"cmd": name, **place})
+def lines_of(sites: Sequence[Site]) -> list[tuple[int, Line]]:
+    """The timed lines of works, (clock, line): a close and a reopen of each. In a second in which works end, others
+    that last on cells of theirs are closed once more behind that, as reopening has opened these cells."""
+    found = [(site.works.last, line_of("reopen", site)) for site in sites]
+    found += [(site.works.first, line_of("close", site)) for site in sites]
+    for ended, other in product(sites, sites):
+        same_lane = (ended.link, ended.lane) == (other.link, other.lane)
+        if same_lane and ended.cells[0] <= other.cells[1] and other.cells[0] <= ended.cells[1]:
+            if other.works.first < ended.works.last < other.works.last:
+                found.append((ended.works.last, line_of("close", other)))
+    return sorted(found, key=lambda pair: (pair[0], pair[1].command["cmd"] == "close"))
+
+
+def line_of(name: str, site: Site) -> Line:
+    """The close or reopen of a place of works."""
+    command = {"cmd": name, "link": site.link, "lane": site.lane, "first": site.cells[0], "last": site.cells[1]}
+    return Line(0, json.dumps(command), command)
 
 
 def shut_links(sites: list[Site], mapping: Map) -> dict[int, list[tuple[int, int]]]:
