@@ -74,7 +74,13 @@ class Told(Crossing):
         names = self.names("--names", own)
         self.assertEqual((names.junction("M"), names.street("w"), names.street("n")), ("Town Hall", "Quay", ""))
         self.assertEqual(names.movement("i", "w"), "from the west into Quay")
-        for text, told in (("id,name\nx,Y\n", "line 2: the map has no edge or junction 'x'"), ("a,b\n", "id, name")):
+        for text, told in (
+            ("id,name\nx,Y\n", "line 2: the map has no edge or junction 'x'"),
+            ("a,b\n", "id, name"),
+            ("id,name\nM,Y\nM,Z\n", "line 3: 'M' twice"),
+            ("id,name\nM\n", "line 2: expected the columns id, name"),
+            ("id,name\nM,Y,Z\n", "line 2: expected the columns id, name"),
+        ):
             said = self.tool(
                 "import", self.folder / "x.net.xml", "-o", self.folder / "y", "--map", self.folder / "z", "--names",
                 self.write("bad.csv", text), status=2,

@@ -214,6 +214,7 @@ class Pages(Given):
             ((self.folder / "no",), "no folder that streetsim-run wrote"),
             ((plans[1], "--begin", "5"), "--begin 5: no interval begins there, of 0, 900"),
             ((plans[1],) * 3, "a report is of one run, or of two"),
+            ((plans[1], "--short", "--detail", 0), "--detail is of the appendix, which --short leaves out"),
             ((plans[1], "--last", 0), "--last is of the corridor's picture: give --corridor too"),
         ):
             with self.subTest(told):

@@ -33,6 +33,7 @@ from streetsim.results.series import reds, trajectories, way_back
 # Words that say where a page is and what it is of; --plans and --names are sealed beside them.
 ALL = "all"  # --sheets without a value
 ELSEWHERE = ("runs", "output", "csv", "names", "plans", "sealed", "counts")
+DETAIL = 8  # junctions told with all movements
 PICTURE = {"first": 0, "last": 600}  # seconds of the corridor's picture
 
 
@@ -57,9 +58,8 @@ def parser() -> Parser:
     made.add_argument(
         "--detail",
         type=within(0, 10_000),
-        default=8,
         metavar="N",
-        help="junctions told with all movements, first those that change or are worse than D (default %(default)s)",
+        help=f"junctions told with all movements, first those that change or are worse than D (default {DETAIL})",
     )
     made.add_argument(
         "--sealed",
@@ -141,16 +141,18 @@ def text_again(arguments: list[str], seal: Seal) -> str:
 
 
 def refuse(words: argparse.Namespace) -> None:
-    """Fault for words that do not fit to each other. Sets --first and --last where they were not given."""
+    """Fault for words that do not fit to each other. Sets --detail, --first and --last where they were not given."""
     if len(words.runs) > 2:
         raise Fault("a report is of one run, or of two: before and after")
     if words.plans and len(words.plans) != len(words.runs):
         raise Fault(f"--plans: {len(words.plans)} names for {len(words.runs)} runs")
     if words.attribute and not words.counts:
         raise Fault("--attribute is of --counts: give it too")
-    for name in ("corridor", "sheets", "counts"):
-        if words.short and getattr(words, name):
+    for name in ("corridor", "sheets", "counts", "detail"):
+        if words.short and getattr(words, name) not in (None, "", []):
             raise Fault(f"--{name} is of the appendix, which --short leaves out")
+    if words.detail is None:
+        words.detail = DETAIL
     for name, default in PICTURE.items():
         if getattr(words, name) is None:
             setattr(words, name, default)

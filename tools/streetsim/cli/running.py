@@ -6,7 +6,7 @@ from collections.abc import Callable, Sequence
 from dataclasses import replace
 
 from streetsim.actuated.lights import driven_lights
-from streetsim.base import program
+from streetsim.base import limits, program
 from streetsim.base.client import Census
 from streetsim.base.files import Fault, whole_folder
 from streetsim.base.jobs import side_by_side
@@ -28,6 +28,7 @@ from streetsim.run.asking import told_of_polls
 from streetsim.run.ending import first_guess
 from streetsim.run.settings import Settings
 from streetsim.works.asked import all_works
+from streetsim.works.closures import closures_of
 from streetsim.works.sites import Asking, with_works
 
 DETECTORS = {"e1": "inductionLoop", "e2": "laneAreaDetector"}  # SUMO's names, by the kind of output
@@ -44,9 +45,7 @@ def run_by(words: argparse.Namespace, given: Sequence[str], again: Sequence[str]
     run, mapping = read_with_map(words.run, words.map)
     settings = settings_of(words, run)
     refuse_unknown(words, settings, mapping)
-    for name in ("lost", "works_limit"):
-        if getattr(words, name) and not words.close:
-            raise Fault(f"--{name.replace('_', '-')} is of road works: give --close too")
+    refuse_unused(words, run, mapping)
     works = all_works(words.close, mapping, run.start(), words.until)
     asking = Asking(tuple(listed(words.joint)), words.lost or "lead", words.works_limit)
     run, mapping, told = with_works(run, mapping, words.map, works, asking)
@@ -71,6 +70,15 @@ def run_by(words: argparse.Namespace, given: Sequence[str], again: Sequence[str]
         figures = one_run(making, run, mapping, settings, folder, shown.show)
     report(figures, "")
     return 0
+
+
+def refuse_unused(words: argparse.Namespace, run: Run, mapping: Map) -> None:
+    """Fault for words of road works in a run that has none, and for --merge none where there are no stops either."""
+    for name in ("lost", "works_limit"):
+        if getattr(words, name) and not words.close:
+            raise Fault(f"--{name.replace('_', '-')} is of road works: give --close too")
+    if words.merge == "none" and not (words.close or mapping.visits or closures_of(run, limits.CLOCK)):
+        raise Fault("--merge is of road works and of stops, and the run has neither: give --close too")
 
 
 def write_inputs(words: argparse.Namespace, folder: str, run: Run, mapping: Map) -> None:

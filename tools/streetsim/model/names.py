@@ -115,7 +115,8 @@ def beside(called: Callable[[str], str] | None, cell: object) -> list[object]:
 
 def read_own(path: FilePath, mapping: Map) -> None:
     """Adds names of one's own to a map, in place of those that it has; an empty name takes one away. The file is a CSV
-    with the columns id (of an edge, junction or light) and name; Fault where an id is unknown."""
+    with the columns id (of an edge, junction or light) and name; Fault where an id is unknown or stands twice, and
+    where a line has another number of columns."""
     edges, junctions = dict(mapping.names.get(EDGES, {})), dict(mapping.names.get(JUNCTIONS, {}))
     nodes = {name for name, *_ in mapping.nodes} | {light for light, _ in mapping.signals}
     lights = {light: mapping.nodes[node][0] for light, node in mapping.signals}
@@ -123,8 +124,15 @@ def read_own(path: FilePath, mapping: Map) -> None:
         rows = csv.DictReader(file)
         if tuple(rows.fieldnames or ()) != COLUMNS:
             raise Fault(f"{path}: expected the columns {', '.join(COLUMNS)}")
+        seen: set[str] = set()
         for row in rows:
-            own, name = row["id"], (row["name"] or "").strip()
+            own, name = row["id"], row["name"]
+            if name is None or None in row:
+                raise Fault(f"{path}: line {rows.line_num}: expected the columns {', '.join(COLUMNS)}")
+            name = name.strip()
+            if own in seen:
+                raise Fault(f"{path}: line {rows.line_num}: {own!r} twice")
+            seen.add(own)
             if own not in mapping.links_of and own not in nodes:
                 raise Fault(f"{path}: line {rows.line_num}: the map has no edge or junction {own!r}")
             if own in mapping.links_of:

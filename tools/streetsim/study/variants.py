@@ -126,6 +126,8 @@ def joint_lanes(path: str, study: Json) -> dict[tuple[str, str], dict[str, None]
     for name, variant in study["variant"].items():
         with naming(where := f"{path}: variant {name!r}"):
             check_types(where, {**study, **variant})
+            if "lost" in variant and not variant.get("close"):
+                raise Fault(f"{where}: lost is of works: close = [..] is needed too")
             lanes = found.setdefault(pair_of(study, variant), {})
             if closed := variant.get("close"):
                 mapping = read_map(os.path.join(os.path.dirname(os.path.abspath(path)), pair_of(study, variant)[1]))
