@@ -249,6 +249,8 @@ class Kept(KeptCase):
 
     def test_what_is_refused(self):
         self.refused("--keep", self.folder / "no/day", fault="No such file or directory")
+        for read in (self.run_path, self.map_path):
+            self.refused("--keep", read, fault="--keep names a file that is read")
         self.refused("--keep", self.file, "-o", self.folder / "x.html", fault="-o writes one file")
         self.do()
         self.refused("--keep", self.file, fault="another streetsim-live keeps its session there")

@@ -6,7 +6,7 @@ import webbrowser
 from pathlib import Path
 
 from streetsim.actuated.lights import driven_lights
-from streetsim.base.files import Fault, whole_file
+from streetsim.base.files import Fault, refuse_equal, whole_file
 from streetsim.base.program import find_program
 from streetsim.base.report import some
 from streetsim.base.words import Parser, add_rounds, listed, within
@@ -105,6 +105,8 @@ def main(arguments: list[str]) -> int:
     words = parser().parse_args(arguments)
     if words.keep and words.output:
         raise Fault("--keep is of a page that is served, and -o writes one file")
+    if words.keep:
+        refuse_equal({"--keep": words.keep, "its page": f"{words.keep}.page"}, (words.run, words.map))
     kept = find_program(words.program) if words.keep else ""
     proved = is_whole_built(kept) if kept else is_built(words.program, bool(words.output))
     run, mapping = read_with_map(words.run, words.map)
