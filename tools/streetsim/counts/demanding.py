@@ -67,7 +67,8 @@ class Basis:
     thinned: tuple[int, int]  # pairs that were kept, of how many
 
     def free_costs(self) -> Costs:
-        """The seconds of movements without other traffic, equal in all slices of time."""
+        """The costs of movements without other traffic, equal in all slices of time: the seconds of free, and more for
+        turning back."""
         return flat_costs(self.town.graph, list(self.free))
 
 

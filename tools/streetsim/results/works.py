@@ -74,7 +74,8 @@ def place_of(folder: Folder, rows: Sequence[dict[str, str]], seen: Counter[int])
 
 
 def link_of(folder: Folder, edge: str, lane: int) -> int:
-    """The link that has a lane of an edge, by SUMO's index of the lane; StopIteration where none has it."""
+    """The link that has a lane of an edge, by SUMO's index of the lane; StopIteration where the edge has no such lane,
+    KeyError where the map has no such edge."""
     links = folder.mapping.links
     return next(link for link in folder.mapping.links_of[edge] if lane in links[link].lanes)
 

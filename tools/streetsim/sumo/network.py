@@ -458,9 +458,10 @@ def middle(lanes: Sequence[Lane]) -> list[Point]:
 def residences(
     edges: Sequence[Edge], net: SumoNet, links: Sequence[Link], nodes: Sequence[str], options: Options, flows: Flows
 ) -> list[int]:
-    """The steps that a vehicle takes in each node (nodes: names of junctions): those of the options at signals and real
-    junctions, 1 elsewhere. At real junctions without a light, and where streets meet a roundabout, more: as many as
-    vehicles lose there on average."""
+    """The steps that a vehicle takes in each node, in the order of nodes (names of junctions): those of the options at
+    signals and real junctions (two edges in and two out at least, five in all), 1 elsewhere. At real junctions without
+    a light, and where streets meet a roundabout, more: as many as vehicles lose there on average, at most
+    limits.RESIDENCE."""
     into, out = Counter(edge.end for edge in edges), Counter(edge.begin for edge in edges)
     real = {name for name in nodes if into[name] >= 2 and out[name] >= 2 and into[name] + out[name] >= 5}
     ring = {name for edge in edges if edge.name in net.roundabouts for name in (edge.begin, edge.end)}

@@ -141,7 +141,8 @@ def signal_lines(own: LitNode, begin: int, last: int) -> list[Command]:
 
 
 def cycle_told(own: LitNode) -> str:
-    """What is said of a light whose program does not fit in one plan."""
+    """The part of a warning that says why a light's program is not one plan: its cycle. The caller names the light
+    before it, says behind it what is done instead, and knows that the program does not fit."""
     return f"a cycle of {len(own.states()):,} s does not fit in one plan"
 
 

@@ -32,8 +32,8 @@ def timings_of(net: SumoNet) -> Iterator[Timing]:
 
 
 def timings_of_files(net_path: str, additional: Iterable[str], classes: Sequence[str]) -> list[Timing]:
-    """The programs of the lights of a network and of additional files; the last program of a light counts. classes:
-    whose lanes are kept."""
+    """The programs of the lights of a network and of additional files, as timings_of gives them; the last program of a
+    light counts. classes: whose lanes are kept. Fault where a file cannot be read; warnings of reading are not told."""
     net = read_net(net_path, classes, Report())
     for path in additional:
         for element in elements(path, None):
