@@ -222,6 +222,9 @@ class Vehicles(Started):
         traci.start(["sumo", "-c", self.write("x.sumocfg", text), "-W"])
         traci.simulationStep(60)
         self.assertEqual((traci.simulation.getTime(), traci.vehicle.getIDList()), (60.0, ("later",)))
+        self.assertEqual(traci.simulation.getPendingVehicles(), ())
+        with self.assertRaisesRegex(traci.TraCIException, "Vehicle 'v' is not known."):
+            traci.vehicle.getRoadID("v")
 
     def test_configurations_and_additional_files_as_scenarios_have_them(self):
         """Any root, paths beside the file, short names; types and lights under the root <routes>."""

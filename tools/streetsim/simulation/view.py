@@ -29,6 +29,7 @@ class View:
         self.departed: list[int] = []  # in the last step
         self.arrived: list[int] = []
         self.gone: dict[str, int | None] = {}  # by name the step of its end
+        self.first = True  # whether no look was made
 
     def clear(self) -> None:
         """Forgets the places, as the clock has gone on."""
@@ -48,6 +49,9 @@ class View:
         self.departed = [car for car in self.places if car not in self.seen]
         self.seen.update(self.departed)
         self.note_gone([car for car in self.before if car not in self.places])
+        if self.first:
+            self.first = False
+            self.note_missed()
 
     def note_lane(self, place: tuple[int, int], reply: Lane) -> None:
         """Takes the reply on one lane."""
@@ -70,6 +74,14 @@ class View:
             self.gone[self.simulation.fleet.names[reply.car]] = reply.step
             if reply.state == "arrived":
                 self.arrived.append(reply.car)
+
+    def note_missed(self) -> None:
+        """Asks what became of the vehicles that nobody has seen, as the steps before the first look were not looked at,
+        and notes who ended meanwhile."""
+        fleet = self.simulation.fleet
+        for reply in self.simulation.vehicles(car for car in fleet.cars.values() if car not in self.seen):
+            if reply.state != "waiting":
+                self.gone[fleet.names[reply.car]] = reply.step
 
     def has_just_departed(self, car: int) -> bool:
         """Whether a vehicle stands in the first cell of its plan, as one that has just departed does."""
