@@ -4,9 +4,7 @@ use Rattle.std.proofs.KnownBytes.{Consumes-whole}
 use Rattle.std.specs.Io.KnownBytes.{Consumes, IsAtEnd}
 use Rattle.street_base.specs.declared.command.Command.TheVariants.{Count}
 use Rattle.street_base.specs.declared.reply.Outcome.{Outcome}
-use Rattle.street_base.specs.declared.reply.Outcome.TheVariants.{Whole, Starved, Short}
 use Rattle.street_base.specs.declared.reply.Reply.{Reply}
-use Rattle.street_base.specs.Prelude.{Allows, reply_to, State}
 use Rattle.street_clients.specs.Replies.{IsRetold, IsStopped}
 use Rattle.street_clients.specs.declared.tapes.Retold.{Retold}
 use Rattle.street_desk.specs.History.{state_of}
@@ -16,12 +14,7 @@ use Rattle.street_tape.specs.declared.fault.TapeFault.{TapeFault}
 use Rattle.street_tape.specs.Faults.{ReplaysWhole, ReplayStops, TapeBreaks}
 use Rattle.street_tape.specs.Replies.{output_from}
 use Rattle.street_tape.specs.Entries.{tape_reading}
-
--- a count is never starved, and never stops short
-counted : (m : State) (reply : Reply) (outcome : Outcome) → Allows m Count outcome → reply ≡ reply_to m Count outcome → reply ≡ reply_to m Count Whole
-counted m reply Whole h is = is
-counted m reply Starved h is = absurd h
-counted m reply (Short k) h is = absurd h
+use Rattle.street_tape.proofs.Counts.{counted}
 
 -- the reader had this text, and the writer nothing
 module _ (had left : Option (List ℕ)) (before text : List ℕ) (from : had ≡ Some text) (none : before ≡ []) where

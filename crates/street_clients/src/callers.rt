@@ -1,5 +1,6 @@
 //! Two callers, each on a thread of its own, who begin when both are there.
 ghost use Rattle.std.specs.Prelude.{◌≡◌, ◌≤◌, ℕ, List, ◌++◌, IfSome};
+ghost use Rattle.street_base.specs.Prelude.{most_calls};
 ghost use Rattle.street_clients.specs.Told.{AreTold, Replied};
 ghost use Rattle.street_stream.specs.Lines.{lines_of};
 ghost use Rattle.street_line.specs.Runs.{Goes};
@@ -133,7 +134,7 @@ pub fn serve_both<R: Threads + Wait + Sync>(
     calls: u64,
     lines: &str,
 ) -> Option<Told>
-    requires { (1 ≤ calls) × (calls ≤ 1000000) }
+    requires { (1 ≤ calls) × (calls ≤ most_calls) }
     ensures { IfSome result (λ told. AreTold calls (lines_of lines.now) (lines_of lines.now) told) }
 {
     let (desk, one, two) = desk_of_two(alloc, calls)?;

@@ -1,6 +1,7 @@
 //! A desk of two clients, from its passes to its tape.
 //! Source: this profile.
 ghost use Rattle.std.specs.Prelude.{◌≡◌, ◌≤◌, List, IfSome, true};
+ghost use Rattle.street_base.specs.Prelude.{most_calls};
 ghost use Rattle.street_clients.specs.Told.{EndsDesk, IsNew, IsWhole};
 ghost use Rattle.street_desk.specs.declared.journal.Entry.{Entry};
 ghost use Rattle.street_desk.specs.History.{BeginsWith};
@@ -28,7 +29,7 @@ pub fn desk_of_two(
     alloc: Global,
     calls: u64,
 ) -> Option<(Desk<Unwatched>, Pass<Unwatched>, Pass<Unwatched>)>
-    requires { (1 ≤ calls) × (calls ≤ 1000000) }
+    requires { (1 ≤ calls) × (calls ≤ most_calls) }
     ensures sessions { IfSome result (λ r. r.0.sessions ≡ 2) }
     ensures passes { IfSome result (λ r. IsNew r.0 0 r.1 × IsNew r.0 1 r.2) }
 {

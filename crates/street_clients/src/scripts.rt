@@ -1,5 +1,6 @@
 //! Two scripts that share one network.
 ghost use Rattle.std.specs.Prelude.{◌≡◌, ◌≤◌, [], IfSome, MatchOption, Some, None};
+ghost use Rattle.street_base.specs.Prelude.{most_calls};
 ghost use Rattle.street_clients.specs.Told.{AreTold, Replied, StayAtDesk};
 ghost use Rattle.street_line.specs.Scripts.{IsRun};
 
@@ -77,7 +78,7 @@ pub fn serve_both_scripts<R: Threads + Wait + Sync + Files<File = File>>(
     first: &str,
     second: &str,
 ) -> Option<Told>
-    requires { (1 ≤ calls) × (calls ≤ 1000000) }
+    requires { (1 ≤ calls) × (calls ≤ most_calls) }
     ensures { IfSome result (λ told. AreTold calls [] [] told) }
 {
     let (desk, one, two) = desk_of_two(alloc, calls)?;

@@ -2,6 +2,7 @@
 //!
 //! Source: this profile.
 ghost use Rattle.std.specs.Prelude.{◌≡◌, ◌+◌, ◌*◌, ◌/◌, ◌%◌, ◌^◌, ◌<◌, ◌≤◌, [], ◌∷◌, length, true, Some, None, MatchBool, IfOk, IfErr, IsOk};
+ghost use Rattle.street_base.specs.Prelude.{most_calls, most_sessions};
 ghost use Rattle.street_engine.specs.Prelude.{StandsFor};
 ghost use Rattle.street_desk.specs.declared.faults.SplitFault.TheVariants.{Single};
 ghost use Rattle.street_desk.specs.History.{state_of};
@@ -39,6 +40,7 @@ pub struct Desk<G: Gate + Sync + Drop + Send> {
 
 impl<G: Gate + Sync + Drop + Send> Model for Desk<G> {
     ghost use Rattle.std.specs.Prelude.{◌≡◌, ◌≤◌};
+    ghost use Rattle.street_base.specs.Prelude.{most_calls};
     ghost use Rattle.street_desk.specs.Passes.{DeskView};
 
     ghost Value = { DeskView };
@@ -50,7 +52,7 @@ impl<G: Gate + Sync + Drop + Send> Model for Desk<G> {
     } };
 
     ghost invariant = { λ d. (d.calls ≡ d.table.shared.key.calls)
-        × (d.calls ≤ 1000000)
+        × (d.calls ≤ most_calls)
         × (d.table.shared.table_id.words ≡ 1)
         × (d.table.shared.table_id.slots ≡ 1) };
 }
@@ -191,7 +193,7 @@ impl<G: Gate + Sync + Drop + Send> Desk<G> {
         sessions: u64,
     ) -> Result<(Desk<G>, Pass<G>), Starved>
         requires engine { StandsFor engine None }
-        requires counts { (1 ≤ calls) × (calls ≤ 1000000) × (1 ≤ sessions) × (sessions ≤ 1024) }
+        requires counts { (1 ≤ calls) × (calls ≤ most_calls) × (1 ≤ sessions) × (sessions ≤ most_sessions) }
         ensures { IfOk result (λ r. (r.0.calls ≡ calls) × (r.0.sessions ≡ sessions) × (r.1 ≡ first_pass r.0)) }
     {
         let recorder = Recorder::new(alloc, engine, calls)?;

@@ -1,6 +1,6 @@
 //! What is answered to the lines of a session.
 ghost use Rattle.std.specs.Prelude.{◌≤◌, None, IfOk};
-ghost use Rattle.street_base.specs.Prelude.{State};
+ghost use Rattle.street_base.specs.Prelude.{most_workers, State};
 ghost use Rattle.street_stream.specs.Lines.{lines_of};
 ghost use Rattle.street_line.specs.Engines.{MachineServes};
 ghost use Rattle.street_line.specs.Runs.{Goes};
@@ -24,7 +24,7 @@ pub fn answers<R: Threads + Sync>(
     gate: Unwatched,
     lines: &[u8],
 ) -> io::Result<Vec<u8>>
-    requires { (1 ≤ workers) × (workers ≤ 64) }
+    requires { (1 ≤ workers) × (workers ≤ most_workers) }
     ensures { IfOk result (λ out. (state : State) × Goes MachineServes None (lines_of lines.now) out.items state) }
 {
     let mut reader = Counted::new(lines);

@@ -6,6 +6,7 @@
 #![tactic(auto)]
 
 ghost use Rattle.std.specs.Prelude.{◌≤◌};
+ghost use Rattle.street_base.specs.Prelude.{most_workers};
 
 mod document;
 mod engine_answers;
@@ -72,7 +73,7 @@ fn same_before<R: Threads + Sync + AllocGlobal>(
     workers: u32,
     shared: bool,
 ) -> io::Result<Option<usize>>
-    requires { (1 ≤ workers) × (workers ≤ 64) }
+    requires { (1 ≤ workers) × (workers ≤ most_workers) }
 {
     let gate = if shared {
         Unwatched {

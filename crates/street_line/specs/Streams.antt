@@ -45,7 +45,8 @@ module _ {D W : Type 0} (remaining : D → Option (List ℕ)) (contents : W → 
   MachineServesAll old reader writer read written tally = (new : State) × ServesAll MachineServes remaining contents old reader writer new read written tally
 
   abbrev pub MachineServesFirst : State → Counted D → Counted W → Counted D → Counted W → RunFault → Type 0
-  MachineServesFirst old reader writer read written fault = (new : State) × ServesFirst MachineServes remaining contents old reader writer new read written fault
+  MachineServesFirst old reader writer read written fault =
+      (new : State) × ServesFirst MachineServes remaining contents old reader writer new read written fault
 
   -- whatever state the engine stood for, the machine serves so from that state on, and the engine then stands for the state that this leads to
   abbrev pub EngineServesAll : EngineView → Counted D → Counted W → EngineView → Counted D → Counted W → Tally → Type 0

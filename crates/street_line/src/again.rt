@@ -2,6 +2,7 @@
 //!
 //! Source: this profile.
 ghost use Rattle.std.specs.Prelude.{◌≡◌, ◌+◌, ◌<◌, ◌^◌, ◌++◌, List, ℕ, IfOk, IfErr, length};
+ghost use Rattle.street_base.specs.Prelude.{most_reads};
 ghost use Rattle.street_stream.specs.Lines.{cut};
 ghost use Rattle.street_stream.specs.OpenTexts.{IsOpen};
 ghost use Rattle.street_stream.specs.Streams.{IsFresh};
@@ -12,10 +13,9 @@ ghost use Rattle.street_line.specs.Runs.{said_by};
 use crate::service::{Served, Service};
 use std::alloc::Global;
 use std::io::Read;
-use street_base::Reply;
+use street_base::{MOST_READS, Reply};
 use street_stream::{
-    Answer, Cause, Counted, FaultKind, Halt, LineHandler, MOST_READS, OpenText, PartialLine,
-    whole_lines,
+    Answer, Cause, Counted, FaultKind, Halt, LineHandler, OpenText, PartialLine, whole_lines,
 };
 use street_text::{LONGEST_LINE, LineFault, LineReader};
 
@@ -191,7 +191,7 @@ pub fn run_again<S: Service, R: Read>(
     requires reader { IsFresh reader.old }
     ensures done { IfOk result (λ again. DoneAgain S.serves service.old (R.remaining reader.old.stream) service.new
         (R.remaining reader.new.stream) again.bytes) }
-    ensures caused { IfErr result (λ fault. IsAgainCaused fault reader.new 1000000000) }
+    ensures caused { IfErr result (λ fault. IsAgainCaused fault reader.new most_reads) }
 {
     let mut lines = LineReader::new(alloc);
     let mut text = OpenText::new(alloc, LONGEST_LINE);

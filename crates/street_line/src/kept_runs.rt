@@ -2,6 +2,7 @@
 //!
 //! Source: this profile. What is kept of the lines of a read is in the log, and stays there, before any reply to them goes out.
 ghost use Rattle.std.specs.Prelude.{◌≡◌, ◌<◌, ◌≤◌, ◌^◌, ◌++◌, List, ℕ, OnOk, IfErr, length};
+ghost use Rattle.street_base.specs.Prelude.{most_reads};
 ghost use Rattle.street_stream.specs.Lines.{cut, if_any};
 ghost use Rattle.street_stream.specs.OpenTexts.{IsOpen};
 ghost use Rattle.street_stream.specs.Streams.{IsFlushed, IsFresh, IsPrompt};
@@ -12,7 +13,8 @@ use crate::kept::{serve_last, serve_more};
 use crate::service::Service;
 use std::alloc::Global;
 use std::io::{Read, Write};
-use street_stream::{Counted, FaultKind, KeepFault, Log, MOST_READS, OpenText, keep_first};
+use street_base::MOST_READS;
+use street_stream::{Counted, FaultKind, KeepFault, Log, OpenText, keep_first};
 use street_text::{LONGEST_LINE, LineReader};
 
 /// Why a session that is kept ended before its text did.
@@ -135,7 +137,7 @@ pub fn run_kept<S: Service, R: Read, L: Log, W: Write>(
         service.new (R.remaining reader.new.stream) (L.held log.new) (L.synced log.new) (W.contents writer.new.stream)) }
     ensures broken { IfErr result (λ fault. KeptFirst S.serves service.old (R.remaining reader.old.stream) (L.held log.old)
         (W.contents writer.old.stream) (R.remaining reader.new.stream) (L.held log.new) (L.synced log.new) (W.contents writer.new.stream)) }
-    ensures caused { IfErr result (λ fault. IsKeptCaused L.has_failed fault reader.new log.new writer.new 1000000000) }
+    ensures caused { IfErr result (λ fault. IsKeptCaused L.has_failed fault reader.new log.new writer.new most_reads) }
     ensures prompt { IsPrompt reader.new }
     ensures flushed { OnOk result (IsFlushed writer.new) }
 {

@@ -2,6 +2,7 @@
 //!
 //! Source: this profile. Each reply is written, and passed on, before the next read.
 ghost use Rattle.std.specs.Prelude.{◌≡◌, OnOk};
+ghost use Rattle.street_base.specs.Prelude.{most_reads};
 ghost use Rattle.street_stream.specs.Streams.{IsFlushed, IsFresh, IsPrompt};
 ghost use Rattle.street_line.specs.Faults.{kind_of};
 ghost use Rattle.street_line.specs.Streams.{ServesLines};
@@ -10,8 +11,8 @@ use crate::server::LineServer;
 use crate::service::Service;
 use std::alloc::Global;
 use std::io::{Read, Write};
-use street_base::Starved;
-use street_stream::{Cause, Counted, FaultKind, Limits, MOST_READS, RunFault, Tally, drive_lines};
+use street_base::{MOST_READS, Starved};
+use street_stream::{Cause, Counted, FaultKind, Limits, RunFault, Tally, drive_lines};
 use street_text::{LONGEST_LINE, LineReader};
 
 /// Why the lines were not served to their end: one ends the run only where memory ran out.
@@ -82,7 +83,7 @@ pub fn run_lines<S: Service, R: Read, W: Write>(
     requires ready { S.ready }
     requires reader { IsFresh reader.old }
     requires writer { IsFresh writer.old }
-    ensures runs { ServesLines S.serves R.remaining W.contents 1000000000
+    ensures runs { ServesLines S.serves R.remaining W.contents most_reads
         service.old reader.old writer.old result service.new reader.new writer.new }
     ensures prompt { IsPrompt reader.new }
     ensures flushed { OnOk result (IsFlushed writer.new) }

@@ -2,6 +2,7 @@
 //!
 //! Source: this profile.
 ghost use Rattle.std.specs.Prelude.{◌≡◌, ◌↔◌, ◌⊎◌, ◌<◌, ◌≤◌, ℕ, [], All, IfSome, IsNone, IsSome, length, slice_index_or};
+ghost use Rattle.street_base.specs.Prelude.{most_reads};
 ghost use Rattle.street_desk.specs.Passes.{DeskView};
 ghost use Rattle.street_stream.specs.Streams.{IsFresh};
 ghost use Rattle.street_stream.specs.declared.tally.FaultKind.TheVariants as kinds;
@@ -86,8 +87,8 @@ pub fn answer_all<R: Threads + Wait + Sync, D: Read>(
     ensures desk { session.new.desk ≡ session.old.desk }
     ensures served { ReaderServed session.old (D.remaining reader.old.stream) (D.remaining reader.new.stream)
         result.0.items result.1 session.new }
-    ensures caused { IfSome result.1 (λ kind. IsCausedInMemory kind reader.new 1000000000) }
-    ensures bounded { reader.new.calls ≤ 1000000000 }
+    ensures caused { IfSome result.1 (λ kind. IsCausedInMemory kind reader.new most_reads) }
+    ensures bounded { reader.new.calls ≤ most_reads }
 {
     let mut writer = Counted::new(Vec::new(alloc));
     match run_lines(alloc, session, reader, &mut writer) {

@@ -2,6 +2,7 @@
 //!
 //! Source: this profile.
 ghost use Rattle.std.specs.Prelude.{◌≡◌, OnOk};
+ghost use Rattle.street_base.specs.Prelude.{most_reads};
 ghost use Rattle.street_stream.specs.Streams.{IsFlushed, IsFresh, IsPrompt};
 ghost use Rattle.street_line.specs.Sessions.{IsAlone};
 ghost use Rattle.street_line.specs.Streams.{AloneServesLines};
@@ -29,7 +30,7 @@ pub fn run_alone<R: Threads + Wait + Sync, D: Read, W: Write>(
     requires alone { IsAlone session.old }
     requires reader { IsFresh reader.old }
     requires writer { IsFresh writer.old }
-    ensures runs { AloneServesLines D.remaining W.contents 1000000000
+    ensures runs { AloneServesLines D.remaining W.contents most_reads
         session.old reader.old writer.old result session.new reader.new writer.new }
     ensures prompt { IsPrompt reader.new }
     ensures flushed { OnOk result (IsFlushed writer.new) }

@@ -2,6 +2,7 @@
 //!
 //! Source: this profile.
 ghost use Rattle.std.specs.Prelude.{◌≡◌, ◌≤◌, IfOk, IfErr, OnOk};
+ghost use Rattle.street_base.specs.Prelude.{most_reads};
 ghost use Rattle.street_stream.specs.Streams.{IsFlushed, IsFresh, IsPrompt};
 ghost use Rattle.street_stream.specs.Faults.{IsCaused};
 ghost use Rattle.street_line.specs.Streams.{EngineServesAll, EngineServesFirst};
@@ -77,8 +78,8 @@ pub fn run_team<R: Threads + Wait + Sync, D: Read, W: Write>(
         session.old reader.old writer.old session.new reader.new writer.new) }
     ensures broken { IfErr result (EngineServesFirst D.remaining W.contents
         session.old reader.old writer.old session.new reader.new writer.new) }
-    ensures caused { IfErr result (λ fault. IsCaused fault.kind reader.new writer.new 1000000000) }
-    ensures bounded { reader.new.calls ≤ 1000000000 }
+    ensures caused { IfErr result (λ fault. IsCaused fault.kind reader.new writer.new most_reads) }
+    ensures bounded { reader.new.calls ≤ most_reads }
     ensures prompt { IsPrompt reader.new }
     ensures flushed { OnOk result (IsFlushed writer.new) }
 {

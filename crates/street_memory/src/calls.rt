@@ -2,7 +2,7 @@
 
 use std::sync::Wait;
 use std::thread::Threads;
-use street_base::{Command, Outcome, Reply};
+use street_base::{Command, MOST_DETECTORS, MOST_STEPS, MOST_VEHICLES, Outcome, Reply};
 use street_engine::{Engine, Unwatched};
 
 /// Why a command has no answer.
@@ -52,14 +52,23 @@ pub(crate) enum Answer {
     Short { made: u64, rest: u64 },
 }
 
-/// The clock and the counts of a census; nothing where nothing is loaded.
-type Counts = Option<(u64, u64, u64, u64, u64, u64, u64)>;
+/// The clock and the counts of a census.
+#[derive(Clone, Copy, Debug, PartialEq, Eq)]
+struct Counts {
+    admitted: u64,
+    arrived: u64,
+    buffers: u64,
+    cells: u64,
+    clock: u64,
+    taken: u64,
+    waiting: u64,
+}
 
-/// What a count answers, which takes no memory.
+/// What a count answers, which takes no memory; nothing where nothing is loaded.
 fn counts<R: Threads + Wait + Sync>(
     rt: &R,
     engine: &mut Engine<Unwatched>,
-) -> Result<Counts, Stop> {
+) -> Result<Option<Counts>, Stop> {
     let (reply, outcome) = engine.apply(rt, &Command::Count);
     if outcome != Outcome::Whole {
         return Err(Stop::Wrong("a count was starved"));
@@ -73,9 +82,15 @@ fn counts<R: Threads + Wait + Sync>(
             clock,
             taken,
             waiting,
-        } => Ok(Some((
-            *admitted, *arrived, *buffers, *cells, *clock, *taken, *waiting,
-        ))),
+        } => Ok(Some(Counts {
+            admitted: *admitted,
+            arrived: *arrived,
+            buffers: *buffers,
+            cells: *cells,
+            clock: *clock,
+            taken: *taken,
+            waiting: *waiting,
+        })),
         _ => Ok(None),
     }
 }
@@ -143,10 +158,10 @@ fn check_starved(may: bool, reply: &Reply) -> Result<(), Stop> {
     }
 }
 
-/// The clock of some counts.
-fn clock_of(counts: Counts) -> u64 {
+/// The clock of some counts; 0 where nothing is loaded.
+fn clock_of(counts: Option<Counts>) -> u64 {
     match counts {
-        Some((_, _, _, _, clock, _, _)) => clock,
+        Some(counts) => counts.clock,
         None => 0,
     }
 }
@@ -189,9 +204,27 @@ pub(crate) fn go_on_without<R: Threads + Wait + Sync>(
 ) -> Result<(), Stop> {
     check_whole(rt, engine, &Command::Count)?;
     check_whole(rt, engine, &Command::Advance { steps: 0 })?;
-    check_whole(rt, engine, &Command::Advance { steps: 10_001 })?;
-    check_whole(rt, engine, &Command::Vehicle { car: 1_000_000 })?;
-    check_whole(rt, engine, &Command::ReadMeter { meter: 1_024 })?;
+    check_whole(
+        rt,
+        engine,
+        &Command::Advance {
+            steps: MOST_STEPS + 1,
+        },
+    )?;
+    check_whole(
+        rt,
+        engine,
+        &Command::Vehicle {
+            car: u64::from(MOST_VEHICLES),
+        },
+    )?;
+    check_whole(
+        rt,
+        engine,
+        &Command::ReadMeter {
+            meter: MOST_DETECTORS as u64,
+        },
+    )?;
     for car in 0..8 {
         check_whole(rt, engine, &Command::TakeOut { car })?;
         check_whole(rt, engine, &Command::Vehicle { car })?;

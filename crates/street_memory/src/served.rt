@@ -6,7 +6,7 @@ use crate::texts::{is_line, read, text_of};
 use std::alloc::Global;
 use std::sync::Wait;
 use std::thread::Threads;
-use street_base::{Command, Reply};
+use street_base::{Command, MOST_WORKERS, Reply};
 use street_engine::{Engine, Unwatched};
 
 /// Where a session was answered otherwise than it should be.
@@ -122,7 +122,7 @@ pub(crate) fn serve_session<R: Threads + Wait + Sync>(
         from: 0,
         processors: 4,
     };
-    let mut engine = Engine::new(alloc, session.workers.clamp(1, 64), gate);
+    let mut engine = Engine::new(alloc, session.workers.clamp(1, MOST_WORKERS as u32), gate);
     for at in 0..session.lines.len() {
         let stop = match serve_line(rt, alloc, &mut engine, session, way, at, met) {
             Ok(()) => continue,

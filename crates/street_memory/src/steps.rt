@@ -6,9 +6,8 @@ use crate::texts::read;
 use std::alloc::Global;
 use std::sync::Wait;
 use std::thread::Threads;
-use street_base::{Command, Outcome, Refusal, Reply};
+use street_base::{Command, MOST_WORKERS, Outcome, Refusal, Reply};
 use street_engine::{Engine, Unwatched};
-use street_line::EngineSession;
 
 /// A link of 10 cells into another, by a node in which a vehicle stays for a step at least.
 const LOAD: &str =
@@ -33,7 +32,7 @@ fn begun<R: Threads + Wait + Sync>(
         from: 0,
         processors: 4,
     };
-    let mut engine = Engine::new(alloc, workers.clamp(1, 64), gate);
+    let mut engine = Engine::new(alloc, workers.clamp(1, MOST_WORKERS as u32), gate);
     for line in [LOAD, plan, LATE, r#"{"cmd":"advance","steps":1}"#] {
         let command = read(alloc, line)?;
         let _reply = call_with_memory(rt, &mut engine, Way::Lent, &command)?;
@@ -87,11 +86,10 @@ fn is_named(refusal: &Refusal) -> bool {
 /// Steps until the first vehicle has arrived, a count, a refusal, and all that `go_on_without` calls; or what is wrong.
 fn go_on<R: Threads + Wait + Sync>(
     rt: &R,
-    engine: Engine<Unwatched>,
+    mut engine: Engine<Unwatched>,
     way: Way,
     steps: u64,
 ) -> Result<(), &'static str> {
-    let mut engine = EngineSession::new(rt, engine).into_engine();
     if !are_made(rt, &mut engine, way, steps, steps.saturating_add(1)) {
         return Err("steps were not made");
     }

@@ -6,6 +6,7 @@
 
 ghost use Rattle.std.specs.Prelude.{◌≡◌, None, IfOk, IfErr, OnOk, OnErr};
 ghost use Rattle.std.specs.Process.{exit_status};
+ghost use Rattle.street_base.specs.Prelude.{most_reads};
 ghost use Rattle.street_stream.specs.Streams.{IsFlushed, IsFresh, IsPrompt};
 ghost use Rattle.street_stream.specs.Faults.{IsCaused};
 ghost use Rattle.street_line.specs.Streams.{MachineServesAll, MachineServesFirst};
@@ -51,7 +52,7 @@ fn serve<R: Threads + Sync, D: Read, W: Write>(
     requires writer { IsFresh writer.old }
     ensures served { IfOk result (MachineServesAll D.remaining W.contents None reader.old writer.old reader.new writer.new) }
     ensures broken { IfErr result (MachineServesFirst D.remaining W.contents None reader.old writer.old reader.new writer.new) }
-    ensures caused { IfErr result (λ fault. IsCaused fault.kind reader.new writer.new 1000000000) }
+    ensures caused { IfErr result (λ fault. IsCaused fault.kind reader.new writer.new most_reads) }
     ensures prompt { IsPrompt reader.new }
     ensures flushed { OnOk result (IsFlushed writer.new) }
 {

@@ -4,9 +4,7 @@ use Rattle.std.proofs.KnownBytes.{Appends-trans}
 use Rattle.std.specs.Io.KnownBytes.{Appends}
 use Rattle.street_base.specs.declared.command.Command.TheVariants.{Count}
 use Rattle.street_base.specs.declared.reply.Outcome.{Outcome}
-use Rattle.street_base.specs.declared.reply.Outcome.TheVariants.{Whole, Starved, Short}
 use Rattle.street_base.specs.declared.reply.Reply.{Reply}
-use Rattle.street_base.specs.Prelude.{Allows, reply_to, State}
 use Rattle.street_desk.specs.History.{state_of}
 use Rattle.street_engine.specs.Prelude.{EngineView, Serves}
 use Rattle.street_runs.specs.Outputs.{IsBegun}
@@ -16,12 +14,7 @@ use Rattle.street_stream.specs.declared.tally.Tally.{Tally}
 use Rattle.street_tape.specs.declared.fault.TapeFault.TheVariants.{Run}
 use Rattle.street_tape.specs.Faults.{ReplaysWhole}
 use Rattle.street_text.specs.ReplyLines.{reply_line}
-
--- a count is never starved, and never stops short
-counted : (m : State) (reply : Reply) (outcome : Outcome) → Allows m Count outcome → reply ≡ reply_to m Count outcome → reply ≡ reply_to m Count Whole
-counted m reply Whole h is = is
-counted m reply Starved h is = absurd h
-counted m reply (Short k) h is = absurd h
+use Rattle.street_tape.proofs.Counts.{counted}
 
 module _ (unread before left mid : Option (List ℕ)) (view now : EngineView) (tally : Tally) (reply : Reply) (outcome : Outcome) (run : ReplaysWhole unread before view left mid tally)
     (serves : Serves view Count reply outcome now) where

@@ -10,6 +10,7 @@ use Rattle.clap.specs.declared.error.kind.ErrorKind.TheVariants.{DisplayHelp, Di
 use Rattle.clap.specs.declared.builder.arg.Arg.{Arg}
 use Rattle.clap.specs.declared.builder.command.Command.{Command}
 use Rattle.clap.specs.declared.parser.matches.ArgMatches.{ArgMatches}
+use Rattle.street_base.specs.Prelude.{most_calls, most_sessions, most_workers}
 use Rattle.street_runs.specs.declared.words.Options.{Options}
 use Rattle.street_runs.specs.declared.words.WordsFault.{WordsFault}
 use Rattle.street_runs.specs.declared.words.WordsFault.TheVariants.{Bad, Help, Starved}
@@ -107,8 +108,8 @@ bad_unfit kind Starved fit bad unfit = tt
 
 -- options that stand together are found in fit words
 pub fit : (rows : List Row) (found : Options) → vec_len found.scripts ≡ length found.scripts.items → IsFound rows found
-    → IsCountIfSaid 64 (first_of (codes "workers") rows) → IsCountIfSaid 1000000 (first_of (codes "calls") rows)
-    → StandsTogether found → StandsAlone found → vec_len found.scripts ≤ 1024 → (IsDeskless found → first_of (codes "calls") rows ≡ None) → IsFit rows
+    → IsCountIfSaid most_workers (first_of (codes "workers") rows) → IsCountIfSaid most_calls (first_of (codes "calls") rows)
+    → StandsTogether found → StandsAlone found → vec_len found.scripts ≤ most_sessions → (IsDeskless found → first_of (codes "calls") rows ≡ None) → IsFit rows
 fit rows found whole is workers calls together alone few unsaid =
     let many : length (scripts_in rows) ≡ vec_len found.scripts = sym (ap length is.scripts) ∙ length_of_texts found.scripts.items ∙ sym whole in
     let none : vec_len found.scripts ≡ 0 → scripts_in rows ≡ [] = λ e. sym is.scripts ∙ none_of_texts found.scripts.items (sym whole ∙ e) in
@@ -155,7 +156,7 @@ stands_alone rows found whole is fits =
       unsynced = λ said. some_back found.keep (subst IsSome (sym is.keep) (fits.unsynced (sym is.unsynced ∙ said)));
     }
 
-pub few : (rows : List Row) (found : Options) → vec_len found.scripts ≡ length found.scripts.items → IsFound rows found → IsFit rows → vec_len found.scripts ≤ 1024
+pub few : (rows : List Row) (found : Options) → vec_len found.scripts ≡ length found.scripts.items → IsFound rows found → IsFit rows → vec_len found.scripts ≤ most_sessions
 few rows found whole is fits = omega (arith, whole, length_of_texts found.scripts.items, ap length is.scripts, fits.scripts)
 
 -- ---- a parse

@@ -33,7 +33,8 @@ pub record IsTaped (pass : PassView) (before after : Option (List ℕ)) : Type 0
   pub written : Appends before after (tape_text journal)
 
 -- of its tape the first bytes were written, and memory ran out or the writer has failed
-pub record IsTapedInPart {W : Type 0} (pass : PassView) (before after : Option (List ℕ)) (writer : Counted W) (name : Bor (List ℕ)) (fault : Fault) : Type 0 where
+pub record IsTapedInPart {W : Type 0} (pass : PassView) (before after : Option (List ℕ)) (writer : Counted W) (name : Bor (List ℕ))
+    (fault : Fault) : Type 0 where
   pub journal : List Entry
   pub ended : IsEnded pass journal
   pub begun : IsBegun before after (tape_text journal)

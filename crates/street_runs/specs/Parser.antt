@@ -6,6 +6,7 @@ use Rattle.clap.specs.Lexer.{usize_max}
 use Rattle.clap.specs.Words.{App, IsAmong, Kinds, Row, Rule, Text, all_of, fault_of, first_of, kind_of, matches_of, new_app, new_rule}
 use Rattle.clap.specs.declared.builder.action.ArgAction.TheVariants.{Append, Set, SetTrue}
 use Rattle.clap.specs.declared.error.kind.ErrorKind.TheVariants.{DisplayHelp, DisplayVersion}
+use Rattle.street_base.specs.Prelude.{most_calls, most_sessions, most_workers}
 use Rattle.street_runs.specs.declared.words.Options.{Options}
 use Rattle.street_runs.specs.declared.words.WordsFault.{WordsFault}
 use Rattle.street_runs.specs.declared.words.WordsFault.TheVariants.{Bad, Help, Starved}
@@ -77,9 +78,9 @@ is_said (Some word) = bytes_eq word (codes "true")
 
 -- what was found is fit: the numbers are in their ranges, and the options stand together
 pub record IsFit (rows : List Row) : Type 0 where
-  pub workers : IsCountIfSaid 64 (first_of (codes "workers") rows)
-  pub calls : IsCountIfSaid 1000000 (first_of (codes "calls") rows)
-  pub scripts : length (scripts_in rows) ≤ 1024
+  pub workers : IsCountIfSaid most_workers (first_of (codes "workers") rows)
+  pub calls : IsCountIfSaid most_calls (first_of (codes "calls") rows)
+  pub scripts : length (scripts_in rows) ≤ most_sessions
   pub replay : IsSome (first_of (codes "replay") rows) → (first_of (codes "tape") rows ≡ None) × (scripts_in rows ≡ [])
   pub upgrade : IsSome (first_of (codes "upgrade") rows)
       → (first_of (codes "tape") rows ≡ None) × (first_of (codes "replay") rows ≡ None) × (scripts_in rows ≡ [])

@@ -32,7 +32,8 @@ pub record AreTold {W : Type 0} (R : Type 0) (desk : DeskView) (names : List (Bo
   pub many : length scripts ≡ length names
   pub printed : IsPrinted before after (replies_of scripts) writer
   pub is_history : IsHistory desk.sessions journal
-  pub each : (k : ℕ) (d : Script R) → k < length scripts → IsNone (slice_index_or scripts k d).fault → IsTold k (slice_index_or scripts k d).replies.items journal
+  pub each : (k : ℕ) (d : Script R) → k < length scripts → IsNone (slice_index_or scripts k d).fault
+      → IsTold k (slice_index_or scripts k d).replies.items journal
 
 -- scripts that were played at a desk are told so, where the desk is ended with the pass that comes back from them
 abbrev pub PlayedAreTold : Type 0 → Type 0 → Type 0

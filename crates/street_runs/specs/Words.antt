@@ -5,6 +5,7 @@ use Rattle.clap.specs.Words.{kind_of}
 use Rattle.clap.specs.declared.error.Error.{Error}
 use Rattle.clap.specs.declared.error.kind.ErrorKind.{ErrorKind}
 use Rattle.clap.specs.declared.error.kind.ErrorKind.TheVariants.{DisplayHelp, DisplayVersion, OutOfMemory}
+use Rattle.street_base.specs.Prelude.{most_calls, most_sessions, most_workers}
 use Rattle.street_runs.specs.declared.words.Options.{Options}
 use Rattle.street_runs.specs.declared.words.WordsFault.{WordsFault}
 use Rattle.street_runs.specs.declared.words.WordsFault.TheVariants.{Bad, Help, Starved}
@@ -12,10 +13,10 @@ use Rattle.street_runs.specs.declared.words.WordsFault.TheVariants.{Bad, Help, S
 -- each number is in its range
 pub record IsInRange (found : Options) : Type 0 where
   pub some_workers : 1 ≤ found.workers
-  pub few_workers : found.workers ≤ 64
+  pub few_workers : found.workers ≤ most_workers
   pub some_calls : 1 ≤ found.calls
-  pub few_calls : found.calls ≤ 1000000
-  pub few_scripts : vec_len found.scripts ≤ 1024
+  pub few_calls : found.calls ≤ most_calls
+  pub few_scripts : vec_len found.scripts ≤ most_sessions
 
 -- a replay stands with neither scripts nor a tape to write, and so does an upgrade; one of them stands without the other
 pub record StandsTogether (found : Options) : Type 0 where

@@ -3,6 +3,7 @@
 //! Source: this profile.
 ghost use Rattle.std.specs.Io.KnownBytes.{Appends};
 ghost use Rattle.std.specs.Prelude.{◌≡◌, ◌<◌, ◌≤◌, All, IfOk, IfErr, IsNone, OnOk, OnErr, length, slice_index_or, vec_len};
+ghost use Rattle.street_base.specs.Prelude.{most_calls, most_reads, most_sessions, most_workers};
 ghost use Rattle.street_desk.specs.History.{BeginsWith};
 ghost use Rattle.street_desk.specs.Passes.{DeskView, Same, first_pass};
 ghost use Rattle.street_line.specs.declared.script.Script.{Script};
@@ -76,11 +77,11 @@ fn serve_alone<R: Threads + Wait + Sync, D: Read, W: Write>(
     reader: &mut Counted<D>,
     writer: &mut Counted<W>,
 ) -> Result<(Result<Tally, RunFault>, Desk<Unwatched>, Pass<Unwatched>), Starved>
-    requires workers { (1 ≤ workers) × (workers ≤ 64) }
-    requires calls { (1 ≤ calls) × (calls ≤ 1000000) }
+    requires workers { (1 ≤ workers) × (workers ≤ most_workers) }
+    requires calls { (1 ≤ calls) × (calls ≤ most_calls) }
     requires reader { IsFresh reader.old }
     requires writer { IsFresh writer.old }
-    ensures runs { IfOk result (λ r. AloneServesLines D.remaining W.contents 1000000000
+    ensures runs { IfOk result (λ r. AloneServesLines D.remaining W.contents most_reads
         (first_pass r.1) reader.old writer.old r.0 r.2 reader.new writer.new) }
     ensures prompt { IfOk result (λ r. IsPrompt reader.new × OnOk r.0 (IsFlushed writer.new)) }
     ensures desk { IfOk result (λ r. (r.1.calls ≡ calls) × (r.2.desk ≡ r.1) × IsAlone r.2) }
@@ -143,9 +144,9 @@ fn serve_named<'a, R: Threads + Wait + Sync + Files<File = File>, W: Write>(
     names: &[&'a str],
     writer: &mut Counted<W>,
 ) -> Result<(Result<(), Fault<'a>>, Desk<Unwatched>, Pass<Unwatched>), Starved>
-    requires workers { (1 ≤ workers) × (workers ≤ 64) }
-    requires calls { (1 ≤ calls) × (calls ≤ 1000000) }
-    requires names { (1 ≤ length names.now) × (length names.now ≤ 1024) }
+    requires workers { (1 ≤ workers) × (workers ≤ most_workers) }
+    requires calls { (1 ≤ calls) × (calls ≤ most_calls) }
+    requires names { (1 ≤ length names.now) × (length names.now ≤ most_sessions) }
     requires writer { IsFresh writer.old }
     ensures desk { IfOk result (λ r. (r.1.calls ≡ calls) × (r.1.sessions ≡ length names.now) × (r.2.desk ≡ r.1)) }
     ensures played { IfOk result (λ r. ArePlayed R r.1 names.now (W.contents writer.old.stream) (W.contents writer.new.stream)

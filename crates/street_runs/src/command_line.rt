@@ -3,6 +3,7 @@
 //! Source: this profile.
 ghost use Rattle.std.specs.Prelude.{◌≤◌, ◌<◌, ◌≡◌, [], false, true, IfErr, IfOk, IsNone, IsSome, SomeIff, codes, length, map, option_map, string_bytes, unwrap_or, vec_len};
 ghost use Rattle.std.specs.Str.Parse.{digits_value, without_leading_plus};
+ghost use Rattle.street_base.specs.Prelude.{most_sessions};
 ghost use Rattle.clap.specs.Words.{app_of, first_of, found_of, matched_of, raw_values, rows_of};
 ghost use Rattle.street_runs.specs.Parser.{IsAsked, IsCount, IsCountIfSaid, IsFit, IsFound, IsNumberOf, IsRefused, IsUnfit, is_said, streetsim_app};
 ghost use Rattle.street_runs.specs.Words.{HasNoCompany, IsDeskless, IsInRange, StandsAlone, StandsTogether, TellsBad};
@@ -12,23 +13,17 @@ use crate::words::{Options, WordsFault};
 use clap::error::ErrorKind;
 use clap::{ArgMatches, Command};
 use std::alloc::{AllocError, Global};
+use street_base::{MOST_CALLS, MOST_SESSIONS, MOST_WORKERS};
 
-/// The most workers, and how many there are where the words do not say.
-const MOST_WORKERS: u64 = 64;
-
+/// How many workers there are where the words do not say.
 const WORKERS: u64 = 1;
 
-/// The most calls, and how many there is a place for where the words do not say.
-const MOST_CALLS: u64 = 1_000_000;
-
+/// How many calls there is a place for where the words do not say.
 const CALLS: u64 = 65_536;
 
 /// What is told of words that stand beside `--endless` or `--keep`.
 const COMPANY: &str =
     "the arguments '--endless' and '--keep <FILE>' cannot be used with scripts, '--calls <N>', '--tape <FILE>', '--replay <FILE>' or '--upgrade <FILE>'";
-
-/// The most scripts.
-const MOST_SCRIPTS: usize = 1_024;
 
 /// The number that a word says, where it is from 1 to `most`.
 fn number_of(word: &str, most: u64) -> Option<u64>
@@ -173,8 +168,8 @@ fn named_scripts<'a>(alloc: Global, matches: &ArgMatches<'a>) -> Result<Vec<&'a 
 
 /// What is wrong with these options together, if anything is.
 fn misfit(found: &Options<'_>) -> Option<(ErrorKind, &'static str)>
-    ensures none { IsNone result → StandsTogether found.now × (vec_len found.now.scripts ≤ 1024) }
-    ensures some { IsSome result → StandsTogether found.now → 1024 < vec_len found.now.scripts }
+    ensures none { IsNone result → StandsTogether found.now × (vec_len found.now.scripts ≤ most_sessions) }
+    ensures some { IsSome result → StandsTogether found.now → most_sessions < vec_len found.now.scripts }
 {
     let serves = found.tape.is_some() || !found.scripts.is_empty();
     if found.replay.is_some() && serves {
@@ -189,7 +184,7 @@ fn misfit(found: &Options<'_>) -> Option<(ErrorKind, &'static str)>
             "the argument '--upgrade <FILE>' cannot be used with scripts, '--tape <FILE>' or '--replay <FILE>'",
         ));
     }
-    if found.scripts.len() > MOST_SCRIPTS {
+    if found.scripts.len() > MOST_SESSIONS {
         return Some((ErrorKind::TooManyValues, "more than 1024 scripts"));
     }
     None

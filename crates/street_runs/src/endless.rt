@@ -2,6 +2,7 @@
 //!
 //! Source: this profile.
 ghost use Rattle.std.specs.Prelude.{◌≤◌, None, IfOk, IfErr, OnOk};
+ghost use Rattle.street_base.specs.Prelude.{most_reads, most_workers};
 ghost use Rattle.street_line.specs.Streams.{MachineServesAll, MachineServesFirst};
 ghost use Rattle.street_stream.specs.Faults.{IsCaused};
 ghost use Rattle.street_stream.specs.Streams.{IsFlushed, IsFresh, IsPrompt};
@@ -27,7 +28,7 @@ pub fn serve_endless<R: Threads + Wait + Sync + Input + Print + AllocGlobal>(
     rt: &R,
     workers: u32,
 ) -> Result<(), Fault<'static>>
-    requires { (1 ≤ workers) × (workers ≤ 64) }
+    requires { (1 ≤ workers) × (workers ≤ most_workers) }
 {
     let alloc = rt.alloc();
     let Ok(output) = BufWriter::new(alloc, io::writer(rt)) else {
@@ -64,7 +65,7 @@ fn serve_by_one<R: Threads + Sync, D: Read, W: Write>(
     requires writer { IsFresh writer.old }
     ensures served { IfOk result (MachineServesAll D.remaining W.contents None reader.old writer.old reader.new writer.new) }
     ensures broken { IfErr result (MachineServesFirst D.remaining W.contents None reader.old writer.old reader.new writer.new) }
-    ensures caused { IfErr result (λ fault. IsCaused fault.kind reader.new writer.new 1000000000) }
+    ensures caused { IfErr result (λ fault. IsCaused fault.kind reader.new writer.new most_reads) }
     ensures prompt { IsPrompt reader.new }
     ensures flushed { OnOk result (IsFlushed writer.new) }
 {
@@ -84,12 +85,12 @@ fn serve_by_team<R: Threads + Wait + Sync, D: Read, W: Write>(
     reader: &mut Counted<D>,
     writer: &mut Counted<W>,
 ) -> Result<Tally, RunFault>
-    requires workers { (1 ≤ workers) × (workers ≤ 64) }
+    requires workers { (1 ≤ workers) × (workers ≤ most_workers) }
     requires reader { IsFresh reader.old }
     requires writer { IsFresh writer.old }
     ensures served { IfOk result (MachineServesAll D.remaining W.contents None reader.old writer.old reader.new writer.new) }
     ensures broken { IfErr result (MachineServesFirst D.remaining W.contents None reader.old writer.old reader.new writer.new) }
-    ensures caused { IfErr result (λ fault. IsCaused fault.kind reader.new writer.new 1000000000) }
+    ensures caused { IfErr result (λ fault. IsCaused fault.kind reader.new writer.new most_reads) }
     ensures prompt { IsPrompt reader.new }
     ensures flushed { OnOk result (IsFlushed writer.new) }
 {

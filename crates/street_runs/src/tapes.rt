@@ -3,6 +3,7 @@
 //! Source: this profile.
 ghost use Rattle.std.specs.Prelude.{◌≤◌, IfErr, OnOk};
 ghost use Rattle.std.specs.Io.KnownBytes.{Appends};
+ghost use Rattle.street_base.specs.Prelude.{most_reads, most_workers};
 ghost use Rattle.street_runs.specs.Outputs.{IsBegun};
 ghost use Rattle.street_runs.specs.Replays.{ReplaysAndCounts, ReplayOrCountStops};
 ghost use Rattle.street_stream.specs.Faults.{IsCausedByWriting};
@@ -34,7 +35,7 @@ pub fn replay_tape<'a, R: Threads + Sync + Print + AllocGlobal + Files<File = Fi
     workers: u32,
     name: &'a str,
 ) -> Result<(), Fault<'a>>
-    requires { (1 ≤ workers) × (workers ≤ 64) }
+    requires { (1 ≤ workers) × (workers ≤ most_workers) }
 {
     let mut reader = Counted::new(open_file(rt, name)?);
     let mut writer = Counted::new(io::writer(rt));
@@ -56,12 +57,12 @@ fn replay_and_count<R: Threads + Sync, D: Read, W: Write>(
     reader: &mut Counted<D>,
     writer: &mut Counted<W>,
 ) -> Result<(), TapeFault>
-    requires workers { (1 ≤ workers) × (workers ≤ 64) }
+    requires workers { (1 ≤ workers) × (workers ≤ most_workers) }
     requires reader { IsFresh reader.old }
     requires writer { IsFresh writer.old }
     ensures counted { OnOk result (ReplaysAndCounts D.remaining W.contents reader.old writer.old reader.new writer.new) }
     ensures stops { IfErr result (ReplayOrCountStops D.remaining W.contents reader.old writer.old reader.new writer.new) }
-    ensures caused { IfErr result (λ fault. IsTapeCaused fault reader.new writer.new 1000000000) }
+    ensures caused { IfErr result (λ fault. IsTapeCaused fault reader.new writer.new most_reads) }
     ensures prompt { IsPrompt reader.new }
     ensures flushed { OnOk result (IsFlushed writer.new) }
 {

@@ -19,9 +19,6 @@ use crate::writes::{flush_out, write_reply};
 use memchr::memchr;
 use std::alloc::Global;
 
-/// The most calls of `read` that a run makes, where nobody asks for fewer.
-pub const MOST_READS: u32 = 1_000_000_000;
-
 /// What a run may come to.
 #[derive(Debug, Clone, Copy, PartialEq, Eq)]
 pub struct Limits {

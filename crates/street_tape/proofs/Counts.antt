@@ -2,7 +2,11 @@
 use Rattle.std.proofs.Common.{◌≡◌, ℕ, ◌+◌, ◌<◌, List, ◌∷◌, length, if◌then◌else◌, ap, ◌∙◌, length-append, [], arith}
 use Rattle.std.proofs.lemmas.List.Sums.{sum_by-cons}
 use Rattle.serde_json.specs.Written.{compact_text}
+use Rattle.street_base.specs.declared.command.Command.TheVariants.{Count}
+use Rattle.street_base.specs.declared.reply.Outcome.{Outcome}
+use Rattle.street_base.specs.declared.reply.Outcome.TheVariants.{Whole, Starved, Short}
 use Rattle.street_base.specs.declared.reply.Reply.{Reply}
+use Rattle.street_base.specs.Prelude.{Allows, reply_to, State}
 use Rattle.street_stream.specs.HandledLines.{Effect, has_reply, calls_in, replies_in}
 use Rattle.street_text.specs.ReplyLines.{reply_line, reply_data}
 
@@ -19,3 +23,9 @@ none_more n = omega arith
 pub some_reply : (r : Reply) → 0 < length (reply_line r)
 unfolding reply_line
 some_reply r = omega (arith, length-append (compact_text (reply_data r)) (10 ∷ []))
+
+-- a count is never starved, and never stops short
+pub counted : (m : State) (reply : Reply) (outcome : Outcome) → Allows m Count outcome → reply ≡ reply_to m Count outcome → reply ≡ reply_to m Count Whole
+counted m reply Whole h is = is
+counted m reply Starved h is = absurd h
+counted m reply (Short k) h is = absurd h

@@ -3,7 +3,7 @@ use Rattle.std.proofs.Common.{◌≡◌, ℕ, ◌≤◌, ◌==◌, List, [], ◌
 use Rattle.std.proofs.lemmas.Bool.{cases_Bool}
 use Rattle.json.proofs.Printed.Utf8.{IsUtf8-are_ascii}
 use Rattle.json.specs.Print.{escape_byte}
-use Rattle.serde_json.specs.Data.{Data, depth, items_depth}
+use Rattle.serde_json.specs.Data.{Data, depth}
 use Rattle.serde_json.specs.Read.{max_depth}
 use Rattle.serde_json.specs.Written.{has_float}
 use Rattle.street_base.specs.declared.command.Command.{Command}
@@ -18,7 +18,7 @@ use Rattle.street_tape.specs.Tapes.{outcome_data, entry_data, head_data, old_hea
 use Rattle.street_tape.specs.declared.head.Head.TheVariants.{Version1, Version2}
 use Rattle.street_tape.proofs.Unbroken.{is_clear, are_items_clear}
 use Rattle.street_text.proofs.Again.{command_again, command_plain}
-use Rattle.street_text.proofs.CommandData.{whole_command}
+use Rattle.street_text.proofs.CommandData.{flat_command, whole_command}
 use Rattle.street_text.proofs.Plain.{IsPlain}
 use Rattle.street_text.specs.CommandTexts.{command_data, tells_size}
 use Rattle.street_text.specs.Fits.{IsWord}
@@ -121,36 +121,6 @@ unfolding escape_byte
 clear_old_head = refl
 
 -- ---- it is no deeper than the parser reads
-
-list_depth : {T : Type 0} (one : T → Data) (n : ℕ) → ((x : T) → depth (one x) ≤ n) → (xs : List T) → items_depth (items_from one xs) ≤ n
-list_depth one n each [] = omega arith
-list_depth one n each (x ∷ xs) = let first = each x in let rest = list_depth one n each xs in omega arith
-
-phase_depth : (p : PhaseSpec) → depth (phase_data p) ≤ 3
-phase_depth p = let greens = list_depth green_data 1 (λ g. omega arith) p.greens in omega arith
-
-flat_command : (c : Command) → depth (command_data c) ≤ 5
-flat_command (Load net) =
-    let links = list_depth link_data 1 (λ l. omega arith) net.links in
-    let nodes = list_depth node_data 1 (λ n. omega arith) net.nodes in
-    let turns = list_depth turn_data 1 (λ t. omega arith) net.turns in
-    omega arith
-flat_command (Enter plan lane depart size) =
-    let links = list_depth number_data 1 (λ n. omega arith) plan in
-    elim (cases_Bool (size == 1)) as (λ _. depth (command_data (Enter plan lane depart size)) ≤ 5) [
-      | inl one ↦ rw one (omega arith)
-      | inr other ↦ rw other (omega arith)
-    ]
-flat_command (Signal node offset phases) = let each = list_depth phase_data 3 phase_depth phases in omega arith
-flat_command (Advance steps) = omega arith
-flat_command (CloseLane link lane first last) = omega arith
-flat_command (ReopenLane link lane first last) = omega arith
-flat_command (TakeOut car) = omega arith
-flat_command (PlaceMeter link lane cell period) = omega arith
-flat_command (ReadMeter meter) = omega arith
-flat_command (Vehicle car) = omega arith
-flat_command (Lane link lane) = omega arith
-flat_command Count = omega arith
 
 flat_outcome : (o : Outcome) → depth (outcome_data o) ≤ 1
 flat_outcome Whole = omega arith

@@ -2,7 +2,7 @@
 //!
 //! Source: this profile. Replies are passed on before the next read.
 ghost use Rattle.std.specs.Prelude.{◌≡◌, ◌≤◌, None, Some, IfOk, IfErr, OnOk};
-ghost use Rattle.street_base.specs.Prelude.{State};
+ghost use Rattle.street_base.specs.Prelude.{most_reads, State};
 ghost use Rattle.street_stream.specs.Streams.{IsFlushed, IsFresh, IsPrompt};
 ghost use Rattle.street_stream.specs.HandledLines.{Effect, Gives};
 ghost use Rattle.street_engine.specs.Prelude.{StandsFor};
@@ -16,11 +16,10 @@ use crate::{LONGEST_TAPE_LINE, Stop, Tape};
 use std::alloc::Global;
 use std::io::{Read, Write};
 use std::thread::Threads;
+use street_base::MOST_READS;
 use street_desk::Entry;
 use street_engine::{Engine, Unwatched};
-use street_stream::{
-    Answer, Counted, Limits, LineHandler, MOST_READS, PartialLine, Tally, drive_lines,
-};
+use street_stream::{Answer, Counted, Limits, LineHandler, PartialLine, Tally, drive_lines};
 use street_text::reply_text;
 
 /// An engine that a tape is replayed on, and the tape as far as it was read.
@@ -189,8 +188,8 @@ pub fn replay<R: Threads + Sync, D: Read, W: Write>(
     requires engine { StandsFor engine.old None }
     ensures replayed { IfOk result (ReplaysAll D.remaining W.contents reader.old writer.old engine.new reader.new writer.new) }
     ensures stops { IfErr result (ReplaysFirst D.remaining W.contents reader.old writer.old engine.new reader.new writer.new) }
-    ensures caused { IfErr result (λ fault. IsTapeCaused fault reader.new writer.new 1000000000) }
-    ensures bounded { reader.new.calls ≤ 1000000000 }
+    ensures caused { IfErr result (λ fault. IsTapeCaused fault reader.new writer.new most_reads) }
+    ensures bounded { reader.new.calls ≤ most_reads }
     ensures prompt { IsPrompt reader.new }
     ensures flushed { OnOk result (IsFlushed writer.new) }
 {

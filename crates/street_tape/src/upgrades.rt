@@ -2,6 +2,7 @@
 //!
 //! Source: this profile. Nothing is written before the tape was read to its end.
 ghost use Rattle.std.specs.Prelude.{◌≡◌, ◌≤◌, ◌<◌, ◌^◌, ◌++◌, OnOk, IfOk, IfErr};
+ghost use Rattle.street_base.specs.Prelude.{most_reads};
 ghost use Rattle.street_stream.specs.Streams.{IsFlushed, IsFresh};
 ghost use Rattle.street_stream.specs.Faults.{IsCausedByWriting};
 ghost use Rattle.street_tape.specs.Faults.{IsTapeCaused};
@@ -15,11 +16,11 @@ use crate::journal_tape::write_line;
 use crate::{LONGEST_TAPE_LINE, Stop, Tape, entry_text, head_text};
 use std::alloc::Global;
 use std::io::{Read, Write};
-use street_base::Starved;
+use street_base::{MOST_READS, Starved};
 use street_desk::Entry;
 use street_stream::{
-    Answer, Counted, FaultKind, Limits, LineHandler, MOST_READS, PartialLine, RunFault, Tally,
-    drive_lines, flush_out,
+    Answer, Counted, FaultKind, Limits, LineHandler, PartialLine, RunFault, Tally, drive_lines,
+    flush_out,
 };
 
 /// A tape as far as it was read, and the lines of its calls in version 2.
@@ -197,9 +198,9 @@ pub fn upgrade<D: Read, W: Write>(
     requires writer { IsFresh writer.old }
     ensures upgraded { IfOk result (UpgradesAll D.remaining W.contents reader.old writer.old reader.new writer.new) }
     ensures stops { IfErr result (UpgradesFirst D.remaining W.contents reader.old writer.old reader.new writer.new) }
-    ensures caused { IfErr result (λ fault. IsTapeCaused fault reader.new writer.new 1000000000) }
+    ensures caused { IfErr result (λ fault. IsTapeCaused fault reader.new writer.new most_reads) }
     ensures flushed { OnOk result (IsFlushed writer.new) }
-    ensures bounded { reader.new.calls ≤ 1000000000 }
+    ensures bounded { reader.new.calls ≤ most_reads }
 {
     upgrade_within(alloc, reader, writer, MOST_READS)
 }

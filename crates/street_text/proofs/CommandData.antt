@@ -45,25 +45,28 @@ list_depth one n each (x ∷ xs) = let first = each x in let rest = list_depth o
 phase_depth : (p : PhaseSpec) → depth (phase_data p) ≤ 3
 phase_depth p = let greens = list_depth green_data 1 (λ g. omega arith) p.greens in omega arith
 
-pub shallow_command : (c : Command) → depth (command_data c) ≤ max_depth
-shallow_command (Load net) =
+pub flat_command : (c : Command) → depth (command_data c) ≤ 5
+flat_command (Load net) =
     let links = list_depth link_data 1 (λ l. omega arith) net.links in
     let nodes = list_depth node_data 1 (λ n. omega arith) net.nodes in
     let turns = list_depth turn_data 1 (λ t. omega arith) net.turns in
     omega arith
-shallow_command (Enter plan lane depart size) =
+flat_command (Enter plan lane depart size) =
     let links = list_depth number_data 1 (λ n. omega arith) plan in
-    elim (cases_Bool (size == 1)) as (λ _. depth (command_data (Enter plan lane depart size)) ≤ max_depth) [
+    elim (cases_Bool (size == 1)) as (λ _. depth (command_data (Enter plan lane depart size)) ≤ 5) [
       | inl one ↦ rw one (omega arith)
       | inr other ↦ rw other (omega arith)
     ]
-shallow_command (Signal node offset phases) = let each = list_depth phase_data 3 phase_depth phases in omega arith
-shallow_command (Advance steps) = omega arith
-shallow_command (CloseLane link lane first last) = omega arith
-shallow_command (ReopenLane link lane first last) = omega arith
-shallow_command (TakeOut car) = omega arith
-shallow_command (PlaceMeter link lane cell period) = omega arith
-shallow_command (ReadMeter meter) = omega arith
-shallow_command (Vehicle car) = omega arith
-shallow_command (Lane link lane) = omega arith
-shallow_command Count = omega arith
+flat_command (Signal node offset phases) = let each = list_depth phase_data 3 phase_depth phases in omega arith
+flat_command (Advance steps) = omega arith
+flat_command (CloseLane link lane first last) = omega arith
+flat_command (ReopenLane link lane first last) = omega arith
+flat_command (TakeOut car) = omega arith
+flat_command (PlaceMeter link lane cell period) = omega arith
+flat_command (ReadMeter meter) = omega arith
+flat_command (Vehicle car) = omega arith
+flat_command (Lane link lane) = omega arith
+flat_command Count = omega arith
+
+pub shallow_command : (c : Command) → depth (command_data c) ≤ max_depth
+shallow_command c = let flat = flat_command c in omega arith
