@@ -38,6 +38,7 @@ impl Row for u64 {
     }
 }
 
+/// [start, passes, speeds, occupied]: the clock at which the period began, vehicles, the sum of their speeds in cells a step, steps in which the cell was covered.
 impl Row for MeterRow {
     ghost shows = { meter_data };
 
@@ -46,6 +47,7 @@ impl Row for MeterRow {
     }
 }
 
+/// [start, steps, passes, speeds, occupied]: as a full row, with the steps that the period has so far.
 impl Row for RunningRow {
     ghost shows = { running_data };
 
@@ -63,6 +65,7 @@ impl Row for RunningRow {
     }
 }
 
+/// [car, speed, ready]: speed in cells a step; ready is the step from which it may go on.
 impl Row for BufferEntry {
     ghost shows = { buffer_data };
 
@@ -71,6 +74,7 @@ impl Row for BufferEntry {
     }
 }
 
+/// [car, cell, speed], and its size where that is more than one cell; speed in cells a step.
 impl Row for CellEntry {
     ghost shows = { cell_data };
 
@@ -83,6 +87,7 @@ impl Row for CellEntry {
     }
 }
 
+/// [first, last]: cells that are closed, both among them.
 impl Row for Stretch {
     ghost shows = { stretch_data };
 
@@ -91,6 +96,7 @@ impl Row for Stretch {
     }
 }
 
+/// [car, depart]: the step from which it may depart.
 impl Row for WaitingEntry {
     ghost shows = { waiting_data };
 

@@ -41,7 +41,8 @@ pub trait Gate {
 
     /// Asked where workers that stay share the next steps, of each number of threads, the calling one among them: how long a step takes, in
     /// any unit, where the busiest thread has so much to do, in what a step takes of a vehicle on a full link of one lane. As many stay
-    /// as need least; of equal numbers the smallest. The steps are the same.
+    /// as need least; of equal numbers the smallest. The steps are the same. As it stands here more threads are always sooner: as many stay
+    /// as there are tiles, and processors at most.
     fn step_time(&self, threads: usize, busiest: u64) -> u64 {
         u64::MAX - threads as u64
     }

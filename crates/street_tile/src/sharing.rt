@@ -90,8 +90,8 @@ impl Tiles {
         block
     }
 
-    /// How much a step takes of a block, in what it takes of a vehicle on a full link of one lane. Which links its vehicles are on is
-    /// reckoned by how many of all lanes lie beside another.
+    /// How much a step takes of some neighbouring tiles, in what it takes of a vehicle on a full link of one lane; `whole` is all tiles. On
+    /// which links their vehicles are is not counted: as many are taken to be on links of two lanes as these have of all lanes.
     fn load_of(&self, block: Span, whole: Span) -> u64 {
         let links = self.network.spec().links.as_slice().len() as u64;
         let beside = whole.lanes.saturating_sub(links).saturating_mul(2);
