@@ -54,7 +54,7 @@ pub(crate) enum Answer {
 
 /// The clock and the counts of a census.
 #[derive(Clone, Copy, Debug, PartialEq, Eq)]
-struct Counts {
+struct CensusCounts {
     admitted: u64,
     arrived: u64,
     buffers: u64,
@@ -68,7 +68,7 @@ struct Counts {
 fn counts<R: Threads + Wait + Sync>(
     rt: &R,
     engine: &mut Engine<Unwatched>,
-) -> Result<Option<Counts>, Stop> {
+) -> Result<Option<CensusCounts>, Stop> {
     let (reply, outcome) = engine.apply(rt, &Command::Count);
     if outcome != Outcome::Whole {
         return Err(Stop::Wrong("a count was starved"));
@@ -82,7 +82,7 @@ fn counts<R: Threads + Wait + Sync>(
             clock,
             taken,
             waiting,
-        } => Ok(Some(Counts {
+        } => Ok(Some(CensusCounts {
             admitted: *admitted,
             arrived: *arrived,
             buffers: *buffers,
@@ -159,7 +159,7 @@ fn check_starved(may: bool, reply: &Reply) -> Result<(), Stop> {
 }
 
 /// The clock of some counts; 0 where nothing is loaded.
-fn clock_of(counts: Option<Counts>) -> u64 {
+fn clock_of(counts: Option<CensusCounts>) -> u64 {
     match counts {
         Some(counts) => counts.clock,
         None => 0,
