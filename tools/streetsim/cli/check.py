@@ -71,7 +71,8 @@ def check_page(words: argparse.Namespace) -> int:
     runs = sum(len(plan["seeds"]) for plan in seal.content["plans"])
     same = all(plan["program"] == digest_of(words.program) for plan in seal.content["plans"])
     which = "the program that made it" if same else "another program than the one that made it"
-    good = f"each of the {numbers_in(text):,} numbers on the page is that of a run ({runs} runs made again by {which})"
+    again = f"{runs} run{'s' * (runs != 1)} made again by {which}"
+    good = f"each of the {numbers_in(text):,} numbers on the page is that of a run ({again})"
     return tell(words.target, found, good, note)
 
 
