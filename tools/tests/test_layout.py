@@ -29,6 +29,11 @@ class Layout(Case):
         paths = [path for folder in ("tools", "check", "bench") for path in sorted((TOP / folder).rglob("*"))]
         self.assertEqual(list(long_lines([*paths, *(TOP / name for name in SCRIPTS)])), [])
 
+    def test_modules_of_tests_have_names_of_their_own(self):
+        """./test loads those of tools/ and of check/ into one process."""
+        ours, theirs = ({path.name for path in (TOP / name / "tests").glob("test_*.py")} for name in ("tools", "check"))
+        self.assertEqual(ours & theirs, set())
+
     def test_what_is_too_long_is_found(self):
         line = f"# {'é' * 119}\n"
         for name, text in (("a.py", line), ("b", f"#!/usr/bin/python3\n{line}"), ("c", line), ("d.txt", line)):
