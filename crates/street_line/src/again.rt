@@ -22,7 +22,7 @@ use street_text::{LONGEST_LINE, LineFault, LineReader};
 /// What was done again.
 #[derive(Debug, Clone, Copy, PartialEq, Eq)]
 pub struct Again {
-    /// The lines that have ended.
+    /// How many lines have ended, blank ones too.
     pub lines: u128,
     /// Their bytes.
     pub bytes: u64,
@@ -139,7 +139,8 @@ fn fault_of(halt: &Halt<Undone>, before: u128) -> AgainFault
     }
 }
 
-/// Does the lines that end in the next bytes of a text, behind so many lines, and answers how many they are.
+/// Does the lines that end in the next bytes of a text, and answers how many these are. `before` is how many lines ended
+/// before them: it serves for the number of a bad line alone.
 fn do_more<S: Service>(
     alloc: Global,
     service: &mut S,

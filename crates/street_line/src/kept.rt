@@ -33,7 +33,8 @@ struct KeptServer<'a, S> {
     entries: &'a mut Vec<u8>,
 }
 
-/// Whether a command was done, and changed something.
+/// Whether this is the reply of a command that was done whole, of a kind that changes the machine: also where nothing is
+/// different after it, as after an advance of 0 steps.
 fn is_change(reply: &Reply) -> bool
     ensures { result ≡ is_change reply.now }
 {

@@ -22,7 +22,13 @@ pub(crate) struct LineServer<'a, S> {
     pub(crate) reader: &'a mut LineReader,
 }
 
-/// What is answered to a line that is not blank.
+/// Reads a line that is not blank, has the service serve its command, and gives the text of the reply; a faulty line is
+/// answered by its fault, and nothing is served. Lack of memory for the text of a reply stands in the answer, as its
+/// command was served.
+///
+/// # Errors
+///
+/// `Starved` where there was no memory to read the line, or to answer its fault: nothing was served.
 fn answer<S: Service>(
     alloc: Global,
     reader: &mut LineReader,

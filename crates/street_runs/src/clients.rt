@@ -292,7 +292,7 @@ fn print_replies<R: Threads + Wait + Sync, W: Write>(
     Ok(())
 }
 
-/// The first script's pass, when it has heard a note of every other's. A note for which there is no memory is left out.
+/// The first script's pass, when it has heard a note of every other's. A note takes no memory, so none is left out.
 fn told_pass<R: Threads + Wait + Sync>(
     desk: &Desk<Unwatched>,
     mut scripts: Vec<Script<'_, R>>,
@@ -333,7 +333,7 @@ fn pass_of<R: Threads + Wait + Sync>(script: Script<'_, R>) -> Pass<Unwatched>
     session.into_pass()
 }
 
-/// Has a pass hear a note of another, where there is memory for one.
+/// Has a pass hear a note of another, of the same desk. `Desk::note` always makes one, as its clause `given` says.
 fn hear_of(desk: &Desk<Unwatched>, pass: &mut Pass<Unwatched>, mut other: Pass<Unwatched>)
     requires { (pass.old.desk ≡ desk.now) × (other.desk ≡ desk.now) }
     ensures same { Same pass.old pass.new }

@@ -190,7 +190,8 @@ fn misfit(found: &Options<'_>) -> Option<(ErrorKind, &'static str)>
     None
 }
 
-/// Whether there is no desk.
+/// Whether standard input is served without a desk: `--endless` or `--keep` is said. A replay and an upgrade are not meant
+/// here.
 fn is_deskless(found: &Options<'_>) -> bool
     ensures is { result ≡ true → IsDeskless found.now }
     ensures not { result ≡ false → IsDeskless found.now → ⊥ }
@@ -218,7 +219,7 @@ fn has_company(found: &Options<'_>) -> bool
     !found.scripts.is_empty()
 }
 
-/// Whether no file is named that is not to be synced.
+/// Whether `--unsynced` is said without `--keep`, which names the file that it speaks of.
 fn lacks_file(found: &Options<'_>) -> bool
     ensures is { result ≡ true → (found.now.unsynced ≡ true) × IsNone found.now.keep }
     ensures not { result ≡ false → found.now.unsynced ≡ true → IsSome found.now.keep }

@@ -22,7 +22,8 @@ pub enum Fault<'a> {
     OutOfMemory,
     /// A reader has no end.
     Endless,
-    /// A line of a tape, the first being 1, is no line of a tape.
+    /// A line of a tape, the first being 1, is no line of a tape; or a line of the file of a kept session is no command, or
+    /// is refused where it stands.
     BadTape { line: u128 },
 }
 

@@ -123,11 +123,12 @@ fn open_kept<'a, R: Files<File = File>>(rt: &R, name: &'a str) -> Result<File, F
     }
 }
 
-/// Cuts off what a crash has left behind the lines that have ended, and has the file and its name outlive the machine.
+/// Cuts off what a crash has left behind the first `bytes` bytes, those of the lines that have ended, and, where `syncs` is
+/// true, has the file and its name outlive the machine.
 ///
 /// # Errors
 ///
-/// `Write` where that failed, or memory ran out.
+/// `Write` with the file's name where that failed, `OutOfMemory` where it failed for want of memory.
 fn settle<'a, R: Files<File = File>>(
     rt: &R,
     file: &File,
@@ -143,7 +144,7 @@ fn settle<'a, R: Files<File = File>>(
     }
 }
 
-/// Has the file end with so many bytes, and syncs it and its folder where that is asked for.
+/// Cuts the file off behind so many bytes, where it has more, and syncs it and its folder where `syncs` is true.
 fn cut_and_sync<R: Files<File = File>>(
     rt: &R,
     file: &File,

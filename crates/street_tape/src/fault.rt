@@ -24,7 +24,7 @@ pub enum TapeFault {
         /// Its number; the first line has number 1.
         line: u128,
     },
-    /// A read or a write failed, the reads ran out, or memory ran out, also for a command that had found it at the desk.
+    /// A read or a write failed, the reads ran out, or memory ran out, which a replay may lack also where the desk had it.
     #[error("the run failed")]
     Run(RunFault),
 }

@@ -14,8 +14,9 @@ use crate::tape_reads_back;
 use street_desk::legal_history_runs;
 
 /// The calls that the tape of a legal history says are those of the history, if none of its lines is longer than a tape line
-/// may be; each can be replayed, and their replies are those of the run of that history. However much of that tape was read,
-/// a replay or an upgrade that ends with a fault is not told a bad tape: a read or a write failed, or the reads or memory ran out.
+/// may be; each can be replayed, and their replies are those of the run of that history. However much of that tape was
+/// read, the fault of a replay or of an upgrade is never `NotTape` or `BadEntry`: a read or a write failed, or the reads or
+/// memory ran out.
 pub fn tape_replays()
     ensures parts { (history : List Entry) → IsLegal history → All (λ e. is_part e.command e.outcome ≡ true) history }
     ensures calls { (history : List Entry) → TapeFits history → SaysOnly (tape_text history) history }

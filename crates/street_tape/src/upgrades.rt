@@ -186,9 +186,10 @@ pub fn upgrade_within<D: Read, W: Write>(
 ///
 /// # Errors
 ///
-/// `NotTape` and `BadEntry` as [`replay`](crate::replay) has them: nothing was written. `Run` where a read failed, a write or
-/// a flush failed or a write took no bytes, memory ran out, or after 1,000,000,000 reads: of the tape the first
-/// `tally.bytes` bytes are written, and none before the other was read to its end.
+/// `NotTape` and `BadEntry` as [`replay`](crate::replay) has them, but for what only the machine tells of an advance:
+/// nothing was written. `Run` where a read failed, a write or a flush failed or a write took no bytes, memory ran out, or
+/// after 1,000,000,000 reads: of the new tape the first `tally.bytes` bytes are written, and none before the old one was
+/// read to its end.
 pub fn upgrade<D: Read, W: Write>(
     alloc: Global,
     reader: &mut Counted<D>,

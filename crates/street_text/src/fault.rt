@@ -6,7 +6,8 @@ ghost use Rattle.street_text.specs.Faults.{number_of, name_of};
 
 use thiserror::Error;
 
-/// Why a line gave no command. They are tested in the order of the variants.
+/// Why a line gave no command. The first three are tested in this order; `Starved` may come in place of any of them but
+/// `LineTooLong`, and says nothing of the line.
 #[derive(Debug, Clone, Copy, PartialEq, Eq, Error)]
 pub enum LineFault {
     /// It has more bytes than a line of its kind may have.

@@ -8,11 +8,13 @@ use crate::{LineFault, error_text};
 use std::alloc::Global;
 use street_base::Starved;
 
-/// The line that answers a faulty line. Lack of memory has none: it is answered by itself.
+/// The line that answers a line with this fault: one JSON object, the fault's number as `error` and its name as `name`, and
+/// LF.
 ///
 /// # Errors
 ///
-/// `Starved` where there was no memory for it, and for lack of memory in reading.
+/// `Starved` where there was no memory for it, and for the fault `LineFault::Starved`, which no line answers: it ends the
+/// run.
 pub fn fault_text(alloc: Global, fault: LineFault) -> Result<Vec<u8>, Starved>
     ensures { IfOk result (λ text. fault_line fault ≡ Some text.items) }
 {

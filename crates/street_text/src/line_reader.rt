@@ -12,7 +12,8 @@ use json::Scratch;
 use std::alloc::Global;
 use street_base::Command;
 
-/// The most bytes of a line that is tried as a flat line first. So few bytes are kept for the next line.
+/// The most bytes of a line that is tried as a flat line first. A longer one is read by a JSON value alone, so that the
+/// memory which is kept from one line to the next stays small.
 const LONGEST_FLAT_LINE: usize = 4096;
 
 /// Reads line after line, and keeps memory from one to the next.

@@ -10,7 +10,8 @@ use serde_json::{Value, json};
 use std::alloc::{AllocError, Global};
 use street_base::{GreenSpec, LinkSpec, NodeSpec, PhaseSpec, TurnSpec};
 
-/// What stands in a list of a command.
+/// What stands in a list of a command: a number; of a node, a link, a turn or a green turn the list of its fields, in the
+/// order in which its type has them; of a phase its duration and the list of its green turns.
 pub trait Printed {
     ghost prints: { Self → Data };
 

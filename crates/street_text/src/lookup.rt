@@ -15,7 +15,11 @@ use street_base::Listing;
 pub(crate) trait Lookup {
     ghost shows: { Self → Data };
 
-    /// The number of a name.
+    /// The number that stands in the field of this name, below 2^64.
+    ///
+    /// # Errors
+    ///
+    /// `BadCommand` where there is no such field, or anything else stands in it.
     fn number(&self, name: &str) -> Result<u64, LineFault>
         ensures { Gives result (or_fault LineFault.BadCommand (number_field name.now (shows self.now))) };
 

@@ -148,7 +148,13 @@ fn observing<L: Lookup>(name: &str, line: &L) -> Result<Command, LineFault>
     }
 }
 
-/// The command of a name whose fields are numbers and lists of numbers.
+/// The command of this name, one whose fields are numbers and lists of numbers: all but `load` and `signal`. The size of a
+/// vehicle is read only where `sized` is true, and is 1 otherwise.
+///
+/// # Errors
+///
+/// `BadCommand` where no such command has the name, or a field is missing or of another kind; `Starved` where there was no
+/// memory for its lists.
 pub(crate) fn of_numbers<L: Lookup>(
     alloc: Global,
     name: &str,

@@ -10,7 +10,8 @@ use json::Writer;
 use std::alloc::AllocError;
 use street_base::{BufferEntry, CellEntry, MeterRow, RunningRow, Stretch, WaitingEntry};
 
-/// What stands in a list of a reply.
+/// What stands in a list of a reply: a number, or the list of the fields of an entry, in the order in which its type has
+/// them. The size of a vehicle in a cell, the last of its fields, is left out where it is 1.
 pub trait Row {
     ghost shows: { Self → Data };
 
