@@ -11,8 +11,8 @@ from streetsim import traci
 from streetsim.base.client import line_of
 from streetsim.live.driven import DrivenEngine
 from streetsim.live.page import data_of, own_lines
-from streetsim.model.mapping import read_map
-from streetsim.model.runs import read_run
+from streetsim.model.mapping import Map, read_map
+from streetsim.model.runs import Run, read_run
 from streetsim.routes.watching import Ground
 from streetsim.scenario import ListedScenario, NotHere, Scenario
 
@@ -170,6 +170,65 @@ class Runs(Case):
         read = read_run(str(run)), read_map(str(mapping))
         self.assertEqual((data_of(*read)["driven"], data_of(*read)["listed"]), ([], ["L"]))
         self.assertEqual(data_of(*read, driven=True)["driven"], ["L"])
+
+
+class Memory:
+    """A program whose memory lasts for so many steps, then for three more at the next line."""
+
+    def __init__(self, room):
+        self.clock, self.room = 0, room
+
+    def exchange(self, lines):
+        for steps in [json.loads(line)["steps"] for line in lines]:
+            made, self.room = min(steps, self.room), max(0, self.room - steps)
+            self.clock, self.room = self.clock + made, self.room or 3
+            if not made:
+                yield b'{"starved":true}\n'
+            elif made < steps:
+                yield b'{"clock":%d,"short":%d}\n' % (self.clock, made)
+            else:
+                yield b'{"clock":%d}\n' % self.clock
+
+    read = lane = None
+
+
+class Lights:
+    """Lights that are looked at each 10 s and begin nothing."""
+
+    def __init__(self):
+        self.looks = []
+
+    def due(self):
+        return self.looks[-1] + 10 if self.looks else 10
+
+    def look(self, clock, _senses):
+        self.looks.append(clock)
+        return ()
+
+
+class Short(unittest.TestCase):
+    """Where memory runs out within an advance, the clock is that of the steps that were made."""
+
+    def asked(self, room, *steps):
+        mapping = Map([], [], [], [], [], {}, [])
+        engine = DrivenEngine("", [], lambda: (Run(None, [], [], []), mapping, []))
+        engine.client, engine.driver = Memory(room), Lights()
+        texts = engine.ask([b'{"cmd":"advance","steps":%d}\n' % count for count in steps])
+        return [json.loads(text) for text in texts], engine.clock, engine.driver.looks
+
+    def test_within_the_steps_to_a_look(self):
+        replies, clock, looks = self.asked(4, 12)
+        self.assertEqual((replies, clock, looks), ([{"clock": 4, "short": 4}], 4, []))
+
+    def test_after_a_look(self):
+        # 10 s to the look, and 4 of the 15 after it: 14 in all, of which the reply tells.
+        replies, clock, looks = self.asked(14, 25)
+        self.assertEqual((replies, clock, looks), ([{"clock": 14, "short": 14}], 14, [10]))
+
+    def test_lines_between_looks(self):
+        # Two lines are sent together: the first makes 2 of 5 steps, the second 3 of 4; nobody is to be looked at.
+        replies, clock, looks = self.asked(2, 5, 4)
+        self.assertEqual((replies, clock, looks), ([{"clock": 2, "short": 2}, {"clock": 5, "short": 3}], 5, []))
 
 
 @needs_package("nodejs", NODE)

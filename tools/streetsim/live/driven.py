@@ -1,7 +1,6 @@
 """The engine of a page whose lights detectors drive: it looks at them between the steps that the page asks for."""
 import json
-from collections.abc import Callable, Iterable
-from typing import Any
+from collections.abc import Callable, Iterable, Sequence
 
 from streetsim.actuated.driver import Driver, Senses
 from streetsim.actuated.lights import driven_lights
@@ -13,6 +12,7 @@ from streetsim.model.runs import Command, Run
 
 Made = Callable[[], tuple[Run, Map, list[str]]]  # the run that the page shows, and its map
 ADVANCE, SIGNAL = b'{"cmd":"advance"', b'{"cmd":"signal"'
+CLOCK = b'{"clock":'  # how the reply to an advance begins that made steps
 
 
 class DrivenEngine(Engine):
@@ -48,34 +48,54 @@ class DrivenEngine(Engine):
                 raise Fault("nothing is running: reload the page")
             replies: list[bytes] = []
             waiting: list[bytes] = []  # that are sent together, as no light is looked at between them
+            ahead = 0  # steps of these
             for line in lines:
                 steps = steps_of(line)
-                if line.startswith(SIGNAL) or (steps and (self.shown or self.clock + steps >= self.driver.due())):
-                    replies += self.client.exchange(waiting)
-                    waiting = []
+                due = self.driver.due() - ahead
+                if line.startswith(SIGNAL) or (steps and (self.shown or self.clock + steps >= due)):
+                    replies += self.exchange(waiting)
+                    waiting, ahead = [], 0
                     replies.append(self.advance(steps) if steps else self.set_plan(line))
                 else:
                     waiting.append(line)
-                    self.clock += steps
-            return replies + list(self.client.exchange(waiting))
+                    ahead += steps
+            return replies + self.exchange(waiting)
+
+    def exchange(self, lines: Sequence[bytes]) -> list[bytes]:
+        """Sends lines, and gives the replies; the clock is then that of the last advance among them, which may have
+        stopped early."""
+        assert self.client is not None
+        replies = list(self.client.exchange(lines))
+        for text in replies:
+            if text.startswith(CLOCK):
+                self.clock = json.loads(text)["clock"]
+        return replies
 
     def advance(self, steps: int) -> bytes:
-        """Makes so many steps, with the looks at lights that are due on the way; gives the reply to the page."""
-        assert self.client is not None
-        target, reply = self.clock + steps, {}
+        """Makes so many steps, with the looks at lights that are due on the way; gives the reply to the page. Where
+        memory runs out on the way, the reply is short, with the steps that were made in all, or starved where none
+        was."""
+        begin, target, reply = self.clock, self.clock + steps, b""
         while self.clock < target:
             part = max(1, min(target, self.driver.due()) - self.clock)
-            [text] = self.client.exchange([b'{"cmd":"advance","steps":%d}\n' % part])
-            reply = json.loads(text)
-            if "clock" not in reply or "short" in reply:
-                return text
-            self.clock = reply["clock"]
-            client = self.client
-            senses = Senses(client.read, lambda place: client.lane(*place))
-            self.show(self.driver.look(self.clock, senses))
-        told: dict[str, Any] = {**reply, **({"shown": self.shown} if self.shown else {})}
-        self.shown = []
+            [reply] = self.exchange([b'{"cmd":"advance","steps":%d}\n' % part])
+            if not reply.startswith(CLOCK) or b'"short"' in reply:
+                break
+            self.look()
+        told: Command = {"clock": self.clock}
+        if self.clock == begin:
+            return reply
+        if self.clock < target:
+            told["short"] = self.clock - begin
+        if self.shown:
+            told["shown"], self.shown = self.shown, []
         return line_of(told)
+
+    def look(self) -> None:
+        """Has the lights that are due at the clock look at their detectors, and shows what they begin."""
+        client = self.client
+        assert client is not None
+        self.show(self.driver.look(self.clock, Senses(client.read, lambda place: client.lane(*place))))
 
     def show(self, commands: Iterable[Command]) -> None:
         """Sends commands that place detectors of lights, or set signals; the signals are kept for the page."""
