@@ -160,7 +160,7 @@ class SignalEnv:
         """Whether any vehicle is on the road or is still to depart."""
         session = self.running()
         told = session.entered == len(session.source.enters)
-        return not told or bool(session.view.places) or bool(session.view.waiting_to_depart())
+        return not told or bool(session.view.places) or bool(session.view.to_depart())
 
     def running(self) -> Session:
         """The session; ValueError before the first reset."""

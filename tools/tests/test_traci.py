@@ -13,19 +13,23 @@ import xml.etree.ElementTree as ElementTree
 from contextlib import redirect_stderr
 from io import StringIO
 from pathlib import Path
+from types import SimpleNamespace
 
 from support import (
     DATA, FORK, PROGRAM, SCENARIOS, TOOLS, Case, lane, needs_package, needs_simulator, needs_sumo, needs_sumo_tools,
     net,
 )
+from streetsim.model.detectors import Detector
 from streetsim.results.compare import geh
 from streetsim.scenario import TrafficLight
+from streetsim.simulation.fleet import Place
 from streetsim.simulation.remembering import Remembering
 from streetsim.simulation.lights import Light
 from streetsim.simulation.options import OUTPUT, SHORT, check_option
 from streetsim.traci import constants as tc
 import streetsim.traci as traci
 from streetsim.traci.advice import NOTHING
+from streetsim.traci.roads import InductionLoop
 
 SCRIPTS, ACTUATED = TOOLS / "examples/traci", TOOLS / "examples/actuated"
 USERS = DATA / "traci"  # scripts of users, for SUMO's traci
@@ -71,6 +75,21 @@ class Started(Case):
             traci.simulationStep()
 
 
+class Loops(unittest.TestCase):
+    def test_occupancy_is_of_the_vehicle_on_the_loop_alone(self):
+        """One drove over cell 3 at 15 m/s and is now in cell 3 of the next link; the loop was covered by its 5 m."""
+        detector = Detector("loop", "e1", 0, 0, 3, 3, 60)
+        driving = 100 * 5 / 15
+        for place, percent in ((Place(1, 0, 3, 2), driving), (Place(0, 1, 3, 2), driving), (Place(0, 0, 3, 0), 100)):
+            view = SimpleNamespace(places={7: place}, before={})
+            fleet = SimpleNamespace(names={7: "v"}, sizes={"v": 1})
+            session = SimpleNamespace(
+                view=view, fleet=fleet, detectors={"loop": detector}, loops={"loop": SimpleNamespace(passed=[7])}
+            )
+            session.follow = lambda session=session: session
+            self.assertAlmostEqual(InductionLoop(lambda session=session: session).getLastStepOccupancy("loop"), percent)
+
+
 class Vehicles(Started):
     def test_one_vehicle(self):
         """It departs in the first step, whatever the draws, and stands in cell 0."""
@@ -100,6 +119,36 @@ class Vehicles(Started):
         self.assertEqual((arrived, traci.vehicle.getIDList()), (["v"], ("later",)))
         with self.assertRaisesRegex(traci.TraCIException, "Vehicle 'v' is not known."):
             traci.vehicle.getSpeed("v")
+
+    def test_a_way_that_ends_where_the_vehicle_is(self):
+        """It drives to the end of its edge, past the light, and arrives a second later; the run goes on."""
+        self.start()
+        traci.simulationStep()
+        traci.vehicle.changeTarget("v", "a")
+        self.assertEqual(traci.vehicle.getRoute("v"), ("a",))
+        seen, arrived = [], []
+        for _ in range(60):
+            traci.simulationStep()
+            seen += [traci.vehicle.getRoadID("v")] if "v" in traci.vehicle.getIDList() else []
+            arrived += [name for name in traci.simulation.getArrivedIDList() if name == "v"]
+        self.assertEqual((set(seen), arrived), ({"a"}, ["v"]))
+        self.assertEqual(traci.simulation.getPendingVehicles(), ())
+        self.assertEqual((traci.simulation.getTime(), traci.simulation.getMinExpectedNumber()), (61.0, 1))
+
+    def test_who_is_told_for_a_later_second(self):
+        """It is not pending before its second, also where it gets another way, and has not ended either."""
+        self.start()
+        traci.route.add("whole", ["a", "b"])
+        traci.route.add("short", ["a"])
+        traci.vehicle.add("x", "whole", depart=9)
+        for change in (lambda: None, lambda: traci.vehicle.setRouteID("x", "short")):
+            change()
+            self.steps(3)
+            self.assertEqual((traci.simulation.getPendingVehicles(), traci.lane.getPendingVehicles("a_0")), ((), ()))
+            self.assertEqual(traci.simulation.getMinExpectedNumber(), 3)
+            self.assertNotIn("x", traci.vehicle.getIDList())
+        self.steps(4)
+        self.assertIn("x", traci.vehicle.getIDList())
 
     def test_who_has_not_departed(self):
         self.start()
@@ -458,6 +507,10 @@ class Vehicles(Started):
         self.assertEqual(trace(), first)
         with self.assertRaisesRegex(traci.TraCIException, "not a state"):
             traci.simulation.loadState(self.write("x.json", "{}"))
+        traci.close()
+        self.start(routes=ROUTES.replace("later", "other"))
+        with self.assertRaisesRegex(traci.TraCIException, "state.json: a state of other routes"):
+            traci.simulation.loadState(path)
 
     def test_steps_into_the_past_are_none_and_listeners_are_told(self):
         class Listener(traci.StepListener):

@@ -32,10 +32,12 @@ class Fleet:
     plans: dict[str, tuple[int, ...]] = field(default_factory=dict)  # by name: links, those that are driven included
     sizes: dict[str, int] = field(default_factory=dict)  # by name: cells
     starts: dict[int, tuple[int, int]] = field(default_factory=dict)  # by number: (link, lane) on which it departs
+    departs: dict[int, int] = field(default_factory=dict)  # by number: clock at which it wishes to
 
     def note(self, name: str, car: int, command: Command, driven: Sequence[int] = ()) -> None:
         """Notes a vehicle that entered by a command, under its number car. driven: the links that it drove before,
         where it was taken out and entered anew."""
         plan = command["plan"]
         self.cars[name], self.names[car], self.starts[car] = car, name, (plan[0], command["lane"])
+        self.departs[car] = command["depart"]
         self.plans[name], self.sizes[name] = (*driven, *plan), command.get("size", 1)

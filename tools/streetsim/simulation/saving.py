@@ -1,5 +1,6 @@
 """States of a session: the lines that brought it there, as a run repeats exactly, and what is known of it."""
 import json
+from hashlib import sha256
 from typing import Any
 
 from streetsim.base.files import open_text, whole_file
@@ -8,7 +9,7 @@ from streetsim.simulation.errors import TraCIException
 from streetsim.simulation.fleet import Place
 from streetsim.simulation.session import Session
 
-FORMAT = "streetsim state 2"
+FORMAT = "streetsim state 3"
 State = dict[str, Any]
 TALLIED = ("waiting", "waited", "lost", "travelled")
 
@@ -25,14 +26,15 @@ def save_state(session: Session, path: str) -> None:
     session.let_go()
     fleet, types, view, lights = session.fleet, session.types, session.view, session.control.lights.items()
     state = {
-        **{"format": FORMAT, "load": session.source.load.text},
+        **{"format": FORMAT, "of": files_of(session)},
         "lines": [line.decode() for line in session.client.changes],
         **{"entered": session.entered, "sent": session.sent, "clock": session.clock},
         **{"names": list(fleet.names.values()), "starts": list(fleet.starts.values())},
+        "departs": list(fleet.departs.values()),
         **{"cars": fleet.cars, "plans": fleet.plans, "sizes": fleet.sizes},
         **{"kind_of": types.kind_of, "route_of": types.route_of},
         **{name: list(getattr(session.tally, name).items()) for name in TALLIED},
-        **{"seen": sorted(view.seen), "gone": view.gone},
+        **{"seen": sorted(view.seen), "gone": view.gone, "leaving": view.leaving},
         "held": [[car, [place.link, place.lane, place.speed]] for car, place in view.held.items()],
         **{"wishes": session.wishes, "pending": [[car, *way] for car, way in session.pending.items()]},
         "loops": {name: loop.last for name, loop in session.loops.items()},
@@ -42,6 +44,17 @@ def save_state(session: Session, path: str) -> None:
     }
     with whole_file(path) as file:
         json.dump(state, file, separators=(",", ":"))
+
+
+def files_of(session: Session) -> dict[str, str]:
+    """Digests of what a session was made of, by what a state is of where they differ."""
+    run, mapping = session.source, session.map
+    parts = {
+        "another network, or of other words": [run.load.text],
+        "other routes": [*(line.text for line in run.enters), *mapping.cars, json.dumps(mapping.kinds)],
+        "other additional files": [line.text for line in (*run.first, *(line for _, line in run.timed))],
+    }
+    return {text: sha256("\n".join(lines).encode()).hexdigest() for text, lines in parts.items()}
 
 
 def load_state(session: Session, path: str) -> None:
@@ -54,8 +67,8 @@ def load_state(session: Session, path: str) -> None:
         raise TraCIException(f"{path}: cannot be read: {fault}") from None
     if not isinstance(state, dict) or state.get("format") != FORMAT:
         raise TraCIException(f"{path}: not a state that simulation.saveState of streetsim wrote")
-    if state["load"] != session.source.load.text:
-        raise TraCIException(f"{path}: a state of another network, or of other words")
+    if other := [text for text, digest in files_of(session).items() if state["of"].get(text) != digest]:
+        raise TraCIException(f"{path}: a state of {other[0]}")
     if session.writer is not None:
         raise TraCIException("simulation.loadState: output files are being written, which go on from second to second")
     session.client.repeat([line.encode() for line in state["lines"]])
@@ -74,10 +87,11 @@ def restore_vehicles(session: Session, state: State) -> None:
     fleet.cars, fleet.sizes, fleet.names = state["cars"], state["sizes"], dict(enumerate(state["names"]))
     fleet.plans = {name: tuple(links) for name, links in state["plans"].items()}
     fleet.starts = {car: (link, lane) for car, (link, lane) in enumerate(state["starts"])}
+    fleet.departs = dict(enumerate(state["departs"]))
     types.kind_of, types.route_of = state["kind_of"], state["route_of"]
     for name in TALLIED:
         setattr(session.tally, name, {int(car): value for car, value in state[name]})
-    view.gone, view.seen = state["gone"], set(state["seen"])
+    view.gone, view.seen, view.leaving = state["gone"], set(state["seen"]), state["leaving"]
     view.held = {car: Place(link, lane, None, speed) for car, (link, lane, speed) in state["held"]}
     session.wishes = {name: tuple(links) for name, links in state["wishes"].items()}
     session.pending = {car: (link, tuple(links)) for car, link, links in state["pending"]}

@@ -105,6 +105,7 @@ class Session(Simulation):
         self.view.before = {}
         self.view.look()
         self.view.seen, self.view.departed = seen | set(self.view.places), []
+        self.view.leaving, self.view.arrived = self.view.arrived, []
         self.note_loops()
 
     def note_loops(self) -> None:
@@ -205,21 +206,26 @@ class Session(Simulation):
             self.turn_off()
 
     def turn_off(self) -> None:
-        """Has the vehicles that are to take another way, and are at the node where it begins, enter its first link."""
+        """Has the vehicles that are to take another way, and are at the node where it begins, enter its first link;
+        those whose way ends there are taken out, and arrive in the next step."""
         for car, (link, links) in list(self.pending.items()):
             place = self.view.places.get(car)
             if place is None or place.link != link:
                 del self.pending[car]
             elif place.cell is None and car not in self.view.held:
                 del self.pending[car]
-                self.turn(car, links, place)
+                if links:
+                    self.turn(car, links, place)
+                else:
+                    self.remove(self.fleet.names[car])
+                    self.view.leaving.append(car)
 
     def turn(self, car: int, links: Sequence[int], place: Place | None = None) -> None:
         """Takes out the vehicle of a number and enters it with another plan; place: the node where it is, None: it has
         not departed."""
         name = self.fleet.names[car]
         driven = self.fleet.plans[name][: -len(links)] if place is not None else ()
-        new = self.enter_anew(name, links, self.clock, driven)
+        new = self.enter_anew(name, links, max(self.clock, self.fleet.departs[car]), driven)
         if self.writer is not None:
             self.writer.rename(car, new)
         if place is not None:

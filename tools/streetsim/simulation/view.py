@@ -28,6 +28,7 @@ class View:
         self.seen: set[int] = set()
         self.departed: list[int] = []  # in the last step
         self.arrived: list[int] = []
+        self.leaving: list[int] = []  # taken out at the end of their way since: they arrive in the step to come
         self.gone: dict[str, int | None] = {}  # by name the step of its end
         self.first = True  # whether no look was made
 
@@ -69,7 +70,7 @@ class View:
 
     def note_gone(self, cars: Iterable[int]) -> None:
         """Asks what became of vehicles that are no longer seen, by number, and notes who arrived."""
-        self.arrived = []
+        self.arrived, self.leaving = self.leaving, []
         for reply in self.simulation.vehicles(cars):
             self.gone[self.simulation.fleet.names[reply.car]] = reply.step
             if reply.state == "arrived":
@@ -88,10 +89,16 @@ class View:
         fleet, place = self.simulation.fleet, self.places[car]
         return place.cell == 0 and not place.speed and place.link == fleet.plans[fleet.names[car]][0]
 
-    def waiting_to_depart(self) -> list[int]:
-        """The numbers of the vehicles that the program was told of and that have not departed."""
+    def to_depart(self) -> list[int]:
+        """The numbers of the vehicles that the program was told of and that have not departed, those for a later second
+        among them."""
         cars = self.simulation.fleet.cars
         return [car for name, car in cars.items() if car not in self.seen and name not in self.gone]
+
+    def waiting_to_depart(self) -> list[int]:
+        """Those of to_depart whose second has passed, and who found no room."""
+        departs, clock = self.simulation.fleet.departs, self.simulation.clock
+        return [car for car in self.to_depart() if departs[car] < clock]
 
     def rename(self, car: int, new: int, place: Place) -> None:
         """Notes that a vehicle at a node (place) goes on under the number new, and counts as there until it is seen
@@ -101,7 +108,10 @@ class View:
         self.places[new] = self.held[new] = Place(place.link, place.lane, None, 0)
 
     def remove(self, name: str, car: int) -> None:
-        """Notes that a vehicle was taken out."""
+        """Notes that a vehicle was taken out; in a junction nobody sees it any more."""
+        for cars in self.in_buffer.values():
+            if car in cars:
+                cars.remove(car)
         self.gone[name] = self.simulation.clock
         self.places.pop(car, None)
         self.held.pop(car, None)

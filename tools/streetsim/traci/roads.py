@@ -101,7 +101,7 @@ class Lane(LaneCalls[Session], Stretches):
         return self.facts(name).speed
 
     def getPendingVehicles(self, name: str) -> tuple[str, ...]:
-        """The vehicles that should have departed on it and wait for room."""
+        """The vehicles that should have departed on it before now and wait for room."""
         session, places = self.now().follow(), set(self.places(name))
         there = (car for car in session.view.waiting_to_depart() if session.fleet.starts[car] in places)
         return tuple(session.fleet.names[car] for car in there)
@@ -263,8 +263,9 @@ class InductionLoop(Detectors):
     def getLastStepOccupancy(self, name: str) -> float:
         """The percentage, 0 to 100, of the last step in which a vehicle covered it: 100 where one stands there, else by
         the lengths and speeds of those who drove over it."""
-        one, cars, places = self.detector(name), self.cars(name), self.now().view.places
-        if any(car in places and places[car].cell == one.first for car in cars):
+        one, places = self.detector(name), self.now().view.places
+        there = [places[car] for car in self.cars(name) if car in places]
+        if any((place.link, place.lane, place.cell) == (one.link, one.lane, one.first) for place in there):
             return 100.0
         ways = zip(self.lengths(name), self.speeds(name))
         return min(100.0, sum(100 * metres / max(METRES, speed) for metres, speed in ways))

@@ -104,7 +104,7 @@ class Simulation(Domain, SimulationCalls[Session]):
         return len(self.now().follow().view.arrived)
 
     def getPendingVehicles(self) -> tuple[str, ...]:
-        """The vehicles that should have departed and wait for room."""
+        """The vehicles that should have departed before now and wait for room."""
         session = self.now().follow()
         return tuple(session.fleet.names[car] for car in session.view.waiting_to_depart())
 
@@ -196,7 +196,7 @@ class Simulation(Domain, SimulationCalls[Session]):
         save_state(self.now(), fileName)
 
     def loadState(self, fileName: str) -> None:
-        """Brings the run to a state that was saved in a run of the same files."""
+        """Brings the run to a state that was saved in a run of the same files; TraCIException for one of others."""
         load_state(self.now(), fileName)
 
     def writeMessage(self, msg: str) -> None:
