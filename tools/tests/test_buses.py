@@ -411,7 +411,7 @@ class Priorities(Case):
     @needs_simulator
     def test_wrong_words(self):
         for words, why in (
-            (("--priority", "tram"), "--priority 'tram': no vehicle is of this class or line"),
+            (("--priority", "tram"), "priority 'tram': no vehicle is of this class or line"),
             (("--seen", 9), "--seen is of vehicles with --priority"),
             (("--priority", "bus", "--seen", 0), "--seen: '0' is not 1 to 60"),
         ):
@@ -419,6 +419,49 @@ class Priorities(Case):
                 _, told = self.made(71, *words, status=2)
                 self.assertIn(why, told)
                 self.assertEqual(len(told.splitlines()[-1:]), 1)
+
+    @needs_simulator
+    def test_a_light_of_two_rings_waits(self):
+        # The first car comes when 2 and 6 had their least. Traffic then holds them from 20 to 60 s; 4 and 8 have 5 s
+        # from 65 s on. The bus is 15 s before the end of 40 cells at 78 s: 2 and 6, green again since 75 s, end after
+        # their least, and its own greens begin 5 s later.
+        phases = "".join(
+            f'<phase duration="30" state="{state}" minDur="5" maxDur="40" vehext="2" yellow="3" red="2" name="{name}"/>'
+            for name, state in ((2, "Gr"), (4, "rG"), (6, "Gr"), (8, "rG"))
+        )
+        told = (("ring1", "0,2,0,4"), ("ring2", "0,6,0,8"), ("barrierPhases", "4,8"), ("barrier2Phases", "2,6"))
+        values = "".join(f'<param key="{key}" value="{value}"/>' for key, value in told)
+        begin, end = CROSS.index("<tlLogic"), CROSS.index("</tlLogic>")
+        light = f'<tlLogic id="L" type="NEMA" programID="0" offset="0">{phases}{values}'
+        cars = '<flow id="c" begin="0" end="200" period="2"><route edges="w e"/></flow>'
+        _, said = self.made(71, "--priority", "bus", cars=cars, program=CROSS[:begin] + light + CROSS[end:])
+        self.assertIn("1 lights wait for 1 vehicles", said)
+        rows = self.phases()
+        self.assertEqual([row for row in rows if row[3] == "bus"], [(75, 2, 5, "bus"), (75, 6, 5, "bus")])
+        self.assertIn((85, 4), [row[:2] for row in rows])
+
+    @needs_simulator
+    def test_a_study_gives_priority_as_streetsim_run_does(self):
+        self.made(71, "--priority", "bus")
+        with_it = self.arrival()
+        self.made(71)
+        text = f'run = "{self.folder}/run.jsonl"\nmap = "{self.folder}/map.json"\nuntil = 200\nseeds = "1"\n'
+        study = self.write("study.toml", text + '[variant.as_it_is]\n[variant.first]\npriority = "bus"\n')
+        self.tool("study", study, "--out", self.folder / "study", "--jobs", 1, "--program", PROGRAM)
+        with open(self.folder / "study/runs.csv", encoding="utf-8") as file:
+            found = {row["variant"]: float(row["mean_trip_s"]) for row in csv.DictReader(file)}
+        self.assertEqual(found, {"as_it_is": self.arrival() - 71.0, "first": with_it - 71.0})
+        for keys, why in (
+            ('priority = "tram"', "priority 'tram': no vehicle is of this class or line"),
+            ("seen = 9", "seen is of vehicles with priority"),
+            ('priority = "bus"\nseen = 61', "seen = 61 is not 1 to 60 s"),
+            ('priority = "bus"\nplans = ["x.net.xml"]', "lights that wait for buses do not show plans"),
+            ("priority = 1", "priority = 1 is no text of classes or lines"),
+        ):
+            with self.subTest(why):
+                wrong = self.write("wrong.toml", f"{text}[variant.a]\n{keys}\n")
+                _, said = self.tool("study", wrong, "--out", self.folder / "x", "--program", PROGRAM, status=2)
+                self.assertIn(why, said)
 
     @needs_simulator
     def test_a_light_that_can_not_wait_is_told(self):

@@ -10,7 +10,8 @@ from support import Case, lane, needs_simulator, net
 from streetsim.actuated.driver import present_by
 from streetsim.actuated.kept import Area
 from streetsim.actuated.lights import driven_lights
-from streetsim.actuated.nema import GREEN, YELLOW, Nema, RingPhase, Rings, together
+from streetsim.actuated.nema import Nema
+from streetsim.actuated.ring_phases import GREEN, YELLOW, RingPhase, Rings, together
 from streetsim.actuated.rings import barriers_of, digits, phases_of
 from streetsim.actuated.showing_rings import cycle_of, of_green
 from streetsim.base.client import Lane
@@ -35,14 +36,16 @@ def rings(recall=(2, 4, 6, 8), most_recall=(), latching=(), orders=((0, 2, 0, 4)
     return Rings(phases, orders, ((2, 6), (4, 8)))
 
 
-def drive(program, seen, until):
+def drive(program, seen, until, calls=()):
     """The greens that ended until a second: (phase, begin, seconds, why). seen: by area the seconds in which somebody
-    is on it."""
-    light = Nema(program)
+    is on it; calls: by second the phases that buses call from then on."""
+    light, calls = Nema(program), dict(calls)
     light.start(0)
-    while light.due <= until:
-        clock = light.due
-        light.look(clock, lambda area: clock in seen.get(area, ()))
+    for clock in range(1, until + 1):
+        if clock in calls:
+            light.call(clock, calls[clock])
+        if light.due <= clock:
+            light.look(clock, lambda area, now=clock: now in seen.get(area, ()))
     return [tuple(row) for row in light.ended]
 
 
@@ -94,6 +97,29 @@ class Logic(unittest.TestCase):
     def test_a_call_that_is_kept(self):
         program = rings(recall=(2, 6), latching=(4,))
         self.assertEqual(drive(program, {2: ALWAYS, 4: (30,)}, 60)[0], (2, 0, 49, "call"))
+
+    def test_a_bus_keeps_its_green(self):
+        # Seen from 3 to 12 s: an extension of 2 s follows it. Ring 2 waits for it at the barrier.
+        self.assertEqual(drive(rings(), {}, 14, {3: (2,), 12: ()}), [(2, 0, 13, "gap"), (6, 0, 13, "barrier")])
+        # Also where the green is over, and waits for the other ring: 6 ends at 7 s, and 2 not before the bus has gone.
+        told = drive(rings(), {6: range(6)}, 12, {6: (2,), 10: ()})
+        self.assertEqual(told, [(2, 0, 10, "barrier"), (6, 0, 10, "barrier")])
+        # Never longer than its most.
+        self.assertEqual(drive(rings(), {}, 30, {3: (2,)})[0], (2, 0, 20, "most"))
+
+    def test_a_bus_fetches_its_green_when_those_in_its_way_had_their_least(self):
+        # Traffic would hold 2 and 6 until 20 s. The bus comes at 2 s, before their least, or at 9 s, after it.
+        busy = {2: ALWAYS, 6: ALWAYS}
+        self.assertEqual(drive(rings(), busy, 9, {2: (4,)}), [(2, 0, 5, "bus"), (6, 0, 5, "bus")])
+        self.assertEqual(drive(rings(), busy, 14, {9: (4,)}), [(2, 0, 9, "bus"), (6, 0, 9, "bus")])
+        # In its own ring alone: 1 ends for 2, and 6 beside it stays.
+        program = rings(recall=(1, 2, 4, 6, 8), orders=((1, 2, 0, 4), (0, 6, 0, 8)))
+        self.assertEqual(drive(program, {1: ALWAYS, 6: ALWAYS}, 19, {7: (2,)}), [(1, 0, 7, "bus")])
+
+    def test_a_bus_has_a_phase_shown_that_nobody_calls(self):
+        # From rest, without any call: at its least, and with the yellow and red of 5 s the bus has green from 15 s on.
+        told = drive(rings(recall=(2, 6)), {}, 60, {10: (4,), 20: ()})
+        self.assertEqual([row[:3] for row in told[:3]], [(2, 0, 10), (6, 0, 10), (4, 15, 6)])
 
     def test_what_two_phases_show_together(self):
         program = rings()

@@ -129,11 +129,11 @@ class Driver:
         return min((one.due() for one in self.controllers), default=limits.CLOCK)
 
     def call(self, clock: int, calls: Iterable[tuple[str, Collection[int]]]) -> None:
-        """From now on buses call phases of some lights, (light, places of its phases, none of them: no longer); NEMA
-        lights and lights that are not driven are passed over."""
+        """From now on buses call phases of some lights, (light, its phases as Light.serving has them, none of them: no
+        longer); lights that are not driven are passed over."""
         called = dict(calls)
         for one in self.controllers if called else ():
-            if one.name in called and isinstance(one.logic, Actuated):
+            if one.name in called:
                 one.logic.call(clock, called[one.name])
 
     def look(self, clock: int, senses: Senses) -> Iterator[Command]:

@@ -3,7 +3,7 @@ their program lists."""
 from __future__ import annotations
 
 from collections import Counter
-from collections.abc import Iterable, Iterator, Mapping
+from collections.abc import Collection, Iterable, Iterator, Mapping
 from contextlib import suppress
 from dataclasses import dataclass, field
 from functools import cached_property
@@ -13,7 +13,7 @@ from typing import Any
 
 from streetsim.actuated.detectors import GAP, LEAD, NO_DETECTOR, Layout, LitLane, Spot, Stretch, Way, extending, spots
 from streetsim.actuated.kept import OFF, Area, Cell, Listed, NodeOf, bounds_of, in_force, kept_of, node_of, number_of
-from streetsim.actuated.logic import Actuated, Phase
+from streetsim.actuated.logic import GO, Actuated, Phase
 from streetsim.actuated.rings import DrivenRings, driven_rings
 from streetsim.base import limits
 from streetsim.base.report import some
@@ -47,6 +47,11 @@ class Driven:
     def longest(self) -> float:
         """The seconds of a cycle whose phases are all as long as they may be; of each 600 at most."""
         return sum(min(phase.most, limits.PHASE_STEPS) for phase in self.phases)
+
+    def serving(self, indexes: Collection[int]) -> frozenset[int]:
+        """The places of the phases in which a movement, by its places in a state, has green."""
+        found = (at for at, phase in enumerate(self.phases) if any(phase.state[index] in GO for index in indexes))
+        return frozenset(found)
 
     def logic(self) -> Actuated:
         """A fresh logic of this light, for one run."""

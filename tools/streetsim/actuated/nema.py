@@ -4,86 +4,21 @@ streetsim: it is told which of its areas have a vehicle on them.
 After SUMO 1.15's NEMAController: two rings of phases run side by side, and both cross a barrier together. A green lasts
 its least time, and longer by an extension since somebody was last on an area of its phase, up to its most. Which phase
 comes next is the nearest in its ring that is called, by a recall or by somebody on its areas. Who has to wait for the
-other ring stays green (transfer); where nobody else is called both rest in green.
+other ring stays green (transfer); where nobody else is called both rest in green. A bus that calls a phase is as
+somebody on its areas, and has the greens in its way end at their least.
 """
 from __future__ import annotations
 
-from collections.abc import Callable, Iterable, Iterator, Sequence
+from collections.abc import Callable, Collection, Iterable, Iterator, Sequence
 from dataclasses import dataclass, field
 from itertools import product
 from math import ceil
 from typing import NamedTuple
 
-from streetsim.actuated.logic import BY_CALL, BY_GAP, BY_MOST, BY_OTHER, GO, Ended
+from streetsim.actuated.logic import BY_BUS, BY_CALL, BY_GAP, BY_MOST, BY_OTHER, Ended
+from streetsim.actuated.ring_phases import GREEN, RED, REST, TRANSFER, YELLOW, RingPhase, Rings, together
 
 PresentAt = Callable[[int], bool]  # whether anybody is on an area
-RED, YELLOW, GREEN, TRANSFER, REST = range(5)  # what a phase shows; from GREEN on it is green
-LETTERS = "GgyuOs"  # of two phases that show a signal that neither controls, the first of these is shown
-
-
-@dataclass(slots=True, frozen=True)
-class RingPhase:
-    """A phase of a ring, as its program has it; all times in seconds."""
-
-    name: int  # its number, 1 to 8
-    state: str
-    least: float
-    most: float
-    extension: float  # how long its green stays after somebody was last on an area
-    yellow: float
-    red: float  # of all its signals, after yellow
-    areas: tuple[int, ...]  # places of those that call and extend it
-    least_recall: bool = True  # called always, for its least time
-    most_recall: bool = False  # called always, for its greatest time
-    latching: bool = False  # a call stays until the phase is green
-
-    @property
-    def change(self) -> float:
-        """The seconds from the end of its green to the begin of the next: yellow and red."""
-        return self.yellow + self.red
-
-    @property
-    def usual(self) -> float:
-        """The seconds of green that it is thought to last as long as none of it has ended."""
-        return (self.least + self.most) / 2
-
-    def shown(self, stage: int) -> str:
-        """The letters of its signals at a stage (RED, YELLOW, GREEN, ..)."""
-        if stage >= GREEN:
-            return self.state
-        return "".join("y" if one in GO else one for one in self.state) if stage == YELLOW else "r" * len(self.state)
-
-
-@dataclass(slots=True, frozen=True)
-class Rings:
-    """A program of two rings: for each ring the numbers of its phases, 0 where there is none, two before the barrier
-    and two behind it; and for each side of the barrier the phase in which each ring waits for the other one."""
-
-    phases: Sequence[RingPhase]
-    orders: tuple[tuple[int, ...], ...]
-    barriers: tuple[tuple[int, ...], ...]  # by side: a phase of each ring
-
-    def phase(self, name: int) -> RingPhase:
-        """The phase of a number; StopIteration where there is none."""
-        return next(one for one in self.phases if one.name == name)
-
-    def names(self, ring: int) -> list[int]:
-        """The numbers of the phases of a ring (0 or 1), in its order."""
-        return [name for name in self.orders[ring] if name]
-
-    def is_at_barrier(self, name: int) -> bool:
-        """Whether the phase of a number is one in which its ring waits for the other."""
-        return any(name in side for side in self.barriers)
-
-
-def together(shown: Sequence[tuple[RingPhase, int]]) -> str:
-    """The letters that phases at stages show together. A signal that is G in one of these phases shows what that phase
-    shows; any other the first of LETTERS that one of them shows, else red."""
-    states, found = [phase.shown(stage) for phase, stage in shown], []
-    for at, letters in enumerate(zip(*states, strict=True)):
-        own = [letter for letter, (phase, _) in zip(letters, shown, strict=True) if phase.state[at] == "G"]
-        found.append(own[-1] if own else next((letter for letter in LETTERS if letter in letters), "r"))
-    return "".join(found)
 
 
 class Way(NamedTuple):
@@ -145,6 +80,7 @@ class Nema:
             one.ways = self.ways(one)
         self.active = [own[0] for own in self.by_ring]
         self.present: PresentAt = lambda area: False
+        self.wanted: Collection[int] = ()  # numbers of the phases that buses keep, or fetch, within bounds
 
     def running(self, name: int, ring: int, recalls: bool) -> Running:
         """A phase before it begins, by its number; ring: 0 or 1; recalls: whether any phase of the light has a
@@ -211,9 +147,11 @@ class Nema:
         self.now, self.present, before, state = now, present, self.greens(), self.state()
         for one in self.all:
             if one.phase.latching and not one.called:
-                one.called = self.is_on(one)
+                one.called = any(map(self.present, one.phase.areas))
         for one in self.active:
             self.update(one)
+        for one in self.active if self.wanted else ():
+            self.serve(one)
         if any(one.ready for one in self.active):
             self.go_on()
         for one in self.all:
@@ -226,7 +164,7 @@ class Nema:
         """The seconds in which nothing can happen in the ring of a phase that is shown, whatever the other ring does;
         `look` takes one at least."""
         phase, left = one.phase, one.lasts - (self.now - one.since)
-        if any(other.phase.latching for other in self.all) or one.stage > GREEN:
+        if self.wanted or any(other.phase.latching for other in self.all) or one.stage > GREEN:
             return 1
         if one.stage < GREEN:
             changed = self.now - one.end
@@ -235,8 +173,9 @@ class Nema:
         return ceil(left) if one.lasts >= one.most else min(ceil(left), int(left - phase.extension) + 1)
 
     def is_on(self, one: Running) -> bool:
-        """Whether anybody is on the areas of a phase, or was since its last green where it is latching."""
-        return one.called or any(map(self.present, one.phase.areas))
+        """Whether somebody is on the areas of a phase, or was since its last green where it is latching, or a bus calls
+        it."""
+        return one.called or one.phase.name in self.wanted or any(map(self.present, one.phase.areas))
 
     def is_called(self, one: Running) -> bool:
         """Whether a phase wants to be green: by a recall, or by somebody on its areas."""
@@ -258,6 +197,28 @@ class Nema:
             self.rest(one, since)
         if since >= one.lasts:
             one.ready = True
+
+    def call(self, now: int, phases: Collection[int]) -> None:
+        """From now on buses call some phases, by their numbers: those that are shown stay green until their greatest
+        length, greens in their way end at their least. Empty: no bus is seen any more."""
+        self.wanted = phases
+        self.due = min(self.due, max(now, self.now + 1))
+
+    def serve(self, one: Running) -> None:
+        """Has a green that is shown go on, or end, for the buses that call phases."""
+        green = self.now - one.began
+        if one.is_green and one.phase.name in self.wanted:
+            one.ready = one.ready and green >= one.phase.most
+        elif one.is_green and green >= one.phase.least and self.is_in_the_way(one):
+            one.ready = True
+
+    def is_in_the_way(self, one: Running) -> bool:
+        """Whether a green has to end before one that a bus calls: in the same ring, beyond the barrier, or where the
+        other ring comes to it only by way of the other side."""
+        wanted = (each for each in self.all if each.phase.name in self.wanted and self.active[each.ring] is not each)
+        return any(
+            each.ring == one.ring or each.side != one.side or self.active[each.ring].at_barrier for each in wanted
+        )
 
     def extends(self, one: Running, since: float) -> bool:
         """Whether somebody on an area makes a green longer than it is; since: seconds of green so far. Areas are not
@@ -324,6 +285,8 @@ class Nema:
         """Why a green ends now: one of the words BY_.. of logic."""
         if one.stage != GREEN:
             return BY_OTHER if one.stage == TRANSFER else BY_CALL
+        if self.wanted and self.now - one.since < one.lasts:
+            return BY_BUS
         return BY_MOST if one.lasts >= one.most else BY_GAP
 
     def stay(self, one: Running, following: Sequence[Running]) -> None:

@@ -2,13 +2,15 @@
 NEMAController."""
 from __future__ import annotations
 
-from collections.abc import Iterable, Mapping
+from collections.abc import Collection, Iterable, Mapping
 from dataclasses import dataclass
 from math import ceil
 from typing import Any
 
 from streetsim.actuated.kept import OFF, Area, Cell, Listed, NodeOf, bounds_of, node_of, number_of
-from streetsim.actuated.nema import Nema, RingPhase, Rings
+from streetsim.actuated.logic import GO
+from streetsim.actuated.nema import Nema
+from streetsim.actuated.ring_phases import RingPhase, Rings
 from streetsim.model.detectors import E2
 from streetsim.model.mapping import Map
 
@@ -32,6 +34,15 @@ class DrivenRings:
     cells: tuple[Cell, ...] = ()  # of detectors: it has areas, which are looked at
     offset: int = 0
     program: str = "0"
+
+    def serving(self, indexes: Collection[int]) -> frozenset[int]:
+        """The numbers of the phases in which a movement, by its places in a state, has green: those in which it goes
+        first (G), or where there is none those in which it gives way (g)."""
+        found = (
+            frozenset(one.name for one in self.rings.phases if any(one.state[at] == letter for at in indexes))
+            for letter in GO
+        )
+        return next(filter(None, found), frozenset())
 
     @property
     def longest(self) -> float:

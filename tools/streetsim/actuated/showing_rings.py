@@ -6,7 +6,8 @@ from __future__ import annotations
 from collections.abc import Iterator, Sequence
 
 from streetsim.actuated.kept import NodeOf
-from streetsim.actuated.nema import GREEN, RED, YELLOW, Nema, RingPhase, Rings, together
+from streetsim.actuated.nema import Nema
+from streetsim.actuated.ring_phases import GREEN, RED, YELLOW, RingPhase, Rings, together
 from streetsim.actuated.rings import DrivenRings
 from streetsim.actuated.showing import WEIGHT, Lengths, lit_node, plan_of, settled
 from streetsim.base import limits

@@ -10,7 +10,7 @@ from streetsim.model.mapping import Map
 from streetsim.model.runs import Run
 from streetsim.model.stops import Visit
 
-SEEN = 15  # seconds before a stop line, where nothing else is asked
+SEEN, MOST_SEEN = 15, 60  # seconds before a stop line: where nothing else is asked, and that may be asked for
 OTHER_WAY = "as the run has another way for them than the map"
 
 

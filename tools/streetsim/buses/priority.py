@@ -3,19 +3,19 @@ line."""
 from __future__ import annotations
 
 from collections import defaultdict
-from collections.abc import Collection, Iterable, Iterator, Mapping, Sequence
-from dataclasses import dataclass
+from collections.abc import Iterable, Iterator, Mapping, Sequence
+from dataclasses import dataclass, replace
 from itertools import pairwise
 from math import ceil
 from typing import Any
 
 from streetsim.actuated.kept import Listed, node_of
-from streetsim.actuated.lights import Driven, Light, Lights
-from streetsim.actuated.logic import GO, Phase
+from streetsim.actuated.lights import Light, Lights
+from streetsim.actuated.logic import Phase
 from streetsim.base.files import Fault
 from streetsim.base.report import some
 from streetsim.buses.coordinated import Fixed
-from streetsim.buses.planned import Ahead
+from streetsim.buses.planned import SEEN, Ahead, Planned
 from streetsim.model.mapping import Map
 from streetsim.model.runs import Run
 from streetsim.model.stops import classes_of, lines_of
@@ -42,14 +42,13 @@ def prioritised(run: Run, mapping: Map, names: Sequence[str], seen: int, driven:
     timed = {line.command["node"] for _, line in run.timed if line.command["cmd"] == "signal"}
     changed = {light for light, node in mapping.signals if node in timed}
     wanted = lights_of(run, mapping, owners)
-    found: dict[str, Driven] = {one.name: one for one in driven.driven if isinstance(one, Driven)}
-    others = {one.name for one in driven.driven if not isinstance(one, Driven)}
+    found: dict[str, Light] = {one.name: one for one in driven.driven}
     kept, mine = {one["light"]: one for one in mapping.fixed}, []
     unable: defaultdict[str, list[str]] = defaultdict(list)
     for light in sorted(wanted):
         try:
             if light not in found:
-                mine.append(fixed_light(light, kept, seen, {"changed": changed, "rings": others}))
+                mine.append(fixed_light(light, kept, seen, light in changed))
                 found[light] = mine[-1]
         except Listed as why:
             unable[str(why)].append(light)
@@ -61,13 +60,25 @@ def prioritised(run: Run, mapping: Map, names: Sequence[str], seen: int, driven:
     return Priority(tuple(mine), ahead, tuple(told))
 
 
+def waiting(
+    run: Run, mapping: Map, names: Sequence[str], seen: int | None, lights: Lights, buses: Planned
+) -> tuple[Lights, Planned]:
+    """The lights and the buses of a run with priority for the classes and lines in names. lights: those that detectors
+    drive; buses: the stops that are made; seen: seconds before the stop line, None: SEEN. Fault where a name has no
+    vehicle."""
+    seen = SEEN if seen is None else seen
+    found = prioritised(run, mapping, names, seen, lights)
+    driven = replace(lights, driven=(*lights.driven, *found.lights))
+    return driven, replace(buses, ahead=found.ahead, seen=seen, told=found.told)
+
+
 def named(run: Run, mapping: Map, names: Sequence[str]) -> list[int]:
     """The numbers of the vehicles whose class or line is one of names; Fault where a name has no vehicle."""
     count = len(run.enters)
     classes, lines = classes_of(mapping.kinds, count), lines_of(mapping.kinds, count)
     for name in names:
         if name not in classes and name not in lines:
-            raise Fault(f"--priority {name!r}: no vehicle is of this class or line")
+            raise Fault(f"priority {name!r}: no vehicle is of this class or line")
     return [owner for owner in range(count) if classes[owner] in names or lines[owner] in names]
 
 
@@ -78,14 +89,12 @@ def lights_of(run: Run, mapping: Map, owners: Iterable[int]) -> set[str]:
     return {light for pair in pairs if (light := light_at.get(pair))}
 
 
-def fixed_light(light: str, kept: Mapping[str, Any], seen: int, unlike: Mapping[str, Collection[str]]) -> Fixed:
+def fixed_light(light: str, kept: Mapping[str, Any], seen: int, changed: bool) -> Fixed:
     """A light with listed seconds, of what the map keeps of its program (kept, by light). seen: seconds before the stop
-    line at which a vehicle is seen; unlike: the names of lights that cannot wait, by reason. Raises Listed, with the
-    reason, where it cannot wait."""
-    if light in unlike["changed"]:
+    line at which a vehicle is seen; changed: whether lines of the run change its plan. Raises Listed, with the reason,
+    where it cannot wait."""
+    if changed:
         raise Listed("as lines of the run change their plans")
-    if light in unlike["rings"]:
-        raise Listed("as NEMA lights have none here")
     if light not in kept:
         raise Listed("as detectors drive them in SUMO and not here, or an older streetsim-import wrote the map")
     program = kept[light]
@@ -107,14 +116,13 @@ def bounded(kept: Sequence[Any], seen: int) -> Phase:
     return Phase(state, phase.seconds, least, phase.seconds + seen if most is None else max(least, round(most)))
 
 
-def ahead_of(plan: Sequence[int], turns: Mapping[Way, Turns], lights: Mapping[str, Driven]) -> Iterator[Ahead]:
+def ahead_of(plan: Sequence[int], turns: Mapping[Way, Turns], lights: Mapping[str, Light]) -> Iterator[Ahead]:
     """The lights on a vehicle's way that wait for it, in their order."""
     for at, pair in enumerate(pairwise(plan)):
         own = [(light, index) for light, index in turns.get(pair, ()) if light in lights]
         if own:
-            light, indexes = lights[own[0][0]], {index for _, index in own}
-            phases = [at for at, phase in enumerate(light.phases) if any(phase.state[index] in GO for index in indexes)]
-            yield Ahead(at, light.name, frozenset(phases))
+            light = lights[own[0][0]]
+            yield Ahead(at, light.name, light.serving({index for _, index in own}))
 
 
 def turns_of(mapping: Map) -> dict[Way, Turns]:

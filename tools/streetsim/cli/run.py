@@ -5,7 +5,7 @@ from streetsim.base import limits, program
 from streetsim.base.words import (
     Parser, add_jobs, add_lights, add_lost, add_merge, add_rounds, add_run, time_within, within,
 )
-from streetsim.buses.planned import SEEN
+from streetsim.buses.planned import MOST_SEEN, SEEN
 from streetsim.cli.given import given_words
 from streetsim.outputs.kinds import KINDS, kinds_of
 from streetsim.sumo.slowing import LIMITS
@@ -125,7 +125,7 @@ def add_buses(made: argparse.ArgumentParser) -> None:
     )
     made.add_argument(
         "--seen",
-        type=within(1, 60),
+        type=within(1, MOST_SEEN),
         metavar="S",
         help=f"seconds before the stop line from which on such a vehicle is seen (default {SEEN})",
     )

@@ -13,8 +13,8 @@ from streetsim.base.jobs import side_by_side
 from streetsim.base.progress import UnderWay
 from streetsim.base.seeds import interval, seeds_of
 from streetsim.base.words import listed
-from streetsim.buses.planned import SEEN, planned
-from streetsim.buses.priority import prioritised
+from streetsim.buses.planned import planned
+from streetsim.buses.priority import waiting
 from streetsim.model import trust
 from streetsim.model.folder import LIGHTS, NAME
 from streetsim.model.mapping import Map
@@ -98,10 +98,7 @@ def with_priority(words: argparse.Namespace, run: Run, mapping: Map, settings: S
         return settings
     if words.lights == "listed" and mapping.actuated:
         raise Fault("--priority and --lights listed: lights that wait for buses do not show their listed seconds")
-    seen = words.seen or SEEN
-    found = prioritised(run, mapping, names, seen, settings.lights)
-    buses = replace(settings.buses, ahead=found.ahead, seen=seen, told=found.told)
-    lights = replace(settings.lights, driven=(*settings.lights.driven, *found.lights))
+    lights, buses = waiting(run, mapping, names, words.seen, settings.lights, settings.buses)
     return replace(settings, buses=buses, lights=lights)
 
 

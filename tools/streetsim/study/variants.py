@@ -8,12 +8,13 @@ from dataclasses import dataclass
 from functools import partial
 from typing import Any
 
-from streetsim.actuated.lights import LISTED, driven_lights
+from streetsim.actuated.lights import LISTED, Lights, driven_lights
 from streetsim.base import limits
 from streetsim.base.files import Fault, Json, open_text, reading
 from streetsim.base.seeds import seeds_of
-from streetsim.base.words import MOST_ROUNDS, ROUNDS, whole_seconds
-from streetsim.buses.planned import NONE, planned
+from streetsim.base.words import MOST_ROUNDS, ROUNDS, listed, whole_seconds
+from streetsim.buses.planned import MOST_SEEN, NONE, Planned, planned
+from streetsim.buses.priority import waiting
 from streetsim.model import trust
 from streetsim.model.mapping import Map, read_map
 from streetsim.model.runs import Run
@@ -32,8 +33,9 @@ from streetsim.works.movements import LOST
 from streetsim.works.sites import Asking, lanes_to_join, with_works
 
 KEYS = {"run", "map", "until", "seeds", "base", "rounds", "merge", "lights", "lost", "stops", "variant"}
+KEYS |= {"priority", "seen"}
 VARIANT = {"run", "map", "plans", "close", "merge", "lights", "lost", "works_limit", "stops", "dawdle", "route"}
-VARIANT |= {"knowing"}
+VARIANT |= {"knowing", "priority", "seen"}
 
 
 @dataclass(slots=True)
@@ -167,9 +169,7 @@ def read_variant(
         run, mapping, found = routed(run, mapping, map_path, wished, where)
     else:
         run, mapping, told = with_works(run, mapping, map_path, works, Asking(lanes, lost, variant.get("works_limit")))
-    lights = driven_lights(run, mapping) if drives and mapping.actuated else LISTED
-    stands = variant.get("stops", study.get("stops")) != "none"
-    buses = planned(run, mapping) if stands else NONE
+    lights, buses = lights_and_buses(run, mapping, {**study, **variant}, drives)
     told += [*lights.notes(), *buses.notes()]
     print(*(f"{where}: {text}" for text in told), sep="\n", end="\n" if told else "", file=sys.stderr)
     load = {"dawdle": variant["dawdle"]} if "dawdle" in variant else {}
@@ -185,6 +185,18 @@ def read_variant(
     doubts = [*found, *trust.of_lengths(until, run, mapping), *trust.of_actuated(until, run, mapping, sensing)]
     begins = [(one.lane, one.first) for one in works]
     return Variant(session, signals, trust.free_arrivals(run, mapping), doubts, begins)
+
+
+def lights_and_buses(run: Run, mapping: Map, value: Json, drives: bool) -> tuple[Lights, Planned]:
+    """The lights of a variant's run that are driven, and the stops and the priority of its buses. value: the variant's
+    keys over the study's; drives: whether detectors drive lights. Fault where no vehicle is of a class or line of
+    priority."""
+    lights = driven_lights(run, mapping) if drives and mapping.actuated else LISTED
+    buses = planned(run, mapping) if value.get("stops") != "none" else NONE
+    names = listed(value.get("priority", ""))
+    if names and not drives and mapping.actuated:
+        raise Fault("priority and listed: lights that wait for buses do not show their listed seconds")
+    return waiting(run, mapping, names, value.get("seen"), lights, buses) if names else (lights, buses)
 
 
 def check_types(where: str, value: Json) -> None:
@@ -215,8 +227,21 @@ def check_types(where: str, value: Json) -> None:
         raise Fault(f"{where}: lights = {value['lights']!r} is neither 'actuated' nor 'listed'")
     if value.get("stops", "made") not in ("made", "none"):
         raise Fault(f"{where}: stops = {value['stops']!r} is neither 'made' nor 'none'")
+    check_priority(where, value)
     if "knowing" in value and not (value.get("route") and value.get("close")):
         raise Fault(f"{where}: knowing is of who goes round works: close = [..] and route = true are needed too")
+
+
+def check_priority(where: str, value: Json) -> None:
+    """Fault where what a variant says of priority has no meaning."""
+    if not isinstance(names := value.get("priority", ""), str):
+        raise Fault(f"{where}: priority = {names!r} is no text of classes or lines")
+    if type(seen := value.get("seen", 1)) is not int or not 1 <= seen <= MOST_SEEN:
+        raise Fault(f"{where}: seen = {seen!r} is not 1 to {MOST_SEEN} s")
+    if "seen" in value and not names:
+        raise Fault(f"{where}: seen is of vehicles with priority")
+    if names and "plans" in value:
+        raise Fault(f"{where}: priority and plans: lights that wait for buses do not show plans")
 
 
 def signals_of(asked: Reading, run: Run, mapping: Map) -> tuple[bytes, list[str]]:
