@@ -1,6 +1,7 @@
 """Giving way without a light: who waits for whom, when vehicles pass, where the gaps are."""
 import json
 import unittest
+from types import SimpleNamespace
 
 from support import Case, lane
 from streetsim.base.report import Report
@@ -13,7 +14,8 @@ from streetsim.run.gaps import (
     PATIENCE, Counts, be_patient, followings, gap_lines, phases_of, red_seconds, slow_down, with_wishes,
 )
 from streetsim.run.passings import Passings
-from streetsim.sumo.conflicts import CROSSING, JOINING
+from streetsim.sumo.conflicts import CROSSING, JOINING, foes
+from streetsim.sumo.net import MAJOR, MINOR, STOPS, Connection
 from streetsim.sumo.network import Options
 
 
@@ -169,6 +171,26 @@ class Reds(unittest.TestCase):
         red = bytearray(b"\1" * (PATIENCE + 10))
         be_patient(red)
         self.assertEqual([at for at, closed in enumerate(red) if not closed], [PATIENCE - 1])
+
+
+class Conflicts(unittest.TestCase):
+    def gap(self, state, other, target="n"):
+        """The gap before one who comes from w, for one of a state who comes from s and goes to n."""
+        links = [SimpleNamespace(lanes=(0,), speed=13.89), SimpleNamespace(lanes=(0,), speed=13.89)]
+        network = SimpleNamespace(
+            place_of={("w", 0): (0, 0)}, links_of={"w": [0], "n": [1], "e": [1]}, links=links, rings=[]
+        )
+        crossing = Connection("s", "n", 0, 0, None, 0, state), Connection("w", target, 0, 0, None, 0, other)
+        [found] = foes(*crossing, network).values()
+        return found.gap
+
+    def test_who_has_to_stop_waits_longer_before_those_who_give_way_too(self):
+        # 3 s before one who goes first; 6 s more before one who stops too, or who turns off a main street, as these
+        # take other gaps than in the round before. None more to join.
+        seconds = [self.gap(STOPS, other, "e").seconds for other in (MAJOR, STOPS, MINOR)]
+        self.assertEqual(seconds, [3.0, 9.0, 9.0])
+        self.assertEqual(self.gap(STOPS, STOPS), self.gap(STOPS, MAJOR))
+        self.assertEqual(self.gap(MINOR, MINOR, "e").seconds, CROSSING.seconds)
 
 
 class Lines(unittest.TestCase):

@@ -9,6 +9,7 @@ from streetsim.base.files import Fault
 from streetsim.base.report import Report
 from streetsim.importing.convert import convert
 from streetsim.sumo.converting import refuse_over_limits
+from streetsim.sumo.net import read_net
 from streetsim.sumo.network import Options
 
 
@@ -66,6 +67,21 @@ class Networks(Case):
         self.assertEqual(sorted(self.said.more[told][1]), ["a", "b"])
         self.network(made.replace("zipper", "priority_stop"))
         self.assertFalse([text for text in self.said.warnings if "does nothing here" in text])
+
+    def test_at_stop_signs_nobody_stops_who_turns_off_a_main_street(self):
+        """A main street from a with a left turn, and a minor street from b; both have the state of a stop sign."""
+        ends = [(name, name.upper(), "C", [lane(name, 0)]) for name in "ab"]
+        ends += [(name, "C", name.upper(), [lane(name, 0)]) for name in "xy"]
+        ways = [("a", "x"), ("a", "y"), ("b", "x"), ("b", "y")]
+        made = net(ends, [(one, 0, other, 0, "") for one, other in ways])
+        for place in ('from="a" to="y"', 'from="b" to="x"', 'from="b" to="y"'):
+            usual = f'{place} fromLane="0" toLane="0" state='
+            made = made.replace(f'{usual}"M"', f'{usual}"s"')
+        lit = made.replace('from="b" to="x"', 'from="b" to="x" tl="C" linkIndex="0"')
+        for text, expected in ((made, "Mmss"), (lit, "Msss"), (made.replace('"M"', '"s"'), "ssss")):
+            read = read_net(self.write("x.net.xml", text), Options().classes, Report())
+            found = {(one.source, one.target): one.state for one in read.connections}
+            self.assertEqual("".join(found[way] for way in ways), expected)
 
     def test_a_ring_whose_entries_go_first(self):
         """Three nodes in a ring; at each a street enters."""

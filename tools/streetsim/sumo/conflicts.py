@@ -10,12 +10,11 @@ from collections.abc import Iterable, Mapping
 
 from streetsim.model.waiting import Foe, Gap, Pace, TurnKey, Waiting
 from streetsim.sumo.losses import Flows, Way
-from streetsim.sumo.net import Connection, SumoNet, connections_of
+from streetsim.sumo.net import MINOR, STOPS, Connection, SumoNet, connections_of
 from streetsim.sumo.network import Network
 
 FAST = 10.0  # metres a second before the junction, in a roundabout inside it: a stream like that is a fast one
-# SUMO's states of connections: minor, right before left, stop sign, all-way stop.
-MINOR, EQUALS, STOPS, ALL_STOP = "m", "=", "s", "w"
+EQUALS, ALL_STOP = "=", "w"  # SUMO's states of connections: right before left, all-way stop
 # One who gives way too starts from a stand: so many seconds later it is out of the way than one who does not.
 STANDING = {MINOR: 1.0}
 # Seconds more before one who is crossed and gives way too: in which gaps these go changes from run to run.
@@ -77,7 +76,7 @@ def foes(one: Connection, other: Connection, network: Network) -> dict[TurnKey, 
     gap = gap_of(one, other, fast)
     if one.target != other.target:
         gap = gap.across(sum(len(network.links[link].lanes) for link in links))
-        if one.state == other.state:
+        if other.state in (one.state, MINOR):
             gap = gap.longer(FACING.get(one.state, 0.0))
     if one.state == other.state:
         gap = gap.later(STANDING.get(one.state, 0.0))

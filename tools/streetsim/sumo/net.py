@@ -15,6 +15,7 @@ STATIC, NEMA = "static", "NEMA"  # kinds of signal programs: seconds alone, and 
 PHASE = ("duration", "state", "minDur", "maxDur", "next", "name", "vehext", "yellow", "red", "type", "targetLanes")
 Point = tuple[float, float]
 INNER = ("internal", "walkingarea", "crossing")
+MAJOR, MINOR, STOPS = "M", "m", "s"  # SUMO's states of connections: goes first, gives way, gives way after a stop
 
 
 @dataclass(slots=True)
@@ -148,7 +149,19 @@ def read_net(path: FilePath, classes: Sequence[str], report: Report) -> SumoNet:
             f"{path}: no lane is open to {', '.join(classes)}; "
             f"lanes are opened to: {', '.join(sorted(named)) or 'none by name'}"
         )
+    spare_main_streets(net)
     return net
+
+
+def spare_main_streets(net: SumoNet) -> None:
+    """Lets nobody stop at a sign who turns off a main street, where no light is: netconvert gives its left turns the
+    state of those who stop, but in SUMO they give way without a stop."""
+    for connections in connections_of(net).values():
+        lit = any(one.light for one in connections)
+        main = {one.source for one in connections if one.state == MAJOR and not lit}
+        for one in connections:
+            if one.source in main and one.state == STOPS:
+                one.state = MINOR
 
 
 def read_edge(path: FilePath, element: Element, net: SumoNet, classes: Collection[str]) -> None:
