@@ -88,7 +88,7 @@ def compared(there, own):
     return f"{near} of {len(apart)}, {fmean(apart):+.1f}" if apart else ""
 
 
-def row(program, made):
+def row(program, kind, made):
     """A line of the table."""
     folder = made.folder
     fixed = folder / "fixed.net.xml"
@@ -102,7 +102,7 @@ def row(program, made):
     own = [here(program, run, folder, lights) for lights in ("listed", "actuated")]
     gains = [100 * (after[0] / before[0] - 1) for before, after in (there, own)]
     cells = [
-        made.name, f"{made.level:g}", f"{made.vehicles:,}", f"{there[1][1]:,}, {own[1][1]:,}",
+        kind, f"{made.level:g}", f"{made.vehicles:,}", f"{there[1][1]:,}, {own[1][1]:,}",
         f"{there[0][0]:.1f} -> {there[1][0]:.1f}", f"{own[0][0]:.1f} -> {own[1][0]:.1f}",
         f"{100 * (own[1][0] / there[1][0] - 1):+.1f}", f"{gains[0]:+.0f}, {gains[1]:+.0f}",
         compared(there[1][2], own[1][2]), "not to be trusted" if own[1][3] else "",
@@ -125,7 +125,7 @@ def main():
         for level in map(float, args.levels.split(",")):
             folder = work / f"{level:g}"
             folder.mkdir(exist_ok=True)
-            print(row(args.program, make(kind, args.seed, folder, level)), flush=True)
+            print(row(args.program, kind, make(kind, args.seed, folder, level)), flush=True)
 
 
 if __name__ == "__main__":

@@ -114,10 +114,13 @@ def megabytes(who):
 
 
 class Counted(Recorder):
-    """Says how many calls the run took."""
+    """Says how many calls the run took, and keeps it."""
+
+    calls = 0
 
     def record(self):
         records = super().record()
+        Counted.calls = records.calls
         asking = records.asking
         print(
             f"{records.calls:,} calls; polls every {asking.every:,} s, {len(asking.measured):,} lanes counted",
@@ -157,14 +160,10 @@ def main():
     ]
     running.main([str(word) for word in arguments])
     here, there = spent(resource.RUSAGE_SELF) - here, spent(resource.RUSAGE_CHILDREN) - there
-    print(
-        f"{time.monotonic() - begin:.1f} s by the clock; processor: tools {here:.1f} s, "
-        f"streetsim and further runs {there:.1f} s"
-    )
-    print(
-        f"memory: tools {megabytes(resource.RUSAGE_SELF):.0f} MB, "
-        f"streetsim {megabytes(resource.RUSAGE_CHILDREN):.0f} MB"
-    )
+    print(f"{time.monotonic() - begin:.1f} s by the clock; what streetsim took has further runs in it")
+    print("| calls | processor, s: tools | streetsim | memory, MB: tools | streetsim |", f"|{'---|' * 5}", sep="\n")
+    memory = megabytes(resource.RUSAGE_SELF), megabytes(resource.RUSAGE_CHILDREN)
+    print(f"| {Counted.calls:,} | {here:.1f} | {there:.1f} | {memory[0]:.0f} | {memory[1]:.0f} |")
 
 
 if __name__ == "__main__":

@@ -40,7 +40,7 @@ from streetsim.ways.trips import connected, read_trips
 HOUR, SHARE, ERROR = 3600, 0.4, 0.05
 TRUE_SEED, JUDGE_SEED = 11, 101
 HEAD = (
-    "| Demand | used: GEH below 5 by hour | by period | total | junctions kept back: by hour | by period | total "
+    "| Demand | found by | vehicles | used: GEH below 5 | mean GEH | total | kept back: GEH below 5 | mean GEH | total "
     "| processor, s |"
 )
 
@@ -161,22 +161,19 @@ def fitted_there(case, wrong):
 
 
 def shares(counts, values):
-    """GEH below 5 by hour and by period, in percent; the mean GEH by hour; the total's difference in percent; and how
-    many there are by hour."""
-    fit = judged(counts, values)
-    hourly = 100 * sum(one.geh < 5 for one in fit.hourly) / len(fit.hourly)
-    each = 100 * sum(one.geh < 5 for one in fit.each) / len(fit.each)
-    mean = sum(one.geh for one in fit.hourly) / len(fit.hourly)
-    total = 100 * (sum(values) / sum(one.vehicles for one in counts) - 1)
-    return hourly, each, mean, total, len(fit.hourly)
+    """GEH of hourly volumes below 5, of how many, and their mean; the total's difference."""
+    hourly = judged(counts, values).hourly
+    good, mean = (sum(some) / len(hourly) for some in ((one.geh < 5 for one in hourly), (one.geh for one in hourly)))
+    total = sum(values) / sum(one.vehicles for one in counts) - 1
+    return f"{good:.0%} of {len(hourly)} | {mean:.1f} | {total:+.1%}"
 
 
 SIDES = ("`streetsim-demand`", fitted_here, "here"), ("routeSampler", fitted_there, "there")
 
 
-def row(case):
+def rows(case):
     wrong, back, used, all_ = case.counted()
-    yield f"| {case.network.name} ({case.vehicles:,} vehicles; {used} of {all_} junctions counted) | | | | | | | |"
+    name = f"{case.network.name}, {case.vehicles:,} vehicles, {used} of {all_} junctions counted"
     for label, make, routes in SIDES:
         if routes not in case.args.sides.split(","):
             continue
@@ -185,13 +182,9 @@ def row(case):
         if not path.exists():
             values, vehicles, rescues = case.passed([case.folder / f"{routes}.rou.xml"], [*wrong, *back], JUDGE_SEED)
             path.write_text("\n".join(map(str, (vehicles, rescues, *values))) + "\n")
-        vehicles, rescues, *values = map(int, path.read_text().split())
-        parts = shares(wrong, values[: len(wrong)]), shares(back, values[len(wrong) :])
-        cells = [
-            f"{hourly:.0f} % of {count} (mean GEH {mean:.1f}) | {each:.0f} % | {total:+.1f} %"
-            for hourly, each, mean, total, count in parts
-        ]
-        yield f"| {label}, {vehicles:,} vehicles, {rescues} rescues | {cells[0]} | {cells[1]} | {seconds:.0f} |"
+        vehicles, _, *values = map(int, path.read_text().split())
+        cells = shares(wrong, values[: len(wrong)]), shares(back, values[len(wrong) :])
+        yield f"| {name} | {label} | {vehicles:,} | {' | '.join(cells)} | {seconds:.0f} |"
 
 
 def networks(args, work):
@@ -217,9 +210,9 @@ def main():
     made.add_argument("--sides", default="here,there")
     args = made.parse_args()
     work = work_of(args)
-    print(HEAD, "|---|---|---|---|---|---|---|---|", sep="\n")
+    print(HEAD, f"|{'---|' * 10}", sep="\n")
     for network in networks(args, work):
-        for line in row(Case(network, args.program, work / f"case-{network.name.replace(' ', '-')}", args)):
+        for line in rows(Case(network, args.program, work / f"case-{network.name.replace(' ', '-')}", args)):
             print(line, flush=True)
 
 

@@ -104,14 +104,12 @@ def main():
     parser.add_argument("--work", required=True)
     args = parser.parse_args()
     folder = shared.work_of(args)
-    print("| Vehicles | SUMO | here |\n|---|---|---|")
+    print("| Long vehicles | passed in 900 s: SUMO | here |\n|---|---|---|")
     for name, there, ours in full_approach(folder, args.program):
         print(f"| {name} | {there} | {ours} ({(ours / there - 1) * 100:+.1f} %) |", flush=True)
     count, there, ours, good = long_grid(folder, args.program)
-    print(
-        f"grid, 15 % of 18 m: {count:,} vehicles, mean trip {there:.1f} s in SUMO, {ours:.1f} s here, "
-        f"GEH below 5 for {good * 100:.1f} %"
-    )
+    print("\n| Network | vehicles | mean trip in SUMO, s | here, s | GEH below 5 |\n|---|---|---|---|---|")
+    print(f"| sample grid, 15 % of 18 m | {count:,} | {there:.1f} | {ours:.1f} | {good:.0%} |")
 
 
 main()

@@ -153,7 +153,7 @@ def street_rows(folder: Path, program: str, seeds: range):
         case = plain_street(folder, hourly)
         for place in PLACES:
             yield street_row(case, hourly, place, program, seeds)
-    yield "| vehicles an hour | works at, m | pass here an hour |"
+    yield "\n| vehicles an hour | works at, m | pass here an hour |"
     yield "|---|---|---|"
     case = plain_street(folder, FULL)
     for place in PLACES:
@@ -261,6 +261,13 @@ def drawn_row(one: Drawn, program: str, seeds: range) -> str:
     stood = max(seen.stood for seen in runs[1])
     doubt = next((seen.doubt for seen in runs[1] if seen.doubt), "")
     what = f"{works.edge} ({one.lanes} lanes), lane {works.lane}, {works.end - works.begin} m"
-    name = f"{one.made.name}, {', '.join(f'{key} {value}' for key, value in one.made.drawn.items())}"
+    name = f"{one.made.name}{street_in_words(one.made.drawn) if one.made.kind == 'street' else ''}"
     cells = f"{100 * one.share:.0f} % | {added[0]:+.1f} | {added[1]:+.1f} | {stood} s | {doubt}"
     return f"| {name} | {what} | {cells} |"
+
+
+def street_in_words(given: dict) -> str:
+    """What a seed gave a street."""
+    light = ", a light" if given["light"] is not None else ""
+    trucks = f", {given['trucks']:.0%} trucks" if given["trucks"] else ""
+    return f": {given['lanes']} lanes, {given['kmh']} km/h{light}{trucks}"

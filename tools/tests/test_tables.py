@@ -1,0 +1,155 @@
+"""bench/tables: what a table rests on, what of printed rows stands otherwise on a page, and putting it there."""
+import json
+import subprocess
+import sys
+import unittest
+from importlib.machinery import SourceFileLoader
+from importlib.util import module_from_spec, spec_from_loader
+from pathlib import Path
+
+from support import TOOLS, Case
+
+TOP = TOOLS.parent
+sys.path.insert(0, str(TOP / "bench"))
+from placing import put  # noqa: E402
+from sources import digests_of, loaded_by  # noqa: E402
+
+PAGE = """# Page
+
+| Street | mean, s |
+|---|---|
+| of another section | 1.0 |
+
+## How close
+
+Words.
+
+| Street | flow | mean, s | |
+|---|---|---|---|
+| main | 100 | 20.0 (+1 %) | |
+| | 200 | **30.0** | doubted |
+| side | 100 | 40.0 | |
+
+| Street | held |
+|---|---|
+| main | 5 |
+
+## More
+"""
+PRINTED = """| Street | flow | trips | mean, s | |
+|---|---|---|---|---|
+| main | 100 | 7 | 21.0 (+2 %) |  |
+| main | 200 | 7 | 30.0 | doubted |
+| side | 200 | 7 | 41.0 |  |
+told below
+| Town | mean, s |
+|---|---|
+| large | 9.9 |
+"""
+# A repository with one script, which runs one command.
+MADE = {
+    "bench/seen": '"""Page."""\nfrom helper import TOOL\nprint(TOOL, "streetsim-play is not run")\n',
+    "bench/helper.py": 'TOOL = "tools/streetsim-run"\n',
+    "bench/other.py": "OTHER = 1\n",
+    "tools/streetsim/__init__.py": "",
+    "tools/streetsim/cli/__init__.py": "",
+    "tools/streetsim/cli/run.py": "def main():\n    from ..base import low\n    return low\n",
+    "tools/streetsim/cli/play.py": "PLAY = 1\n",
+    "tools/streetsim/base/__init__.py": "",
+    "tools/streetsim/base/low.py": '"""Docs."""\nLOW = 1  # why\n',
+    "crates.txt": "street_sim: street_base clap\nstreet_base: rand_core\nstreet_page: street_base\n",
+    "crates/street_base/src/lib.rt": "// why\npub fn one() -> u64 { 1 }\n",
+    "crates/street_base/specs/One.antt": "-- why\none = 1\n",
+    "crates/street_page/src/lib.rt": "pub fn page() {}\n",
+}
+
+
+class Placing(Case):
+    def test_rows_that_moved_are_put(self):
+        done = put(PAGE, "## How close", PRINTED)
+        self.assertEqual(done.moved, ["main | 100 | 20.0 (+1 %) | \n    now: main | 100 | 21.0 (+2 %) | "])
+        self.assertEqual(done.placed, 2)
+        self.assertIn("| main | 100 | 21.0 (+2 %) |  |", done.lines)
+        self.assertIn("| | 200 | **30.0** | doubted |", done.lines)
+
+    def test_what_has_no_place_is_told(self):
+        done = put(PAGE, "## How close", PRINTED)
+        self.assertEqual(done.missing, ["side | 200 | 41.0 | ", "the table Town | mean, s"])
+        self.assertEqual(done.unmade, ["side | 100 | 40.0 | "])
+
+    def test_of_tables_with_one_head_that_with_its_rows_is_taken(self):
+        head = "| Street | held |\n|---|---|\n"
+        done = put(f"# Both\n\n{head}| one | 1 |\n\n{head}| other | 2 |\n", "# Both", f"{head}| other | 3 |\n")
+        self.assertEqual((done.moved, done.unmade), (["other | 2\n    now: other | 3"], []))
+
+    def test_the_rest_of_the_page_stays(self):
+        done = put(PAGE, "## How close", PRINTED)
+        changed = [at for at, pair in enumerate(zip(PAGE.split("\n"), done.lines, strict=True)) if len(set(pair)) > 1]
+        self.assertEqual(changed, [PAGE.split("\n").index("| main | 100 | 20.0 (+1 %) | |")])
+
+    def test_an_empty_first_cell_is_the_one_above(self):
+        done = put(PAGE, "## How close", PRINTED.replace("30.0", "31.0"))
+        self.assertIn("|  | 200 | 31.0 | doubted |", done.lines)
+        self.assertEqual(put("\n".join(done.lines), "## How close", PRINTED.replace("30.0", "31.0")).moved, [])
+
+
+class Sources(Case):
+    def changed_by(self, name, text):
+        """The parts of a table's digests that another text of a file changes."""
+        tops = self.folder / "as it is", self.folder / f"changed {len(list(self.folder.iterdir()))}"
+        for top, files in zip(tops, (MADE, {**MADE, name: text})):
+            for path, content in files.items():
+                (top / path).parent.mkdir(parents=True, exist_ok=True)
+                (top / path).write_text(content, encoding="utf-8")
+        before, after = (digests_of("seen", top) for top in tops)
+        return [part for part in before if before[part] != after[part]]
+
+    def test_what_a_table_rests_on_changes_its_digests(self):
+        for name, text, part in (
+            ("bench/seen", MADE["bench/seen"] + "print()\n", "script"),
+            ("bench/helper.py", MADE["bench/helper.py"] + "MORE = 1\n", "script"),
+            ("tools/streetsim/base/low.py", "LOW = 2\n", "tools"),
+            ("crates/street_base/src/lib.rt", "pub fn one() -> u64 { 2 }\n", "machine"),
+            ("crates/street_base/specs/One.antt", "one = 2\n", "machine"),
+        ):
+            self.assertEqual(self.changed_by(name, text), [part], name)
+
+    def test_nothing_else_does(self):
+        for name, text in (
+            ("bench/other.py", "OTHER = 2\n"),
+            ("tools/streetsim/cli/play.py", "PLAY = 2\n"),
+            ("tools/streetsim/base/low.py", '"""Other docs."""\n\nLOW = 1\n'),
+            ("crates/street_base/src/lib.rt", "/// Other docs.\npub fn one()\n    -> u64 { 1 }\n"),
+            ("crates/street_base/specs/One.antt", "-- other words\none = 1\n"),
+            ("crates/street_page/src/lib.rt", "pub fn page() { page() }\n"),
+        ):
+            self.assertEqual(self.changed_by(name, text), [], name)
+
+    def test_a_table_of_closeness_rests_on_the_commands_that_it_runs(self):
+        loaded = loaded_by("closeness", TOP).keys()
+        self.assertLessEqual({"shared", "roundabouts", "streetsim.cli.run", "streetsim.cli.import_"}, loaded)
+        self.assertEqual([name for name in loaded if name.startswith(("streetsim.live", "streetsim.traci"))], [])
+
+
+class Pages(Case):
+    def test_each_table_has_its_script_and_its_heading(self):
+        spec = spec_from_loader("tables", SourceFileLoader("tables", str(TOP / "bench/tables")))
+        tables = module_from_spec(spec)
+        spec.loader.exec_module(tables)
+        for table in tables.TABLES:
+            lines = (TOP / table.page).read_text(encoding="utf-8").split("\n")
+            self.assertEqual(lines.count(table.heading), 1, f"{table.name}: {table.heading}")
+            self.assertTrue((TOP / "bench" / table.script).exists(), table.name)
+        names = [table.name for table in tables.TABLES]
+        self.assertEqual(len({*names}), len(names))
+        self.assertLessEqual(json.loads((TOP / "bench/tables.json").read_text()).keys(), {*names})
+
+    def test_words_that_do_nothing_are_refused(self):
+        for words in (["--list", "--put"], ["PROGRAM"], ["--list", "--only", "none such"]):
+            command = [sys.executable, str(TOP / "bench/tables"), *words]
+            done = subprocess.run(command, capture_output=True, text=True, check=False)
+            self.assertEqual((bool(done.returncode), done.stdout), (True, ""), words)
+
+
+if __name__ == "__main__":
+    unittest.main()
