@@ -124,8 +124,9 @@ class SignalEnv:
         return before - one.waited
 
     def pressure(self, name: str, action: int) -> int:
-        """How many vehicles stand on the lanes before a green phase of a light, less those on the lanes behind it; the
-        policy max-pressure chooses the phase with the greatest."""
+        """How many vehicles stand on the lanes before a green phase of a light, less those that stand on the lanes
+        behind it, a lane counted for each of its connections; the policy max-pressure chooses the phase with the
+        greatest."""
         one, queue = self.signals[name], {}
         shown = zip(one.greens[action], one.links, strict=True)
         for lane in {lane for state, link in shown if state in GREEN for lane in link}:
@@ -163,7 +164,7 @@ class SignalEnv:
         return not told or bool(session.view.places) or bool(session.view.to_depart())
 
     def running(self) -> Session:
-        """The session; ValueError before the first reset."""
+        """The session; ValueError where none is under way: before the first reset, or after close."""
         if self.session is None:
             raise ValueError("reset() begins a run")
         return self.session
@@ -175,9 +176,11 @@ class SignalEnv:
             self.session = None
 
     def __enter__(self) -> SignalEnv:
+        """Gives the environment itself; a run begins with reset."""
         return self
 
     def __exit__(self, *_: object) -> None:
+        """Ends the run, where one is under way."""
         self.close()
 
 

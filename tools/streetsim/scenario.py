@@ -70,9 +70,11 @@ class Scenario(Running):
         self.inductionloop, self.trafficlight = InductionLoop(self), TrafficLight(self)
 
     def __enter__(self) -> Self:
+        """Gives the scenario itself; the program runs since it was made."""
         return self
 
     def __exit__(self, kind: type[BaseException] | None, *fault: object) -> None:
+        """Ends the program; after an exception it is killed, and its status is not looked at."""
         self.client.__exit__(kind, *fault)
 
     def simulationStep(self, time: float = 0) -> None:

@@ -167,7 +167,8 @@ class Row:
         return self.speeds / self.passes if self.passes else None
 
     def kmh(self, cell_metres: float = limits.CELL_METRES) -> str:
-        """The mean speed in km/h as it stands in a table, with one decimal; empty where nobody passed."""
+        """The mean speed in km/h as a table has it: a text with one decimal, empty where nobody passed. cell_metres:
+        metres of a cell."""
         return "" if self.mean_speed is None else f"{self.mean_speed * (3.6 * cell_metres):.1f}"
 
 
@@ -226,7 +227,7 @@ def reply_of(value: Any) -> Reply:
 
 
 def entries(lists: Numbers) -> Entries:
-    """Lists of JSON as tuples, which do not change."""
+    """Lists of numbers, as JSON has them, as tuples, which do not change."""
     return tuple(tuple(one) for one in lists)
 
 
@@ -257,7 +258,7 @@ def help_of(program: str) -> str:
 
 def words_of(program: str, calls: int = 0, keep: str | PathLike[str] | None = None) -> list[str]:
     """The command line that starts a program. keep: a file, in which its session is kept; else calls: how many calls it
-    takes before it refuses them, 0 for no end."""
+    takes before it refuses them, 0 for no end (where its --help has a word for that)."""
     if keep is not None:
         return [program, "--keep", fspath(keep)]
     if calls:
@@ -281,9 +282,9 @@ class Client:
         calls: int = 0,
         keep: str | PathLike[str] | None = None,
     ) -> None:
-        """program: a path or a command's name, else that of STREETSIM_PROGRAM; workers: threads, from 1; calls: how
-        many it takes, 0 for no end; keep: a file of the session, which goes before calls. Fault where there is no
-        program."""
+        """Starts the program. program: a path or a command's name, else that of STREETSIM_PROGRAM; workers: threads,
+        from 1; calls: how many it takes, 0 for no end; keep: a file of the session, which goes before calls. Fault
+        where there is no program."""
         program = find_program(program)
         words = words_of(program, calls, keep) + (["--workers", str(workers)] if workers != 1 else [])
         self.errors = tempfile.TemporaryFile()
@@ -361,7 +362,7 @@ class Client:
         return [read_reply(reply) for reply in self.exchange(map(line_of, commands))]
 
     def ask(self, cmd: str, **fields: Any) -> Any:
-        """The typed reply to a command with these fields; raises what was refused, or Starved."""
+        """The typed reply to a command, by its name (cmd) and its fields; raises what was refused, or Starved."""
         [reply] = self.batch([{"cmd": cmd, **fields}])
         if isinstance(reply, Exception):
             raise reply
@@ -378,9 +379,10 @@ class Client:
         seed: int = 0,
         start: int = 0,
     ) -> Loaded:
-        """Loads a network and begins its clock; rows as in docs/LINES.md: nodes [id, residence, buffer], links [id,
-        from, to, lanes, cells, limit], turns [link, lane, next, next_lane]; zone: cells of the turn zone; dawdle,
-        change: chances, of 1,000; start: the clock."""
+        """Loads a network and begins its clock; rows as in docs/LINES.md: nodes [id, residence in steps, vehicles that
+        its buffer holds], links [id, from, to, lanes, cells, limit in cells a step], turns [link, lane, next,
+        next_lane]; zone: cells of the turn zone; dawdle, change: chances, of 1,000; seed: of all draws; start: the
+        clock."""
         return self.ask(
             "load",
             nodes=nodes,

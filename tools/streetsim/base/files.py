@@ -42,9 +42,9 @@ def open_text(path: FilePath, mode: str) -> TextFile:
 
 
 def open_text(path: FilePath, mode: str = "r") -> TextFile:
-    """Opens a text file, of UTF-8, to read (mode r) or to write. What is read is gzip by its content, whatever its
-    name, and may begin with a byte order mark; what is written is gzip where the name ends with .gz (without time or
-    name inside, so that equal runs give equal bytes)."""
+    """Opens a text file, of UTF-8, to read (mode r) or to write (w anew, a at its end). What is read is gzip by its
+    content, whatever its name, and may begin with a byte order mark; what is written is gzip where the name ends with
+    .gz (without time or name inside, so that equal runs give equal bytes)."""
     if mode == "r":
         return io.TextIOWrapper(open_bytes(path), encoding="utf-8-sig", newline="")
     if str(path).endswith(".gz"):
@@ -260,7 +260,7 @@ def refuse_equal(outputs: Mapping[str, FilePath], inputs: Iterable[FilePath] = (
 @contextlib.contextmanager
 def whole_path(path: FilePath) -> Iterator[str]:
     """A path to write to. When the block ends, the file written there takes the place of the output `path`; after an
-    exception nothing is left and the output is as it was."""
+    exception nothing is left and the output is as it was. Fault where it cannot be written."""
     place = place_of(path)
     try:
         with half_file(place) as half:
@@ -275,7 +275,7 @@ def whole_path(path: FilePath) -> Iterator[str]:
 @contextlib.contextmanager
 def whole_file(path: FilePath) -> Iterator[TextFile]:
     """A text file to write (gzip where the name ends with .gz), which takes its name when the block ends; after an
-    exception nothing of it is left."""
+    exception nothing of it is left. Fault where it cannot be written."""
     with whole_path(path) as half, open_text(half, "w") as file:
         yield file
 

@@ -56,7 +56,8 @@ def begin(work: Callable[[Item, Tell], object], place: int, item: Item, running:
 
 
 def do(work: Callable[[Item, Tell], object], item: Item, pipe: Connection) -> None:
-    """Runs inside the process: ends by signals as programs do, and sends a result or a Fault to the pipe."""
+    """Runs inside the process: ends by signals as programs do, and sends what the work tells, and its result or a
+    Fault, to the pipe."""
     signal.signal(signal.SIGINT, signal.SIG_IGN)
     for number in (signal.SIGTERM, signal.SIGHUP):
         signal.signal(number, signal.SIG_DFL)

@@ -24,7 +24,8 @@ class TerminalLine:
         return time.monotonic() - self.begin
 
     def is_due(self, ended: bool) -> bool:
-        """Whether to write it now: on a terminal at most five times a second, and when the work has ended."""
+        """Whether to write it now, which is then noted: on a terminal at most five times a second, and when the work
+        has ended."""
         now = time.monotonic()
         if not self.shown or (now - self.last < PAUSE and not ended):
             return False

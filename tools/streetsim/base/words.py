@@ -89,7 +89,7 @@ def listed(text: str) -> list[str]:
 
 
 def share_of(text: str) -> float:
-    """A share, 0 to 1; argparse's error otherwise."""
+    """The share, 0 to 1, of a text; ArgumentTypeError otherwise."""
     try:
         value = float(text)
     except ValueError:
@@ -100,7 +100,7 @@ def share_of(text: str) -> float:
 
 
 def add_run(made: argparse.ArgumentParser) -> None:
-    """Adds to a parser the words that name what streetsim-import made: the run and --map."""
+    """Adds to a parser the words that name what streetsim-import made: the run file (run) and its map (--map)."""
     made.add_argument("run", help="the run (.jsonl)")
     made.add_argument("--map", required=True, help="its map of names (.json)")
 

@@ -72,7 +72,8 @@ def engines_of(words: argparse.Namespace, lines: list[bytes], joining: Joining) 
 
 
 def program_for_rounds(words: argparse.Namespace) -> str:
-    """A program of this machine; Fault where there is none, as where only the module of a page is there."""
+    """The path of a program of this machine that can run rounds of giving way; Fault where there is none, as where only
+    the module of a page is there."""
     if words.keep or not words.output:
         return find_program(words.program) if words.keep else program_of(words.program)
     with contextlib.suppress(Fault):

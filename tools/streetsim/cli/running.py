@@ -40,8 +40,9 @@ AT_WISH = (
 
 
 def run_by(words: argparse.Namespace, given: Sequence[str], again: Sequence[str]) -> int:
-    """Runs as the words ask, prints what it gave, and gives status 0. given: the words that change its numbers, for the
-    setting; again: those by which it is made again of the lines that its folder keeps."""
+    """Makes the run, or the runs of --seeds, that the words ask for, writes the folder of --out, prints what it gave,
+    and gives status 0. given: the words that change its numbers, for the setting; again: those by which it is made
+    again of the lines that its folder keeps."""
     run, mapping = read_with_map(words.run, words.map)
     settings = settings_of(words, run)
     refuse_unknown(words, settings, mapping)
@@ -156,8 +157,8 @@ def report(figures: Figures, name: str) -> None:
 
 
 def run_seeds(words: argparse.Namespace, making: Making, run: Run, mapping: Map, settings: Settings) -> int:
-    """Makes a run for each seed of --seeds, side by side; prints and writes each mean trip, their mean and its 95 %
-    interval. Gives status 0."""
+    """Makes a run for each seed of --seeds, side by side, each into a folder of its own below --out; prints and writes
+    (seeds.csv) each mean trip, and prints their mean and its 95 % interval. Gives status 0."""
     seeds, making = seeds_of(words.seeds, "--seeds"), replace(making, jobs=1)
     shown = UnderWay(settings.until, len(seeds))
     with whole_folder(words.out, NAME, AT_WISH) as folder:

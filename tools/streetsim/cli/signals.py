@@ -165,8 +165,8 @@ def main(arguments: list[str]) -> int:
 def bounds_found(
     words: argparse.Namespace, reading: Reading, town: Town, changed: Sequence[str], cycles: range
 ) -> int:
-    """Finds bounds of actuated lights, and the best plan of seconds to compare them with; gives the status. changed,
-    cycles: as `changes_of` gives them."""
+    """Finds bounds of actuated lights, and the best plan of seconds to compare them with; writes and prints both, and
+    gives the status. changed, cycles: as `changes_of` gives them."""
     if words.edges:
         raise Fault("--edges draws plans of seconds, and --bounds finds none")
     ground, check = ground_of(reading, town), check_seeds(words)
@@ -270,7 +270,7 @@ def corridor_of(words: argparse.Namespace, town: Town) -> Corridor | None:
 
 def search_seeds(words: argparse.Namespace, runner: Runner, tried: Sequence[int]) -> Sequence[int]:
     """The seeds of the search: those of --seeds, else the first of `tried`, as many as the spread of runs of the given
-    plan asks for. Prints which, and why."""
+    plan asks for. Makes these runs; prints which, and why. Fault where --budget is below them."""
     means = list(runner.means([runner.town.plan], tried))
     needed = seeds_for(means)
     seeds = seeds_of(words.seeds, "--seeds") if words.seeds else tried[:needed]

@@ -41,8 +41,8 @@ class Row:
 
 
 def rows_of(path: FilePath, needed: Sequence[str], more: Collection[str] = ()) -> Iterator[Row]:
-    """The rows of a table with the columns `needed`, and maybe those of `more`; Fault for other columns, or a row of
-    another length. Blank rows, and those that begin with #, are left out."""
+    """The rows of a table with the columns `needed`, and maybe those of `more` (in small or capital letters); Fault for
+    other columns, or a row of another length. Blank rows, and those that begin with #, are left out."""
     with reading(path), open_text(path) as file:
         lines = (line for line in file)
         first = next((line for line in lines if line.strip()), "")

@@ -103,8 +103,8 @@ def corrected(basis: Basis, one: Attempt, costs: Costs, counted: Any, before: An
 
 
 def full_edges(graph: Graph, lost: Sequence[float]) -> dict[int, float]:
-    """The numbers of the edges on which vehicles lose more than 120 s on the mean, with these seconds; lost: by
-    movement."""
+    """By number the edges that are full: of one of their movements vehicles lose more than 120 s on the mean, with the
+    most of these seconds. lost: seconds by movement, as `delays` gives them."""
     found: dict[int, float] = {}
     for (edge, _), seconds in zip(graph.movements, lost, strict=True):
         if seconds > FULL:

@@ -89,8 +89,8 @@ class Fitted:
 
 
 def basis_of(town: Town, asked: Asked, told: Told = lambda _text: None) -> Basis:
-    """Reads and checks what was asked for, and finds the candidate ways; Fault for what cannot be used. told: gets what
-    is done just now."""
+    """Reads and checks what was asked for, and finds the candidate ways; classes of counts become vehicle types of the
+    town. Fault for what cannot be used. told: gets what is done just now."""
     needed()
     refuse_nothing(asked)
     told("reading counts")
@@ -223,8 +223,9 @@ def by_ratios(
 
 
 def bounds_of(counts: Iterable[Count], cells: Iterable[Cell], departs: Sequence[tuple[float, int]]) -> list[int]:
-    """The begins and ends of slices in seconds, rising: of counts and of cells, else of departures (second, place of
-    the way); Fault where they make no period."""
+    """The begins and ends of slices in seconds, rising: of counts and of cells, and where there are departures (second,
+    place of the way) too, the first of these if it is sooner; without counts and cells the first and the last
+    departure. Fault where they make no period."""
     periods = [*((one.begin, one.end) for one in counts), *((one.begin, one.end) for one in cells)]
     bounds = {bound for period in periods for bound in period}
     if departs and not bounds:
@@ -295,9 +296,9 @@ def fit(basis: Basis, asked: Asked, costs: Costs, counted: Any = None) -> Fitted
 
 
 def expected_of(basis: Basis, asked: Asked, kind: str, base: Any, counted: Any) -> Any:
-    """The vehicles of a class that are expected of each way and slice, ways first: of a matrix or of ratios, else by
-    the counts of the class. base: the matrix's columns of this class; counted: vehicles by count. Without any count of
-    the class 0."""
+    """The vehicles of a class that are expected of each way and slice, ways first, as an array: of a matrix or of
+    ratios, else by the counts of the class. base: the matrix's columns of this class; counted: vehicles by count. All 0
+    where the class has no count."""
     numpy, _ = needed()
     if kind in basis.given:
         return basis.given[kind]

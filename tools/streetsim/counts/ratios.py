@@ -14,8 +14,8 @@ TURNS = ("turns", "edgeRelations", "turn-defs", "data")
 
 
 def read_inflows(paths: Iterable[FilePath], seed: int) -> list[Inflow]:
-    """Flows that have a `from` alone; Fault for one with a `to` or a route, and for a file without a flow. Vehicle
-    types are passed over. seed: of departures by chance."""
+    """Flows that have a `from` alone; Fault for one with a `to` or a route, for another element, and for a file without
+    a flow. Vehicle types are passed over. seed: of departures by chance."""
     found: list[Inflow] = []
     draws = random.Random(f"inflows {seed}")
     for path in paths:

@@ -37,8 +37,8 @@ def of_table(path: FilePath) -> Iterator[Count]:
 
 
 def of_sumo(path: FilePath, attribute: str | None) -> Iterator[Count]:
-    """The counts of an edgeData or edgeRelation file; lanes in it are passed over. attribute: the one that is the
-    count; none: the usual ones."""
+    """The counts of an edgeData or edgeRelation file; lanes in it are passed over, and any other element, or one that
+    stands in no interval, is a Fault. attribute: the one that is the count; none: the usual ones."""
     begin = end = 0
     told = False
     for tag in tags(path, ROOTS):

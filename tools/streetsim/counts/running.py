@@ -66,8 +66,8 @@ def ran(ground: Ground, loaded: Loaded, expected: Costs, seed: int) -> Ran:
 
 
 def passed(places: Places, paths: Sequence[Path], kinds: Sequence[str], left: Sequence[Sequence[float]]) -> list[int]:
-    """How many vehicles passed in each count's period and class. paths, kinds, left: the way, class and clocks (of
-    leaving each edge) of each vehicle."""
+    """How many vehicles passed in each count's period, of its class, in the counts' order. paths, kinds, left: the way,
+    class and clocks (of leaving each edge) of each vehicle."""
     found = [0] * len(places.counts)
     for path, kind, clocks in zip(paths, kinds, left, strict=True):
         for some, edge in places.along(path):

@@ -265,7 +265,7 @@ def places_in(lanes: Iterable[Sequence[object]]) -> Iterator[tuple[int, int]]:
 
 
 def kinds_of(mapping: Map) -> dict[int, str]:
-    """The vehicle class of each vehicle that the map names, by number; empty text where it keeps none."""
+    """By number the vehicle class of each vehicle whose type the map keeps; an empty text where that type has none."""
     types = mapping.kinds.get("types", [])
     classes = [row[1] if len(row) > 1 else "" for row in types]
     return {car: classes[at] if at < len(classes) else "" for car, at in enumerate(mapping.kinds.get("type", []))}

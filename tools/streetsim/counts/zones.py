@@ -32,7 +32,7 @@ def of_table(path: FilePath) -> Iterator[Zone]:
 
 
 def of_sumo(path: FilePath) -> Iterator[Zone]:
-    """The zones of a file of SUMO's TAZ, with the weights of its tazSource and tazSink."""
+    """The zones of a file of SUMO's TAZ, with the weights of its tazSource and tazSink; Fault for another element."""
     zone: Tag | None = None
     sources: dict[str, float] = {}
     sinks: dict[str, float] = {}

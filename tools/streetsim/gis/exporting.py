@@ -58,7 +58,8 @@ def feature(kind: str, shape: str, coordinates: list, content: dict) -> dict:
 
 
 def of_edge(mapping: Map, edge: str) -> dict:
-    """What the map says of an edge: its id, nodes, lanes and metres."""
+    """What the map says of an edge, by the names of properties: name (its id), from and to (junctions), lanes (how
+    many), metres."""
     links = [mapping.links[link] for link in mapping.links_of[edge]]
     ends = {"from": mapping.nodes[links[0].begin][0], "to": mapping.nodes[links[0].end][0]}
     return {"name": edge, **ends, "lanes": sum(len(link.lanes) for link in links), "metres": round(links[0].metres, 1)}
@@ -75,14 +76,16 @@ def of_values(values: Values) -> dict:
 
 
 def of_traffic(seen: Traffic | None) -> dict:
-    """Flow, speed and density with one decimal; all none where nothing was seen."""
+    """vehicles_per_hour, mean_speed_kmh and density_per_km by these names, with one decimal; none for what is not
+    known."""
     numbers = (None, None, None) if seen is None else (seen.flow, seen.speed, seen.density)
     names = "vehicles_per_hour", "mean_speed_kmh", "density_per_km"
     return {name: None if number is None else round(number, 1) for name, number in zip(names, numbers, strict=True)}
 
 
 def of_row(row: Row | None) -> dict:
-    """The measures of the junction tables with two decimals, and the letter; none for what is not known."""
+    """The measures of the junction tables by their names, with two decimals, and the letter (los); none for what is not
+    known."""
     numbers = {name: row.values.get(name) if row else None for name in MEASURES}
     rounded = {name: None if number is None else round(number, 2) for name, number in numbers.items()}
     return {**rounded, "los": row.letter() if row else None}

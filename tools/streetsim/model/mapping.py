@@ -41,9 +41,9 @@ class MapLink:
         return first, min(self.cells - 1, max(first, round(end / size) - 1))
 
     def closed_between(self, begin: float, end: float) -> tuple[int, int]:
-        """The first and the last cell that works close from one place to another, in metres from the lane's begin.
-        Where there is a lane beside, the first cells stay open as far as the works allow: turns lead to this lane, and
-        who comes by one leaves it there."""
+        """The first and the last cell, both included, that works close from one place to another, in metres from the
+        lane's begin. Where there is a lane beside, the first four cells stay open as far as the works allow: turns lead
+        to this lane, and who comes by one leaves it there."""
         first, last = self.cells_between(begin, end)
         return (max(first, min(limits.SIZE, last)), last) if len(self.lanes) > 1 else (first, last)
 

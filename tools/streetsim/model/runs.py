@@ -135,8 +135,8 @@ def timed_text(clock: int, line: Line) -> str:
 
 
 def line_of(path: FilePath, number: int, text: str) -> Line:
-    """The line of a text; number: in the file, from 1. Fault where it is no command, or one that streetsim-run sends
-    itself."""
+    """The line of a text; number: in the file, from 1, which is 0 where the line is marked as one of works. Fault where
+    it is no command, or one that streetsim-run sends itself."""
     try:
         command = json.loads(text)
         if (

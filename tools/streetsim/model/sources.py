@@ -23,8 +23,8 @@ class Sources:
         return [self.net, *self.additional, *self.routes, *self.trips]
 
     def written(self, map_path: str, lines: Iterable[str]) -> dict:
-        """What a map keeps of them: paths as seen from the map's folder, SHA-256 of each file's bytes, and that of the
-        run's lines."""
+        """What a map keeps of them: net, additional, routes and trips, the paths as seen from the map's folder; sums,
+        the SHA-256 of each file's bytes in the order of `paths`; run, that of the run's lines."""
         beside = partial(os.path.relpath, start=os.path.dirname(os.path.realpath(map_path)))
         return {
             "net": beside(self.net),

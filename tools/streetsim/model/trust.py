@@ -181,8 +181,8 @@ def of_actuated(clock: int, run: Run, mapping: Map, lights: Sequence[str]) -> It
 
 
 def of_crowded(vehicles: int, crowded: Mapping[str, int]) -> Iterator[str]:
-    """Where many of so many vehicles pass streets that give way without a light and are nearly full: {edge: who passes
-    it then}."""
+    """A doubt where streets that give way without a light and are nearly full are passed, all together, more often than
+    a tenth of the vehicles is many. vehicles: how many there are; crowded: {edge: how many pass it then}."""
     if (count := sum(crowded.values())) > MOST_CROWDED * vehicles:
         most = ", ".join(sorted(crowded, key=lambda edge: (-crowded[edge], edge))[:NAMED])
         yield (

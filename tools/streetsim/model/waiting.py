@@ -27,7 +27,8 @@ class Gap:
         return max(self.least, self.seconds - self.less * hourly / 1000)
 
     def across(self, lanes: int) -> Self:
-        """The gap for one who crosses a street; lanes: of the street, one at least."""
+        """The gap for one who crosses a street, 0.3 s longer for each lane above one; lanes: of the street, one at
+        least."""
         return self.longer(WIDER * (lanes - 1))
 
     def longer(self, more: float) -> Self:
@@ -35,7 +36,7 @@ class Gap:
         return replace(self, seconds=self.seconds + more, least=self.least + more)
 
     def later(self, more: float) -> Self:
-        """The gap before one who is out of the way so many seconds later."""
+        """The gap before one who is out of the way so many seconds later (more)."""
         return replace(self, after=self.after + more)
 
 
@@ -64,7 +65,7 @@ class Foe:
     street: int = 0  # a number that all links of one edge have in common
 
     def written(self) -> Written:
-        """As it stands in the map."""
+        """A list, as it stands in the map: link, lane, next link, the numbers of the gap in a list, slow, street."""
         return [self.link, self.lane, self.next, list(astuple(self.gap)), self.slow, self.street]
 
 
@@ -78,7 +79,8 @@ class Waiting:
     pace: Pace | None = None  # of those who have to stop
 
     def written(self) -> Written:
-        """A list, as it stands in the map."""
+        """A list, as it stands in the map: node, turns, foes as they are written, and the numbers of the pace in a
+        list, empty where nobody has to stop."""
         pace = [] if self.pace is None else list(astuple(self.pace))
         return [self.node, [list(turn) for turn in self.turns], [foe.written() for foe in self.foes], pace]
 

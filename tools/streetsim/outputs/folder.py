@@ -79,8 +79,8 @@ class Figures:
 
 
 def one_run(making: Making, run: Run, mapping: Map, settings: Settings, folder: str, tell: Tell) -> Figures:
-    """Makes one run, writes all that was asked for into a folder that is there, and gives its figures. tell: gets the
-    clock and the last census while it goes."""
+    """Makes one run, after the rounds by which its vehicles give way, writes all that was asked for into a folder that
+    is there, and gives its figures. tell: gets the clock and the last census while it goes."""
     given, start = run, partial(making.serving, run)
     run, yielding = giving_way(run, mapping, settings, making.rounds, start, tell)
     with whole_file(f"{folder}/lanes.jsonl.gz") as lanes_file, start() as sim:
@@ -135,7 +135,8 @@ def by_class(trips: Sequence[Entry], mapping: Map) -> str:
 
 
 def lit_lines(sent: Iterable[tuple[int, Line]], mapping: Map) -> Iterator[tuple[int, Line]]:
-    """Of the lines that a run sent, (clock, line), the signal plans that the tools made for nodes with a light."""
+    """Of the lines that a run sent, (clock, line), those with the signal plans that the tools made for nodes with a
+    light."""
     lit = {node for _, node in mapping.signals}
     own = ((clock, line) for clock, line in sent if line.number < 0 and line.command["cmd"] == "signal")
     return ((clock, line) for clock, line in own if line.command["node"] in lit)
@@ -183,7 +184,7 @@ def count_further(made: Recorded) -> None:
     first, settings = made.records, made.settings
 
     def repeat(lanes: Sequence[Place], _tell: object) -> Records:
-        """The records of a further run, which counts some lanes."""
+        """The records of a further run, which counts some lanes, each a (link, lane)."""
         with made.serving() as sim:
             repeater = Repeater(sim, made.run, made.mapping, settings)
             return repeater.record(first, repeated(settings, lanes), lambda clock: None)
@@ -209,7 +210,8 @@ def notes(made: Recorded) -> Iterator[str]:
 
 
 def stop_notes(stops: Sequence[Done], mapping: Map) -> Iterator[str]:
-    """How many stops were made on the lane beside, or passed without one, and which; nothing where none were."""
+    """Sentences on how many stops were made on the lane beside, or passed without one, and which; nothing where none
+    were."""
     for state, told in ((OTHER_LANE, "were made on the lane beside"), (MISSED, "were passed: no lane had room")):
         names = [f"{mapping.cars[one.visit.vehicle]} at {one.visit.stop}" for one in stops if one.state == state]
         if names:

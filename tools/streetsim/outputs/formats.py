@@ -28,7 +28,8 @@ class XmlFile:
         )
 
     def step(self, second: Second) -> None:
-        """Takes the next second of a run; all are given, rising, without one left out."""
+        """Takes the next second of a run; all are given, rising, without one left out. Each kind has its own; here
+        nothing is done."""
 
     def end(self) -> None:
         """Writes what is left, and the end of the root; the file is closed by who opened it."""
@@ -155,7 +156,8 @@ class Fcd(XmlFile):
         return quoteattr(trip.name), quoteattr(trip.kind)
 
     def text(self, at: At) -> tuple[str, str]:
-        """The attributes of a place, those that stand before the vehicle's type and those after it."""
+        """The attributes of a place, (those that stand before the vehicle's type, those after it); made once and then
+        kept."""
         x, y, angle = self.places.point(at)
         lane = self.places.names[at.link, at.lane]
         after = attributes(speed=self.places.speed(at), pos=self.places.metres(at), lane=lane, slope=0.0)

@@ -14,6 +14,6 @@ def write_kept(folder: str, run: Run) -> None:
 
 
 def by_which(run: Run, words: Sequence[str], again: Sequence[str]) -> Json:
-    """What a run's setting says of how it is made again: `words`, the command line that was given; `again`, those of
-    its words that are needed beside the kept lines; and the SHA-256 of these lines."""
+    """What a run's setting says of how it is made again: `words`, the options that were given and change its numbers;
+    `again`, those of them that are needed beside the kept lines; and `lines`, the SHA-256 of these lines."""
     return {"words": list(words), "again": list(again), "lines": sum_of_lines(texts_of(run))}

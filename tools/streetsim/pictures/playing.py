@@ -11,8 +11,9 @@ MOST_BYTES = 100_000_000  # of the packed data; browsers are slow with more
 
 
 def data_of(folder: Folder, first: int, last: int) -> Json:
-    """What the page plays of a run from a first to a last second, as JSON: links, signal plans with the links that may
-    go, and the polls."""
+    """What the page plays of a run from a first to a last second, as JSON: name; links (points in metres); junctions
+    with lights, [name, x, y]; signals, [clock, node, offset, [[seconds, links that may go], ..]]; every; and frames,
+    the polls."""
     names = Names(folder.mapping)
     links = [
         {

@@ -61,7 +61,7 @@ def bands(pieces: Iterable[Piece]) -> Iterator[tuple[Spot, Spot, Spot, Spot]]:
 
 def reds(folder: Folder, edges: Iterable[str], first: int, last: int) -> list[tuple[float, int, int]]:
     """When the signals along a path of edges are red for going on along it, from a first to a last second: (metres from
-    the path's begin, begin, end) of each red."""
+    the path's begin, second in which it begins, second at which it has ended) of each red."""
     placed, _ = stretches(folder, edges)
     links = folder.links_along(edges)
     found = []

@@ -65,10 +65,13 @@ class Job:
 
 def found_routes(job: Job, workers: Team, stopping: Stopping) -> list[Diverted]:
     """Searches, and judges what was found by the check seeds; gives the ways without works, and after them one result
-    for each share of drivers who know of the works. Without works there is the first alone."""
+    for each share of drivers who know of the works. Without works there is the first alone. The trips of the job get
+    the ways without works; iterations and warnings are printed on standard error."""
     works, count = job.works, len(job.trips.all)
 
     def told(label: str, iteration: Iteration) -> bool:
+        """Prints an iteration on standard error, after the label of its search; gives whether the user has asked for an
+        end."""
         print(f"{label}{iteration.line(count)}", file=sys.stderr, flush=True)
         return stopping.asked
 

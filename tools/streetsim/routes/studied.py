@@ -38,9 +38,9 @@ class Wished:
 
 
 def routed(run: Run, mapping: Map, map_path: str, wished: Wished, where: str) -> tuple[Run, Map, list[str]]:
-    """The run and its map with ways that a search of ten iterations finds for the vehicles of its import, round the
-    works of the variant where it has any; and the texts that speak against these ways. where: the variant, named in
-    what is told."""
+    """The run and its map with ways that a search of ten iterations, printed on standard error, finds for the vehicles
+    of its import, round the works of the variant where it has any; and the texts that speak against these ways. where:
+    the variant, named in what is told."""
     sources = sources_of(mapping.sources, map_path, run.path)
     options = options_again(mapping, joint=wished.joint)
     town = read_town(sources.net, sources.additional, options, Report())
@@ -51,6 +51,7 @@ def routed(run: Run, mapping: Map, map_path: str, wished: Wished, where: str) ->
     )
 
     def told(label: str, one: Iteration) -> bool:
+        """Prints an iteration on standard error; gives False, as nobody ends this search."""
         print(f"{where}: {label}{one.line(len(trips.all))}", file=sys.stderr, flush=True)
         return False
 

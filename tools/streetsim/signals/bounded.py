@@ -84,6 +84,7 @@ def searched_bounds(
         seeds = tried[: seeds_for([one.seconds / cars for one in outcomes(workers, [ground.given], tried)])]
 
     def values(plans: Sequence[Bounded]) -> Generator[float, None, None]:
+        """The mean trip, in seconds, under each of some bounds over the seeds of the search, in their order."""
         found = outcomes(workers, plans, seeds, CAREFUL)
         for _ in plans:
             yield fmean(next(found).seconds / cars for _ in seeds)
@@ -91,6 +92,7 @@ def searched_bounds(
     with Stopping() as stopping:
 
         def told(search: Search) -> bool:
+            """Shows how far the search is; gives whether the user has asked for an end."""
             meanwhile.show(search.simulations, best_line(search))
             return stopping.asked
 

@@ -135,6 +135,7 @@ def change_of(name: str, change: Change) -> Callable[[Bounded, int], Bounded | N
     does."""
 
     def changed(bounded: Bounded, sign: int) -> Bounded | None:
+        """The bounds of all lights with the light's changed; None where the change gives none."""
         made = change(bounded[name], sign)
         return None if made is None else {**bounded, name: made}
 
@@ -150,6 +151,7 @@ def most_by(at: int, seconds: int, lowest: int) -> Change:
     """A change that makes the most of the green at a place of greens so many seconds longer (sign 1) or shorter (sign
     -1). lowest: as of Bounds.with_green."""
     def change(own: Bounds, sign: int) -> Bounds | None:
+        """The bounds with another most; None where Bounds.with_green gives none."""
         _, least, most = own.greens[at]
         return own.with_green(at, least, most + sign * seconds, lowest)
 
@@ -160,6 +162,7 @@ def least_by(at: int, seconds: int, lowest: int) -> Change:
     """A change that makes the least of the green at a place of greens so many seconds longer (sign 1) or shorter (sign
     -1). lowest: as of Bounds.with_green."""
     def change(own: Bounds, sign: int) -> Bounds | None:
+        """The bounds with another least; None where Bounds.with_green gives none."""
         _, least, most = own.greens[at]
         return own.with_green(at, least + sign * seconds, most, lowest)
 

@@ -131,6 +131,8 @@ def verified_files(in_sumo: InSumo, town: Town, paths: Sequence[str], seeds: Seq
     departs = {name: depart for name, depart in enters if depart < in_sumo.until}
 
     def run(task: tuple[str, int], told: Callable[[int], object]) -> tuple[float, int]:
+        """(mean trip in seconds, number of teleports) of one run, by its (file of programs, seed); then tells that one
+        more is done."""
         trips, teleports = in_sumo.trips(*task)
         told(1)
         return mean_trip(trips, departs, in_sumo.until), teleports

@@ -175,6 +175,7 @@ def move_of(light: Light, source: int, target: int, seconds: int) -> Callable[[P
     (sign -1); None where a bound forbids it."""
 
     def change(plan: Plan, sign: int) -> Plan | None:
+        """The plan with the seconds moved, from target to source where sign is -1; None where a bound forbids it."""
         first, second = (source, target) if sign > 0 else (target, source)
         made = light.moved(plan[light.name], first, second, seconds)
         return None if made is None else {**plan, light.name: made}

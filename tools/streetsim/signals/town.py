@@ -156,6 +156,7 @@ class Runner:
     """Runs plans of a town with seeds on some workers, and gives what the runs gave."""
 
     def __init__(self, workers: Machines, town: Town) -> None:
+        """workers: that have a session at each place that is asked for; town: whose plans are run."""
         self.workers, self.town, self.cars = workers, town, len(town.session.departs)
 
     def means(self, plans: Iterable[Plan], seeds: Sequence[int]) -> Iterator[float]:

@@ -22,6 +22,8 @@ class Calls(Generic[Simulated]):
         self.now = now  # the simulation
 
     def __getattr__(self, call: str) -> Any:
+        """Raises NotHere for a call that is not here, and AttributeError for a name that begins with two
+        underscores."""
         if call.startswith("__"):
             raise AttributeError(call)
         called = f"{self.name}.{call}"

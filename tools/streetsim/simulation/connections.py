@@ -10,6 +10,7 @@ class Connections:
     """The turns of a map, by the link from which they lead."""
 
     def __init__(self, mapping: Map) -> None:
+        """mapping: of the run, whose turns these are."""
         self.map = mapping
 
     @cached_property

@@ -47,7 +47,7 @@ def save_state(session: Session, path: str) -> None:
 
 
 def files_of(session: Session) -> dict[str, str]:
-    """Digests of what a session was made of, by what a state is of where they differ."""
+    """What a session was made of: {what a state is of where this differs, in words: digest (SHA-256)}."""
     run, mapping = session.source, session.map
     parts = {
         "another network, or of other words": [run.load.text],

@@ -19,6 +19,7 @@ class Ways:
     metres inside junctions; view: whose speeds give the seconds."""
 
     def __init__(self, simulation: Simulation, inside: Inside, view: View) -> None:
+        """Builds the graph of the map's links and turns; seconds and metres are reckoned when they are asked for."""
         self.simulation, self.map, self.inside, self.view = simulation, simulation.map, inside, view
         names = {str(at): (str(link.begin), str(link.end)) for at, link in enumerate(self.map.links)}
         self.graph = Graph(names, ((str(turn.link), str(turn.next)) for turn in self.map.turns), names)

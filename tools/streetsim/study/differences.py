@@ -56,5 +56,6 @@ def differences(study: Study, results: Mapping[str, Sequence[Outcome]], precisio
 
 
 def written(row: Entry) -> Entry:
-    """A row of a table as texts; None becomes an empty text, and a number with a fraction gets three decimals."""
+    """A row of a table as it is written: None becomes an empty text, a number with a fraction a text with three
+    decimals; all else stays."""
     return tuple("" if value is None else f"{value:.3f}" if isinstance(value, float) else value for value in row)

@@ -60,8 +60,9 @@ class Study:
 
 
 def read_study(path: str, simulator: str, rounds: int | None = None) -> Study:
-    """The study of a TOML file, whose paths are read from the file's folder. simulator: path of the program; rounds: in
-    place of those in the file, None: those. Fault where the file is wrong."""
+    """The study of a TOML file, whose paths are read from the file's folder. Variants with route = true have their ways
+    searched now, by runs; what is done is told on standard error. simulator: path of the program; rounds: in place of
+    those in the file, None: those. Fault where the file is wrong."""
     with reading(path), open_text(path) as file:
         value = load_toml(path, file.read())
     refuse_unknown(path, value, KEYS, "key")
@@ -123,7 +124,7 @@ def refuse_unknown(where: str, table: Iterable[str], known: Iterable[str], what:
 
 def joint_lanes(path: str, study: Json) -> dict[tuple[str, str], dict[str, None]]:
     """The lanes that are joint in all variants of a run, as works of one of them need it: {(run, map): lanes}; the
-    lanes are keys, in order."""
+    lanes are keys, in order. Fault where a value of a variant is wrong."""
     found: dict[tuple[str, str], dict[str, None]] = {}
     for name, variant in study["variant"].items():
         with naming(where := f"{path}: variant {name!r}"):
@@ -150,8 +151,9 @@ def read_variant(
     joint: Mapping[tuple[str, str], Iterable[str]],
     simulator: str,
 ) -> Variant:
-    """A variant, read and made ready; what it does is told on standard error. where: for faults; joint: the lanes that
-    are joint for works, by run and map; simulator: path of the program."""
+    """A variant, read and made ready, its ways searched by runs where it has route = true; what it does is told on
+    standard error. where: for faults; study, variant: their tables of the file; joint: the lanes that are joint for
+    works, by run and map; simulator: path of the program."""
     refuse_unknown(where, variant, VARIANT, "key")
     beside = partial(os.path.join, os.path.dirname(os.path.abspath(path)))
     run_path, map_path = map(beside, pair_of(study, variant))
@@ -190,7 +192,7 @@ def read_variant(
 def lights_and_buses(run: Run, mapping: Map, value: Json, drives: bool) -> tuple[Lights, Planned]:
     """The lights of a variant's run that are driven, and the stops and the priority of its buses. value: the variant's
     keys over the study's; drives: whether detectors drive lights. Fault where no vehicle is of a class or line of
-    priority."""
+    priority, or detectors are not to drive the lights that would wait."""
     lights = driven_lights(run, mapping) if drives and mapping.actuated else LISTED
     buses = planned(run, mapping) if value.get("stops") != "none" else NONE
     names = listed(value.get("priority", ""))
