@@ -3,13 +3,15 @@ seconds that it names itself, and each phase that begins is sent as a plan, the 
 """
 from __future__ import annotations
 
+from collections import deque
 from collections.abc import Callable, Collection, Iterable, Iterator, Sequence
 from dataclasses import dataclass, field
 from functools import partial
+from itertools import product
 from math import inf
 
 from streetsim.actuated.kept import Area, Cell
-from streetsim.actuated.lights import Driven, Light
+from streetsim.actuated.lights import Driven, Light, Switch
 from streetsim.actuated.logic import Actuated
 from streetsim.actuated.nema import Nema
 from streetsim.actuated.showing import Shown, lasting
@@ -18,6 +20,9 @@ from streetsim.base import limits
 from streetsim.base.client import Lane, Rows
 from streetsim.model.mapping import Map, Place
 from streetsim.model.runs import Command
+
+
+PhaseRow = tuple[int, str, int, str, int, str]  # begin, light, phase, state, seconds, why it ended
 
 
 @dataclass(slots=True, frozen=True)
@@ -39,6 +44,7 @@ class Controller:
     shows: list[Command] = field(default_factory=list)  # the plans that were sent last
     wraps: float = inf  # the clock by which these would begin anew
     in_force: bool = True  # its plans are shown; else it goes on unseen, as in SUMO
+    spans: list[list[float]] = field(default_factory=list)  # [begin, end]: clocks between which they were shown
     stopped: float = inf  # the clock from which on a plan of the run's own holds
 
     @property
@@ -49,6 +55,7 @@ class Controller:
     def starts(self, now: int) -> Iterator[Command]:
         """Begins the logic at the clock of a run's begin, and gives the commands that show its first phase."""
         self.logic.start(now, self.light.offset)
+        self.spans = [[now, inf]] if self.in_force else []
         yield from self.begins(now)
 
     def looks(self, now: int, first: int, senses: Senses) -> bool:
@@ -72,8 +79,23 @@ class Controller:
     def resumes(self, now: int) -> Iterator[Command]:
         """Puts this program in force, and gives the commands that show from now on what its logic has come to."""
         self.in_force = True
+        self.spans.append([now, inf])
         since = self.logic.since if isinstance(self.logic, Actuated) else now
         yield from self.begins(since) if now - since < limits.PHASE_STEPS else map(lasting, self.shows)
+
+    def leaves(self, now: int) -> None:
+        """Takes this program out of force; it goes on unseen."""
+        if self.in_force:
+            self.in_force, self.spans[-1][1] = False, now
+
+    def rows(self, until: int) -> Iterator[PhaseRow]:
+        """The rows of phases.csv of the phases, or parts of them, that were shown until a clock; a part that another
+        program cut short has an empty reason."""
+        for (row, state), (begin, end) in product(self.logic.told(until), self.spans):
+            first, last = max(row.begin, int(begin)), int(min(row.begin + row.seconds, end))
+            if first < last:
+                why = row.why if last == row.begin + row.seconds else ""
+                yield first, self.name, row.phase, state, last - first, why
 
     def due(self) -> int:
         """The next clock at which it has something to look at or to send."""
@@ -83,9 +105,12 @@ class Controller:
 class Driver:
     """All lights of a run that detectors drive."""
 
-    def __init__(self, lights: Iterable[Light], mapping: Map, idle: Iterable[Light] = ()) -> None:
-        """lights: those in force from the begin on; idle: programs that are not, and may come into force by a script.
-        Detectors are numbered through both, in this order."""
+    def __init__(
+        self, lights: Iterable[Light], mapping: Map, idle: Iterable[Light] = (), switches: Iterable[Switch] = ()
+    ) -> None:
+        """lights: those in force from the begin on; idle: programs that are not, and may come into force by a script or
+        by time of day (switches, rising). Detectors are numbered through both, in this order."""
+        self.switches = deque(switches)
         self.cells: list[Cell] = []
         self.controllers: list[Controller] = []
         for one, shows in (*((one, True) for one in lights), *((one, False) for one in idle)):
@@ -101,13 +126,28 @@ class Driver:
         return next((one for one in own if (one.in_force if program is None else one.light.program == program)), None)
 
     def stop(self, node: int, clock: int) -> None:
-        """A plan of the run's own takes the place of what drives the light of a node."""
+        """A plan of the run's own takes the place of what drives the light of a node, for good or until it changes by
+        time of day."""
+        to_come = {light for _, light, _ in self.switches}
         for one in self.controllers:
             if one.stopped == inf and any(own.node == node for own in one.light.nodes):
-                one.in_force, one.stopped = False, clock
+                one.leaves(clock)
+                one.stopped = inf if one.name in to_come else clock
+
+    def switch(self, clock: int) -> Iterator[Command]:
+        """Makes the changes by time of day that are due at a clock, and gives the commands that show those programs,
+        among them, that detectors drive; the run has lines for all, which go before."""
+        while self.switches and self.switches[0][0] <= clock:
+            _, light, program = self.switches.popleft()
+            if (one := self.of(light, program)) is not None:
+                yield from one.resumes(clock)
+            if all(light != name for _, name, _ in self.switches):
+                for one in self.controllers:
+                    one.stopped = clock if one.name == light and not one.in_force else one.stopped
 
     def release(self, light: str) -> None:
-        """Takes all programs of a light out of force: nothing more is sent for it."""
+        """Takes all programs of a light out of force, whatever the time of day: nothing more is sent for it."""
+        self.switches = deque(one for one in self.switches if one[1] != light)
         for one in self.controllers:
             one.in_force = one.in_force and one.name != light
 
@@ -147,14 +187,9 @@ class Driver:
             elif one.wraps <= clock:
                 yield from one.goes_on()
 
-    def rows(self, until: int) -> list[tuple[int, str, int, str, int, str]]:
-        """The rows of phases.csv, rising: (begin, light, phase, state, seconds, why it ended). Those under way at the
-        clock `until` end there, with an empty reason."""
-        return sorted(
-            (row.begin, one.name, row.phase, state, row.seconds, row.why)
-            for one in self.controllers
-            for row, state in one.logic.told(int(min(until, one.stopped)))
-        )
+    def rows(self, until: int) -> list[PhaseRow]:
+        """The rows of phases.csv, rising. Those under way at the clock `until` end there, with an empty reason."""
+        return sorted(row for one in self.controllers for row in one.rows(until))
 
 
 def controller_of(light: Light, mapping: Map, meters: range) -> Controller:

@@ -2,7 +2,7 @@
 common."""
 from __future__ import annotations
 
-from collections.abc import Iterable, Mapping
+from collections.abc import Collection, Iterable, Mapping
 from dataclasses import dataclass
 from typing import Any
 
@@ -54,11 +54,13 @@ def in_force(programs: Iterable[Json]) -> dict[str, Json]:
     return {one["light"]: one for one in programs if not one.get("idle")}
 
 
-def kept_of(kept: Mapping[str, Json], light: str) -> Json:
-    """What is kept of a light's program; raises Listed where nothing is."""
-    if light not in kept:
+def kept_of(programs: Iterable[Json], light: str, later: Collection[str]) -> list[Json]:
+    """What a map keeps (`programs`) of the programs of a light that it begins with or that are in force later, by their
+    names; raises Listed where nothing is."""
+    found = [one for one in programs if one["light"] == light and (not one.get("idle") or one["program"] in later)]
+    if not found:
         raise Listed("as their map was written by an older streetsim-import")
-    return kept[light]
+    return found
 
 
 def number_of(text: str) -> float:

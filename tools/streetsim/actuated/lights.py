@@ -2,7 +2,7 @@
 their program lists."""
 from __future__ import annotations
 
-from collections import Counter
+from collections import Counter, defaultdict
 from collections.abc import Collection, Iterable, Iterator, Mapping
 from contextlib import suppress
 from dataclasses import dataclass, field
@@ -12,7 +12,7 @@ from math import ceil
 from typing import Any
 
 from streetsim.actuated.detectors import GAP, LEAD, NO_DETECTOR, Layout, LitLane, Spot, Stretch, Way, extending, spots
-from streetsim.actuated.kept import OFF, Area, Cell, Listed, NodeOf, bounds_of, in_force, kept_of, node_of, number_of
+from streetsim.actuated.kept import OFF, Area, Cell, Listed, NodeOf, bounds_of, kept_of, node_of, number_of
 from streetsim.actuated.logic import GO, Actuated, Phase
 from streetsim.actuated.rings import DrivenRings, driven_rings
 from streetsim.base import limits
@@ -59,6 +59,7 @@ class Driven:
 
 
 Light = Driven | DrivenRings
+Switch = tuple[int, str, str]  # clock, light, and the program that is in force from then on
 
 
 @dataclass(frozen=True)
@@ -67,22 +68,24 @@ class Lights:
 
     driven: tuple[Light, ...] = ()
     listed: Mapping[str, str] = field(default_factory=dict)  # of the others that SUMO times by detectors: why
+    idle: tuple[Light, ...] = ()  # programs of driven lights that come into force later
+    switches: tuple[Switch, ...] = ()  # the changes of driven lights by time of day, rising
 
     @cached_property
     def meters(self) -> int:
         """How many detectors the driven lights need."""
-        return sum(len(one.cells) for one in self.driven)
+        return sum(len(one.cells) for one in (*self.driven, *self.idle))
 
     @cached_property
     def longest(self) -> int:
         """The seconds, rounded up, after which each driven light has shown all its phases at their greatest length; 0
         without any."""
-        return ceil(max((one.longest for one in self.driven), default=0.0))
+        return ceil(max((one.longest for one in (*self.driven, *self.idle)), default=0.0))
 
     def going_by(self, mapping: Map) -> list[str]:
         """The lights of a map that SUMO times by detectors and that are not driven here, but show their listed
         seconds."""
-        own = {one.name for one in self.driven}
+        own = {one.name for one in (*self.driven, *self.idle)}
         return [light for light in mapping.actuated if light not in own]
 
     def notes(self) -> Iterator[str]:
@@ -99,23 +102,35 @@ def driven_lights(run: Run, mapping: Map) -> Lights:
     """The lights that detectors drive in a run; the others with the reason. Those that most vehicles pass come first,
     until the 1,024 detectors that a run may have, less those of the map, are used up."""
     timed = {line.command["node"] for _, line in run.timed if line.command["cmd"] == "signal"}
-    kept, left = in_force(mapping.programs), limits.METERS - len(mapping.detectors)
+    left, later = limits.METERS - len(mapping.detectors), programs_later(mapping)
     driven: list[Light] = []
+    idle: list[Light] = []
     listed: dict[str, str] = {}
     use = passing(run, mapping)
     for light in sorted(mapping.actuated, key=lambda one: -use[one]):
         try:
-            own = kept_of(kept, light)
-            if any(node in timed for name, node in mapping.signals if name == light) and is_long(own):
+            own = kept_of(mapping.programs, light, later[light])
+            if any(node in timed for name, node in mapping.signals if name == light) and any(map(is_long, own)):
                 raise Listed("as lines of the run show their phases one by one")
-            found = driven_of(own, mapping)
-            if len(found.cells) > left:
+            found = [driven_of(one, mapping) for one in own]
+            if (needed := sum(len(one.cells) for one in found)) > left:
                 raise Listed(f"as no more than {limits.METERS:,} detectors are to be had")
-            left -= len(found.cells)
-            driven.append(found)
+            left -= needed
+            for kept, one in zip(own, found, strict=True):
+                (idle if kept.get("idle") else driven).append(one)
         except Listed as why:
             listed[light] = str(why)
-    return Lights(tuple(driven), listed)
+    names = {one.name for one in (*driven, *idle)}
+    switches = (one for one in mapping.switches if one[0] > run.start() and one[1] in names)
+    return Lights(tuple(driven), listed, tuple(idle), tuple(switches))
+
+
+def programs_later(mapping: Map) -> defaultdict[str, set[str]]:
+    """By light the names of the programs to which it changes by time of day."""
+    found: defaultdict[str, set[str]] = defaultdict(set)
+    for _, light, program in mapping.switches:
+        found[light].add(program)
+    return found
 
 
 def is_long(kept: Mapping[str, Any]) -> bool:
@@ -123,11 +138,13 @@ def is_long(kept: Mapping[str, Any]) -> bool:
     return sum(phase[0] for phase in kept["phases"]) > limits.PHASES * limits.PHASE_STEPS
 
 
-def idle_lights(mapping: Map, left: int) -> Iterator[Light]:
+def idle_lights(mapping: Map, left: int, known: Iterable[Light]) -> Iterator[Light]:
     """Lights with a program that is not in force and that a script may put in force, as far as `left` detectors go;
-    programs that cannot be driven, and those that need more detectors than are left, are passed over in silence."""
+    programs that cannot be driven, and those that need more detectors than are left, are passed over in silence, and so
+    are those of `known`."""
+    names = {(one.name, one.program) for one in known}
     for kept in mapping.programs:
-        if kept.get("idle"):
+        if kept.get("idle") and (kept["light"], kept["program"]) not in names:
             with suppress(Listed):
                 found = driven_of(kept, mapping)
                 if len(found.cells) <= left:

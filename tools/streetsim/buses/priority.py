@@ -47,8 +47,11 @@ def prioritised(run: Run, mapping: Map, names: Sequence[str], seen: int, driven:
     unable: defaultdict[str, list[str]] = defaultdict(list)
     for light in sorted(wanted):
         try:
+            if light in changed:
+                found.pop(light, None)
+                raise Listed("as lines of the run change their plans")
             if light not in found:
-                mine.append(fixed_light(light, kept, seen, light in changed))
+                mine.append(fixed_light(light, kept, seen))
                 found[light] = mine[-1]
         except Listed as why:
             unable[str(why)].append(light)
@@ -89,12 +92,9 @@ def lights_of(run: Run, mapping: Map, owners: Iterable[int]) -> set[str]:
     return {light for pair in pairs if (light := light_at.get(pair))}
 
 
-def fixed_light(light: str, kept: Mapping[str, Any], seen: int, changed: bool) -> Fixed:
+def fixed_light(light: str, kept: Mapping[str, Any], seen: int) -> Fixed:
     """A light with listed seconds, of what the map keeps of its program (kept, by light). seen: seconds before the stop
-    line at which a vehicle is seen; changed: whether lines of the run change its plan. Raises Listed, with the reason,
-    where it cannot wait."""
-    if changed:
-        raise Listed("as lines of the run change their plans")
+    line at which a vehicle is seen. Raises Listed, with the reason, where it cannot wait."""
     if light not in kept:
         raise Listed("as detectors drive them in SUMO and not here, or an older streetsim-import wrote the map")
     program = kept[light]

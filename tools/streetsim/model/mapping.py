@@ -89,6 +89,8 @@ class Map:
     names: Json = field(default_factory=dict)
     fixed: list[Json] = field(default_factory=list)  # of other lights that buses and others pass, in the same form
     visits: list[Visit] = field(default_factory=list)  # stops that vehicles are to make
+    # Changes of lights by time of day: (clock, light, program), rising; the first of each is at the run's begin.
+    switches: list[tuple[int, str, str]] = field(default_factory=list)
 
     def __post_init__(self) -> None:
         """Finds the links of each edge."""
@@ -128,6 +130,7 @@ class Map:
             **({"programs": self.programs} if self.programs else {}),
             **({"names": self.names} if self.names else {}),
             **({"fixed": self.fixed} if self.fixed else {}),
+            **({"switches": self.switches} if self.switches else {}),
             **({"visits": [list(asdict(visit).values()) for visit in self.visits]} if self.visits else {}),
         }
 
@@ -150,6 +153,7 @@ def map_from(path: FilePath, value: Json) -> Map:
         more |= {"names": value.get("names", {})}
         more["fixed"] = value.get("fixed", [])
         more["visits"] = [Visit(*visit) for visit in value.get("visits", ())]
+        more["switches"] = [(clock, light, program) for clock, light, program in value.get("switches", ())]
         more |= {key: value[key] for key in KEYS if key not in ("links", "turns")}
         return Map(links=links, turns=turns, **more)
     except (KeyError, TypeError, ValueError) as fault:

@@ -78,7 +78,7 @@ class Desk:
                 self.driver.stop(line.command["node"], clock)
             self.works.merges.done(clock, line.command)
             self.sent += 1
-        self.send_at(clock, due)
+        self.send_at(clock, due + list(map(own_line, self.driver.switch(clock))))
 
     def send_at(self, clock: int, lines: list[Line]) -> None:
         """Sends lines at a clock, and keeps them for the runs that repeat this one."""

@@ -57,7 +57,8 @@ class Recorder(Desk):
         begun = begun_here(closures_of(run, until), mapping)
         self.works = Works(begun, mapping, settings.merging, pace if self.notes_works else ())
         self.records.works = self.works.watched
-        self.driver = Driver(settings.lights.driven, mapping)
+        lights = settings.lights
+        self.driver = Driver(lights.driven, mapping, lights.idle, lights.switches)
         self.fleet = Fleet(settings.buses, run, mapping)
 
     def record(self) -> Records:

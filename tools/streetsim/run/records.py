@@ -4,6 +4,7 @@ from collections.abc import Callable
 from contextlib import AbstractContextManager
 from dataclasses import dataclass, field
 
+from streetsim.actuated.driver import PhaseRow
 from streetsim.base.client import Census, Client, Row, Vehicle
 from streetsim.buses.fleet import Done
 from streetsim.model.detectors import Areas
@@ -16,7 +17,6 @@ from streetsim.works.watched import Watched
 
 Tell = Callable[[int, Census | None], object]  # gets the clock and the last census
 Rescue = tuple[int, int, Command]  # clock, car, enter command
-PhaseRow = tuple[int, str, int, str, int, str]  # begin, light, phase, state, seconds, why it ended
 QueueRow = tuple[int, int, int, int, float, str]  # clock, link, lane, vehicles that stand, metres, before what
 Serving = Callable[[], AbstractContextManager[Client]]  # begins the program of a run
 

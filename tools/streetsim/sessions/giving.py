@@ -40,7 +40,7 @@ def giving_session(
 
 def is_driven(of: Settings | Giving) -> bool:
     """Whether lines are sent by what is seen while a run goes: for lights that detectors drive, or for buses."""
-    return bool(of.lights.driven or of.buses.visits)
+    return bool(of.lights.driven or of.lights.idle or of.buses.visits)
 
 
 def gaps(session: Session, signals: bytes, seed: int) -> tuple[list, Yielding]:

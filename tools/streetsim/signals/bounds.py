@@ -49,9 +49,9 @@ Bounded = dict[str, Bounds]  # by light
 
 
 def given_bounds(lights: Lights, keep: Collection[str]) -> Bounded:
-    """The bounds of the lights that a search may change, by light: of the actuated ones that are not in keep. Greens
-    whose most is above 600 s are left out, and so is a light that has no other."""
-    found = {}
+    """The bounds of the lights that a search may change, by light: of the actuated ones that are not in keep and that
+    have one program all day. Greens whose most is above 600 s are left out, and so is a light that has no other."""
+    found, keep = {}, {*keep, *(light for _, light, _ in lights.switches)}
     for one in lights.driven:
         if isinstance(one, Driven) and one.name not in keep:
             own = ((at, phase.least, phase.most) for at, phase in enumerate(one.phases) if phase.is_extended)

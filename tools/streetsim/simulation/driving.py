@@ -16,8 +16,8 @@ class Driving:
         """lights: those that detectors drive; LISTED: no light is driven, nor can a script have one driven."""
         self.lights = lights
         left = limits.METERS - len(mapping.detectors) - lights.meters
-        idle = idle_lights(mapping, left) if lights is not LISTED else ()
-        self.driver = Driver(lights.driven, mapping, idle)
+        idle = idle_lights(mapping, left, lights.idle) if lights is not LISTED else ()
+        self.driver = Driver(lights.driven, mapping, (*lights.idle, *idle), lights.switches)
         self.senses = Senses(client.read, lambda place: client.lane(*place))
 
     def begin(self, clock: int) -> Iterator[Command]:

@@ -1,5 +1,6 @@
 """The lights of a session under a script."""
-from collections.abc import Sequence
+from collections import deque
+from collections.abc import Mapping, Sequence
 from dataclasses import dataclass, field
 
 from streetsim.actuated.driver import Controller
@@ -51,13 +52,28 @@ class Light:
 class Control:
     """What each light shows, and when phases end that a script has given another end."""
 
-    def __init__(self, simulation: Simulation, lights: dict[str, Light]) -> None:
-        """lights: by name, as the files have them."""
-        self.simulation, self.lights = simulation, lights
+    def __init__(
+        self, simulation: Simulation, lights: dict[str, Light], offsets: Mapping[tuple[str, str], float]
+    ) -> None:
+        """lights: by name, as the files have them; offsets: seconds, by light and program."""
+        self.simulation, self.lights, self.offsets = simulation, lights, offsets
         self.timers: list[tuple[int, str, int]] = []  # (clock, light, index): the phase that begins then
+        self.changes = deque(simulation.map.switches)  # by time of day, that the lights are still to be told of
+        self.change(simulation.clock)
+
+    def change(self, clock: int) -> None:
+        """Has the lights know of their changes by time of day up to a clock, but for those that a script has set."""
+        while self.changes and self.changes[0][0] <= clock:
+            _, name, program = self.changes.popleft()
+            if name in self.lights and not self.simulation.shown.forgotten & {*self.simulation.shown.nodes(name)}:
+                light = self.lights[name]
+                phases, names = light.programs[program]
+                light.phases, light.names = list(phases), list(names)
+                light.program, light.begin = program, self.offsets.get((name, program), 0.0)
 
     def light(self, name: str) -> Light:
         """A light by its name; TraCIException where there is none."""
+        self.change(self.simulation.clock - 1)
         if name not in self.lights:
             raise TraCIException(f"Traffic light '{name}' is not known")
         return self.lights[name]
@@ -81,7 +97,7 @@ class Control:
         """What a light shows now, SUMO's letter for each signal."""
         if (driven := self.driven(name)) is not None:
             return driven.logic.state()
-        light = self.lights[name]
+        light = self.light(name)
         return light.phases[light.at(self.simulation.clock)[0]][1]
 
     def show_due(self) -> None:

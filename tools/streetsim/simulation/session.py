@@ -40,7 +40,7 @@ class Session(Simulation):
         self.detectors = {one.name: one for one in self.map.detectors}
         self.loops = {name: Loop(one) for name, one in self.detectors.items() if one.kind == "e1"}
         self.types, self.view, self.tally = Types(self.map), View(self), Tally()
-        self.control = Control(self, facts.lights_at({light for light, _ in self.map.signals}))
+        self.control = Control(self, facts.lights_at({light for light, _ in self.map.signals}), facts.offsets)
         self.wishes: dict[str, tuple[int, ...]] = {}  # by name, the other plans of those that were not told
         self.pending: dict[int, tuple[int, tuple[int, ...]]] = {}  # by number: a link, and other links after its end
         self.entered = 0  # how many of the run's vehicles the program was told of

@@ -108,6 +108,7 @@ class Simulation:
                     self.driving.driver.stop(line.command["node"], self.clock)
             self.sent += 1
         self.send(due)
+        self.show_driven(self.driving.driver.switch(self.clock))
         self.show(self.shown.due(self.clock))
         following = [clock for clock, _ in self.source.timed[self.sent : self.sent + 1]]
         return self.shown.next_clock(min([target, *following]))

@@ -9,12 +9,12 @@ from streetsim.sumo.detectors import KINDS, read_detector
 from streetsim.sumo.net import SumoNet, read_program
 from streetsim.sumo.stops import BUS_STOPS, read_bus_stop
 from streetsim.sumo.types import TAGS, Types
+from streetsim.sumo.wauts import read_waut, read_waut_junction
 
 UNDONE = {  # elements of additional files that change traffic in SUMO: what to do here
     "rerouter": "ways round works: streetsim-route --close; closed lanes: streetsim-run --close",
     "calibrator": "give its flows as routes",
     "variableSpeedSign": "the lanes keep their speed: judge by SUMO",
-    "WAUT": 'signal lines of the run file with "at" change plans by time of day',
 }
 DEMAND = ("route", "routeDistribution", "vehicle", "flow", "trip", "person", "personFlow", "container", "containerFlow")
 
@@ -29,6 +29,10 @@ def read_additional(path: FilePath, net: SumoNet, types: Types, report: Report, 
             read_program(path, element, net, ())
         elif element.tag in TAGS:
             types.read(path, element)
+        elif element.tag == "WAUT":
+            read_waut(path, element, net)
+        elif element.tag == "wautJunction":
+            read_waut_junction(path, element, net, report)
         elif element.tag in BUS_STOPS:
             read_bus_stop(path, element, net)
         elif element.tag in KINDS:

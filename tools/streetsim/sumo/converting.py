@@ -15,10 +15,11 @@ from streetsim.sumo.net import SumoNet, actuated
 from streetsim.sumo.network import Network, Options
 from streetsim.sumo.programs import fixed_programs, kept_programs, lights_of_riders
 from streetsim.sumo.rules import warn_of_rules
-from streetsim.sumo.signals import movements, signals
+from streetsim.sumo.signals import AFTER, movements, signals
 from streetsim.sumo.slowing import slowed
 from streetsim.sumo.timings import warn_of_clashes
 from streetsim.sumo.types import Types
+from streetsim.sumo.wauts import day_lines, days_of, sensing, switches_of
 from streetsim.sumo.yielding import equivalents, hourly_flows
 
 # The network, its lights with their nodes, the commands of the run, the names of its vehicles.
@@ -43,6 +44,8 @@ def converted(net: SumoNet, types: Types, vehicles: Sequence[Vehicle], options: 
     if options.slow:
         net, vehicles = slowed(net, vehicles, options.slow, report)
     flows = hourly_flows(vehicles)
+    last = max((round(vehicle.depart) for vehicle in vehicles), default=options.begin) + AFTER
+    days = days_of(net, options.begin, last, report)
     network = Network(net, options, report, flows)
     found = movements(net, network, flows, report)
     network.equivalents = equivalents(one for junction in found.values() for one in junction.values())
@@ -52,10 +55,12 @@ def converted(net: SumoNet, types: Types, vehicles: Sequence[Vehicle], options: 
     network.open_beside_works()
     warn_of_rules(net, network, report)
     warn_of_clashes(net, report)
-    made = signals(net, network, found, report)
+    ends = {light: day[1][0] - 1 for light, day in days.items() if len(day) > 1}
+    made = signals(net, network, found, report, ends) + day_lines(net, network, days, flows, report)
     lights = [(light, command["node"]) for light, command in made if "at" not in command]
     network.yields = conflicts_of(net, network, flows)
-    network.actuated = actuated(net, (light for light, _ in made))
+    network.actuated = list(dict.fromkeys([*actuated(net, (light for light, _ in made)), *sensing(net, days)]))
+    network.switches = switches_of(days)
     network.programs = kept_programs(net, network, lights, flows)
     network.fixed = fixed_programs(net, network, lights, flows, lights_of_riders(entered, driven, types, network))
     return (
@@ -108,6 +113,7 @@ def map_of(network: Network, lights: list[tuple[str, int]], names: list[str], re
         names=network.names,
         visits=network.visits,
         fixed=network.fixed,
+        switches=network.switches,
     )
 
 

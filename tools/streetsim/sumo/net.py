@@ -76,6 +76,17 @@ class Program:
 
 
 @dataclass(slots=True)
+class Waut:
+    """By which program lights go at which time of day: from a start program on, to others at clocks (seconds), over and
+    over each period (seconds; 0: once)."""
+
+    start: str
+    switches: list[tuple[float, str]]  # clock and program, rising
+    period: float
+    lights: list[str] = field(default_factory=list)
+
+
+@dataclass(slots=True)
 class SumoNet:
     """What was read of a network and of additional files, by SUMO's names."""
 
@@ -88,8 +99,9 @@ class SumoNet:
     roundabouts: set[str] = field(default_factory=set)  # edges
     types: dict[str, str] = field(default_factory=dict)  # by junction
     programs: dict[str, Program] = field(default_factory=dict)  # by light, the last loaded
-    # By light, those loaded before it that are not seconds alone: scripts may choose them.
+    # By light, those loaded before it: scripts may choose them, or a WAUT.
     earlier: dict[str, list[Program]] = field(default_factory=dict)
+    wauts: dict[str, Waut] = field(default_factory=dict)  # by name
     detectors: list[SumoDetector] = field(default_factory=list)  # of additional files
     bus_stops: dict[str, BusStop] = field(default_factory=dict)  # of these, by name
     # By junction: for each request those that it gives way to.
@@ -306,7 +318,7 @@ def read_program(path: FilePath, element: Element, net: SumoNet, _classes: Colle
     if not phases and light in net.programs:  # an offset alone, as SUMO's tlsCoordinator writes it
         net.programs[light] = replace(net.programs[light], offset=offset)
     else:
-        if light in net.programs and net.programs[light].kind != STATIC:
+        if light in net.programs:
             net.earlier.setdefault(light, []).append(net.programs[light])
         net.programs[light] = Program(
             offset,

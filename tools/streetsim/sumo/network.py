@@ -125,6 +125,7 @@ class Network:
         self.last = options.begin  # departure
         self.kinds: Json = {}  # of the vehicles, as demand.kinds_of
         self.visits: list[Visit] = []  # of bus stops and other stops
+        self.switches: list[tuple[int, str, str]] = []  # of lights by time of day: clock, light, program
         self.fixed: list[Json] = []  # programs of lights without detectors, that buses and others pass
         self.actuated: list[str] = []  # lights that SUMO times by detectors
         self.programs: list[Json] = []  # of these, as programs.kept_programs has them

@@ -26,13 +26,13 @@ def kept_programs(
     not in force come last."""
     nodes = defaultdict(list)
     for light, node in lights:
-        if net.programs[light].kind != STATIC or light in net.earlier:
+        if any(one.kind != STATIC for one in (net.programs[light], *net.earlier.get(light, ()))):
             nodes[light].append(node)
     at_junction = connections_of(net) if nodes else {}
     before = lanes_before(net) if nodes else {}
     found = []
     programs = [(light, net.programs[light]) for light in sorted(nodes) if net.programs[light].kind != STATIC]
-    programs += [(light, one) for light in sorted(nodes) for one in net.earlier.get(light, ())]
+    programs += [(light, one) for light in sorted(nodes) for one in net.earlier.get(light, ()) if one.kind != STATIC]
     for light, program in programs:
         numbers, own = nodes[light], [one for one in net.connections if one.light == light]
         phases = zip(program.phases, program.bounds, program.following, strict=True)

@@ -94,16 +94,40 @@ def light_of(turns: Iterable[Connection], net: SumoNet) -> str | None:
     return min((light for light in lights if light in net.programs and net.programs[light].phases), default=None)
 
 
+def turns_at(network: Network) -> dict[int, list[AtLight]]:
+    """The turns at each node to which any lead."""
+    found: defaultdict[int, list[AtLight]] = defaultdict(list)
+    for (link, lane, following), turn in network.turns.items():
+        found[network.links[link].end].append((link, lane, following, turn))
+    return found
+
+
+def lit_node(
+    net: SumoNet,
+    network: Network,
+    node: int,
+    turns: Sequence[AtLight],
+    light: str,
+    found: Mapping[int, Movement],
+    report: Report,
+) -> LitNode:
+    """A node with a light and its program in the network; found: as of LitNode."""
+    edges = {link: network.links[link].edge for link, *_ in turns}
+    return LitNode(node, turns, edges, light, net.programs[light], network.options.permissive, report, found)
+
+
 def signals(
-    net: SumoNet, network: Network, movements_at: Mapping[str, Mapping[int, Movement]], report: Report
+    net: SumoNet,
+    network: Network,
+    movements_at: Mapping[str, Mapping[int, Movement]],
+    report: Report,
+    ends: Mapping[str, int],
 ) -> list[tuple[str, Command]]:
     """The signal commands, (light, command): one for each node with a light, or one for each phase of a program that
-    does not fit in one plan. movements_at: as movements gives them."""
-    turns_at = defaultdict(list)
-    for (link, lane, following), turn in network.turns.items():
-        turns_at[network.links[link].end].append((link, lane, following, turn))
+    does not fit in one plan. movements_at: as movements gives them; ends: by light the last clock at which it shows
+    this program, where it changes by time of day."""
     made = []
-    for node, turns in sorted(turns_at.items()):
+    for node, turns in sorted(turns_at(network).items()):
         lights = {turn.light for *_, turn in turns if turn.light}
         known = sorted(light for light in lights if light in net.programs and net.programs[light].phases)
         junction = network.nodes[node]
@@ -112,11 +136,10 @@ def signals(
         if len(known) > 1:
             report.warn(f"junction {junction!r}: of its lights {', '.join(known)} the first alone is used")
         if known:
-            edges = {link: network.links[link].edge for link, *_ in turns}
             found = movements_at.get(junction, {}) if network.options.permissive is None else {}
-            program, permissive = net.programs[known[0]], network.options.permissive
-            own = LitNode(node, turns, edges, known[0], program, permissive, report, found)
-            made += [(known[0], command) for command in signal_lines(own, network.options.begin, network.last + AFTER)]
+            own = lit_node(net, network, node, turns, known[0], found, report)
+            until = ends.get(known[0], network.last + AFTER)
+            made += [(known[0], command) for command in signal_lines(own, network.options.begin, until)]
     for light in sorted({light for light, _ in made}):
         if net.programs[light].kind != "static":
             but = ", but where streetsim-run drives it by detectors" if net.programs[light].kind in DRIVEN else ""

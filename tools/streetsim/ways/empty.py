@@ -21,6 +21,6 @@ def times_without_routes(net: SumoNet, graph: Graph, options: Options) -> tuple[
     """(seconds of each movement without traffic, vehicles an hour that each lets pass), before any route is known."""
     report = Report()
     network = Network(net, options, report, {})
-    made = [command for _, command in signals(net, network, {}, report) if "at" not in command]
+    made = [command for _, command in signals(net, network, {}, report, {}) if "at" not in command]
     mapping = map_of(network, [], [], report)
     return free_seconds(graph, mapping, made, options.dawdle / 1000), capacities(graph, mapping, made)

@@ -1,0 +1,135 @@
+"""Lights that change their programs by the time of day (SUMO's WAUT), between seconds and detectors."""
+import csv
+import json
+import os
+import unittest
+
+from support import PROGRAM, Case, needs_simulator
+from test_actuated import PHASES, street
+from test_driven import FIXED, NOBODY
+from streetsim import traci
+from streetsim.base.files import Fault
+from streetsim.base.report import Report
+from streetsim.importing.convert import convert
+from streetsim.sumo.converting import run_and_map
+from streetsim.sumo.net import Waut
+from streetsim.sumo.network import Options
+from streetsim.sumo.wauts import day_of
+
+ENDED = "</additional>"
+
+
+def changing(*switches, more="", junction="", start="fixed"):
+    """An additional file with a program of seconds for light L, whose own one is actuated, and a WAUT for it."""
+    changes = "".join(f'<wautSwitch time="{clock}" to="{program}"/>' for clock, program in switches)
+    waut = f'<WAUT id="w" startProg="{start}" {more}>{changes}</WAUT>'
+    waut += f'<wautJunction wautID="w" junctionID="L" {junction}/>'
+    return FIXED.replace(ENDED, waut + ENDED)
+
+
+class Days(unittest.TestCase):
+    def test_the_clocks_of_a_period(self):
+        waut = Waut("a", [(100, "b"), (200, "a")], 300)
+        self.assertEqual(day_of(waut, 0, 700), [(0, "a"), (100, "b"), (200, "a"), (400, "b"), (500, "a"), (700, "b")])
+        self.assertEqual(day_of(waut, 150, 300), [(150, "b"), (200, "a")])
+        self.assertEqual(day_of(waut, 100, 150), [(100, "b")])
+        self.assertEqual(day_of(waut, 950, 1050), [(950, "a"), (1000, "b")])
+
+    def test_once_without_a_period_and_no_change_to_the_same(self):
+        waut = Waut("a", [(100, "a"), (200, "b"), (300, "b")], 0)
+        self.assertEqual(day_of(waut, 0, 9000), [(0, "a"), (200, "b")])
+        self.assertEqual(day_of(Waut("a", [], 600), 5, 9000), [(5, "a")])
+
+
+class Files(Case):
+    def made(self, additional, begin=0):
+        files = self.write("x.net.xml", street(PHASES)), [self.write("w.add.xml", additional)]
+        report = Report()
+        made = convert(*files, [self.write("x.rou.xml", NOBODY)], Options(begin=begin), report)
+        lines, mapping = run_and_map(made, report)
+        return [json.loads(line) for line in lines], mapping, report
+
+    def test_lines_and_map(self):
+        lines, mapping, _ = self.made(changing((100, "0"), (200, "fixed"), more='refTime="50"'))
+        told = [one for one in lines if one["cmd"] == "signal"]
+        # Of 40 and of 53 s, as listed: what the simulator shows where detectors do not drive the light.
+        cycles = [(one.get("at"), sum(seconds for seconds, _ in one["phases"])) for one in told]
+        self.assertEqual(cycles, [(None, 40), (150, 53), (250, 40)])
+        self.assertEqual(mapping.switches, [(0, "L", "fixed"), (150, "L", "0"), (250, "L", "fixed")])
+        self.assertEqual(mapping.actuated, ["L"])
+        self.assertEqual([(one["program"], one.get("idle")) for one in mapping.programs], [("0", True)])
+
+    def test_a_run_that_begins_later(self):
+        lines, mapping, _ = self.made(changing((100, "0"), (200, "fixed")), begin=120)
+        told = [one for one in lines if one["cmd"] == "signal"]
+        self.assertEqual([one.get("at") for one in told], [None, 200])
+        self.assertEqual(mapping.switches, [(120, "L", "0"), (200, "L", "fixed")])
+
+    def test_what_sumo_refuses(self):
+        for additional, why in (
+            (changing((100, "night")), "WAUT 'w': light 'L' has no program 'night'"),
+            (changing(start="night"), "WAUT 'w': light 'L' has no program 'night'"),
+            (changing().replace('junctionID="L"', 'junctionID="M"'), "the network has no light 'M'"),
+            (changing().replace('wautID="w"', 'wautID="x"'), "there is no WAUT 'x' before it"),
+        ):
+            with self.subTest(why), self.assertRaises(Fault) as fault:
+                self.made(additional)
+            self.assertIn(why, str(fault.exception))
+
+    def test_what_is_other_than_in_sumo_is_told(self):
+        _, mapping, report = self.made(changing((100, "off")))
+        self.assertEqual(mapping.switches, [])
+        self.assertIn("WAUT 'w' does nothing here, as it switches lights off: L", report.warnings)
+        _, _, report = self.made(changing((100, "0"), junction='procedure="GSP"'))
+        self.assertIn("lights of WAUT 'w' change at once, not by procedure GSP", report.warnings)
+
+
+@needs_simulator
+class Runs(Case):
+    DAY = changing((100, "0"), (200, "fixed"), (300, "0"))
+
+    def run_with(self, *words):
+        """The phases.csv of a run of 400 s; empty where there is none."""
+        paths = self.write("x.net.xml", street(PHASES)), self.write("w.add.xml", self.DAY)
+        routes, run, mapping = self.write("x.rou.xml", NOBODY), self.folder / "run.jsonl", self.folder / "map.json"
+        self.tool("import", *paths, "--routes", routes, "-o", run, "--map", mapping)
+        self.said, _ = self.tool("run", run, "--map", mapping, "--until", 400, "--out", self.folder / "out", *words)
+        path = self.folder / "out/phases.csv"
+        if not path.exists():
+            return []
+        with open(path, encoding="utf-8") as file:
+            return [(int(row["begin"]), int(row["phase"]), int(row["seconds"]), row["ended"])
+                    for row in csv.DictReader(file)]
+
+    def test_detectors_drive_a_light_while_its_program_is_in_force(self):
+        # Unseen it has its listed 30, 3 and 20 s, and then 5, 3 and 20 s, as nobody comes: greens begin at 53, 81, 109,
+        # .. s. From 100 s it shows what that has come to, and at 200 s its phase is cut.
+        rows = self.run_with()
+        self.assertEqual(rows[:4], [(100, 2, 9, "listed"), (109, 0, 5, "gap"), (114, 1, 3, "listed"),
+                                    (117, 2, 20, "listed")])
+        self.assertEqual([row for row in rows if row[0] + row[2] >= 190 and row[0] < 305], [
+            (173, 2, 20, "listed"), (193, 0, 5, "gap"), (198, 1, 2, ""), (300, 2, 5, "listed"),
+        ])
+
+    def test_listed_seconds_where_they_are_asked_for(self):
+        self.assertEqual(self.run_with("--lights", "listed"), [])
+
+    def test_scripts(self):
+        os.environ["STREETSIM_PROGRAM"] = PROGRAM
+        self.addCleanup(lambda: traci.isLoaded() and traci.close())
+        files = self.write("x.net.xml", street(PHASES)), self.write("x.rou.xml", NOBODY)
+        traci.start(["sumo", "-n", files[0], "-r", files[1], "-a", self.write("w.add.xml", self.DAY)])
+        light, found = traci.trafficlight, []
+        for clock in (0, 100, 101, 109, 115, 200, 201, 301):
+            traci.simulationStep(clock)
+            found.append((light.getProgram("L"), light.getRedYellowGreenState("L")))
+        self.assertEqual(found[:3], [("fixed", "G"), ("fixed", "y"), ("0", "r")])
+        self.assertEqual(found[3:], [("0", "G"), ("0", "y"), ("0", "y"), ("fixed", "G"), ("0", "r")])
+        # What a script has set stays.
+        light.setProgram("L", "fixed")
+        traci.simulationStep(350)
+        self.assertEqual(light.getProgram("L"), "fixed")
+
+
+if __name__ == "__main__":
+    unittest.main()
