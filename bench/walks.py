@@ -21,7 +21,7 @@ from shared import CORRIDOR, SAMPLES, TOP
 SECTIONS = {  # of pages: the headings of their walks
     "README": ("A walk of ten minutes",),
     "WORKS": ("A walk of two minutes",),
-    "SIGNALS": ("A walk of two minutes", "A study"),
+    "SIGNALS": ("A walk of two minutes", "Plans by time of day", "A study"),
     "ROUTES": ("A walk of two minutes",),
     "COUNTS": ("A walk of five commands",),
 }

@@ -1,5 +1,6 @@
 """bench/tables: what a table rests on, what of printed rows stands otherwise on a page, and putting it there."""
 import json
+import re
 import subprocess
 import sys
 import unittest
@@ -11,7 +12,7 @@ from support import TOOLS, Case
 
 TOP = TOOLS.parent
 sys.path.insert(0, str(TOP / "bench"))
-from placing import put  # noqa: E402
+from placing import grids, put, section  # noqa: E402
 from sources import digests_of, loaded_by  # noqa: E402
 
 PAGE = """# Page
@@ -62,6 +63,25 @@ MADE = {
     "crates/street_base/specs/One.antt": "-- why\none = 1\n",
     "crates/street_page/src/lib.rt": "pub fn page() {}\n",
 }
+
+
+FIGURE = re.compile(r"\d\.\d|±|\d ?%|\d / \d")
+
+
+def figures(lines):
+    """The tables of a page of which most rows have figures, by their first lines."""
+    for grid in grids(lines):
+        having = [line for line, row in grid.rows.items() if any(map(FIGURE.search, row[1:]))]
+        if 2 * len(having) > len(grid.rows):
+            yield min(grid.rows)
+
+
+def of_the_script():
+    """The tables that bench/tables makes."""
+    spec = spec_from_loader("tables", SourceFileLoader("tables", str(TOP / "bench/tables")))
+    module = module_from_spec(spec)
+    spec.loader.exec_module(module)
+    return module.TABLES
 
 
 class Placing(Case):
@@ -133,16 +153,26 @@ class Sources(Case):
 
 class Pages(Case):
     def test_each_table_has_its_script_and_its_heading(self):
-        spec = spec_from_loader("tables", SourceFileLoader("tables", str(TOP / "bench/tables")))
-        tables = module_from_spec(spec)
-        spec.loader.exec_module(tables)
-        for table in tables.TABLES:
+        tables = of_the_script()
+        for table in tables:
             lines = (TOP / table.page).read_text(encoding="utf-8").split("\n")
             self.assertEqual(lines.count(table.heading), 1, f"{table.name}: {table.heading}")
             self.assertTrue((TOP / "bench" / table.script).exists(), table.name)
-        names = [table.name for table in tables.TABLES]
+        names = [table.name for table in tables]
         self.assertEqual(len({*names}), len(names))
         self.assertLessEqual(json.loads((TOP / "bench/tables.json").read_text()).keys(), {*names})
+
+    def test_each_table_of_figures_of_the_tools_is_made_by_a_script(self):
+        tables = of_the_script()
+        for page in sorted(TOOLS.glob("*.md")):
+            lines = page.read_text(encoding="utf-8").split("\n")
+            made = [section(lines, table.heading) for table in tables if table.page == f"tools/{page.name}"]
+            lost = [line + 1 for line in figures(lines) if not any(line in lines_of for lines_of in made)]
+            self.assertEqual(lost, [], page.name)
+
+    def test_a_table_of_figures_is_told_from_one_of_words(self):
+        self.assertEqual(list(figures(["| A | b |", "|---|---|", "| c | 1.5 |", "| d | -3 % |", "| e | |"])), [2])
+        self.assertEqual(list(figures(["| A | b |", "|---|---|", "| c | 5.5 s |", "| d | none |"])), [])
 
     def test_words_that_do_nothing_are_refused(self):
         for words in (["--list", "--put"], ["PROGRAM"], ["--list", "--only", "none such"]):
