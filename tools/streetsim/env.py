@@ -62,8 +62,8 @@ class SignalEnv:
         return len(self.signals[light].greens)
 
     def reset(self, seed: int | None = None) -> tuple[dict[str, Observation], dict]:
-        """Begins the run anew; equal seeds give equal runs, None: the seed of the words. Gives observations by light,
-        and figures."""
+        """Begins the run anew; equal seeds give equal runs, None: the seed of the words. Gives ({light: observation},
+        figures)."""
         self.close()
         words = self.words if seed is None else [*self.words, "--seed", str(seed)]
         self.session = open_session(words).follow()
@@ -74,9 +74,9 @@ class SignalEnv:
         return self.observations(), self.figures()
 
     def step(self, actions: Mapping[str, int]) -> tuple[dict[str, Observation], dict[str, float], bool, bool, dict]:
-        """Makes a step of every seconds. actions: the number of a green phase by light; a light that is not named, or
-        was changed or reset less than least seconds ago, stays as it is. Gives observations and rewards by light,
-        whether no vehicle is left, whether the time is over, and figures. ValueError for a phase that a light does not
+        """Makes a step of every seconds. actions: {light: number of a green phase}; a light that is not named, or was
+        changed or reset less than least seconds ago, stays as it is. Gives ({light: observation}, {light: reward},
+        whether no vehicle is left, whether the time is over, figures). ValueError for a phase that a light does not
         have."""
         session = self.running()
         changed = [name for name, action in actions.items() if self.choose(name, action)]
@@ -107,7 +107,7 @@ class SignalEnv:
         return True
 
     def observations(self) -> dict[str, Observation]:
-        """The observation of each light, by name."""
+        """{light: its observation}."""
         return {name: self.observation(one) for name, one in self.signals.items()}
 
     def observation(self, one: Signals) -> Observation:
@@ -117,7 +117,8 @@ class SignalEnv:
         return [*chosen, float(one.since >= self.least), *(full for full, _ in shares), *(queue for _, queue in shares)]
 
     def reward(self, one: Signals) -> float:
-        """The reward of one light, as SignalEnv describes it; the next one is reckoned from now."""
+        """The reward of one light, in hundreds of seconds, as SignalEnv describes it; the next one is reckoned from now
+        (waited)."""
         before = one.waited
         session = self.running()
         one.waited = sum(session.tally.waited.get(car, 0) for lane in one.lanes for car in self.on(lane)) / 100

@@ -139,8 +139,8 @@ class Scenario(Running):
         self.reopen_lane(lane, begin, end)
 
     def trips(self) -> list[tuple[object, ...]]:
-        """Rows as in trips.csv, as they are at this clock; a vehicle that was taken out and entered anew has one
-        row."""
+        """Rows as in trips.csv (tables.TRIPS), as they are at this clock; a vehicle that was taken out and entered anew
+        has one row."""
         plans, departs = self.fleet.plans, self.detours.departs
         lines = [Line(0, "", {"plan": plan, "depart": departs[name]}) for name, plan in plans.items()]
         run = Run("", Line(0, "", {"dawdle": 0, **self.source.load.command}), enters=lines)
@@ -213,7 +213,7 @@ class Vehicle(Part, VehicleCalls[Scenario]):
         return self.scenario.client.vehicle(self.scenario.fleet.cars[name])
 
     def place(self, name: str) -> Place | None:
-        """Where a vehicle is; None before it departs and after its end."""
+        """Where a vehicle is, by numbers of the run; None before it departs and after its end."""
         reply = self.where(name)
         return Place(*reply.place, reply.cell, reply.speed or 0) if reply.state in ("cell", "buffer") else None
 

@@ -31,7 +31,7 @@ class Refused(Exception):
         super().__init__(f"{self.number} {type(self).__name__}{'' if at is None else place}")
 
     def __eq__(self, other: object) -> bool:
-        """Equal are those of one class with the same place."""
+        """Whether the other one is of the same class with the same place."""
         return (
             isinstance(other, Refused) and type(self) is type(other) and (self.at, self.part) == (other.at, other.part)
         )
@@ -70,7 +70,7 @@ class Starved(Exception):
     """The program had too little memory: the command was not done and may be sent again."""
 
     def __eq__(self, other: object) -> bool:
-        """All are equal, so that a list of replies can be compared."""
+        """Whether the other one is of this class, as all are equal, so that a list of replies can be compared."""
         return type(self) is type(other)
 
     __hash__ = Exception.__hash__
@@ -125,7 +125,7 @@ class Vehicle:
 
     @property
     def place(self) -> tuple[int, int]:
-        """The link and the lane of one on cells or in a buffer; AssertionError for others."""
+        """The (link, lane) of one on cells or in a buffer; AssertionError for others."""
         assert self.link is not None and self.lane is not None
         return self.link, self.lane
 
@@ -315,7 +315,7 @@ class Client:
             raise ProgramEnded(status, told)
 
     def end(self) -> tuple[int, str]:
-        """Ends the input and waits for the program's end; gives its status and what it wrote on standard error. Later
+        """Ends the input and waits for the program's end; gives (its status, what it wrote on standard error). Later
         calls give the same again."""
         if self.ended is not None:
             return self.ended

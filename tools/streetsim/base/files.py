@@ -283,7 +283,7 @@ def whole_file(path: FilePath) -> Iterator[TextFile]:
 @contextlib.contextmanager
 def whole_folder(path: FilePath, last: str, at_wish: Iterable[str] = ()) -> Iterator[str]:
     """A folder to write to, whose files come to the output folder `path` together; after an exception that folder is as
-    it was.
+    it was. Fault where it cannot be written.
 
     A file of the name `last` is away while the others take their places, so that a folder without it is not whole.
     at_wish: names of files that are written only where the user asks for them: old ones of a run before are removed

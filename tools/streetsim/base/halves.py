@@ -55,8 +55,8 @@ def new_file(path: str) -> str:
 
 
 def hold_new(make: Callable[[], str]) -> tuple[str, int]:
-    """The path of what `make` makes, and the descriptor by which a lock on it is held, for the caller to close. Made
-    anew where another tool has just removed it, as it was not locked yet."""
+    """(path of what `make` makes, descriptor by which a lock on it is held, for the caller to close). Made anew where
+    another tool has just removed it, as it was not locked yet."""
     while True:
         path = make()
         with contextlib.suppress(FileNotFoundError):

@@ -28,7 +28,7 @@ def files_of(example: Path) -> list[Path]:
 
 
 def examples() -> dict[str, Path]:
-    """The examples by their names: a folder or a file each."""
+    """{name of an example: its folder or file}."""
     folder = PREFIX / "share/streetsim/examples" if PREFIX else TOP / "tools/examples"
     found = {path.name: path for path in sorted(folder.glob("*")) if files_of(path)}
     sessions = TOP / "examples"

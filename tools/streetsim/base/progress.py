@@ -149,7 +149,7 @@ class Stopping:
         self.asked = False
 
     def __enter__(self) -> Self:
-        """Takes Ctrl-C over from Python."""
+        """Takes Ctrl-C over from Python, and gives itself."""
         self.before: Any = signal.signal(signal.SIGINT, self.note)
         return self
 

@@ -43,7 +43,8 @@ def parser() -> Parser:
 
 
 def main(arguments: list[str]) -> int:
-    """Runs streetsim-check; gives its status: 0 where each number is that of a run, else 1."""
+    """Runs streetsim-check: makes the runs again and prints one line; gives its status: 0 where each number is that of
+    a run, else 1. Fault for words that do not fit."""
     words = parser().parse_args(arguments)
     words.program = program.find_program(words.program)
     study = os.path.isdir(words.target) and is_study(words.target)
@@ -104,7 +105,7 @@ def page_again(words: argparse.Namespace, seal: Seal) -> str:
 
 
 def refuse_elsewhere(target: str, seal: Seal) -> None:
-    """Refuses a seal whose files would be written anywhere but below one folder, or whose runs are none of them."""
+    """Fault for a seal whose files would be written anywhere but below one folder, or whose runs are none of them."""
     known = seal.content["files"]
     for name in known:
         if ".." in Path(name).parts or Path(name).is_absolute():

@@ -20,7 +20,7 @@ def parser() -> Parser:
 
 
 def goals(example: Path, folder: Path) -> dict[Path, Path]:
-    """Where each file of an example goes in a folder; Fault where a file of that name is there already."""
+    """{file of an example: where it goes in a folder}; Fault where a file of that name is there already."""
     begin = example if example.is_dir() else example.parent
     found = {path: folder / path.relative_to(begin) for path in files_of(example)}
     for goal in found.values():
@@ -47,7 +47,8 @@ def counted(files: int) -> str:
 
 
 def main(arguments: list[str]) -> int:
-    """Runs streetsim-example; gives status 0."""
+    """Runs streetsim-example: copies the files of the example and prints how many, or prints which examples there are;
+    gives status 0. Fault for an unknown one."""
     words = parser().parse_args(arguments)
     known = examples()
     if words.name is None:

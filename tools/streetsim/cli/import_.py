@@ -183,7 +183,8 @@ def words_of(arguments: list[str]) -> tuple[argparse.Namespace, dict[str, str]]:
 
 
 def main(arguments: list[str]) -> int:
-    """Runs streetsim-import; gives its status: 1 where --strict is given and vehicles were skipped, else 0."""
+    """Runs streetsim-import: writes the run, its map and the table of --warnings, and tells on standard error what is
+    other than in SUMO; gives its status: 1 where --strict is given and vehicles were skipped, else 0."""
     words, told = words_of(arguments)
     words.additional, words.routes, words.trips = map(files_of, (words.additional, words.routes, words.trips))
     sources = Sources(words.net, words.additional, words.routes, words.trips)

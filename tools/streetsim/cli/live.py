@@ -93,7 +93,7 @@ def lights_told(run: Run, mapping: Map, driven: bool) -> list[str]:
 
 
 def serve(bridge: Bridge, opens: bool) -> None:
-    """Serves a page until Ctrl-C; opens: whether a browser is started with it."""
+    """Prints the address of a page and serves it until Ctrl-C; opens: whether a browser is started with it."""
     print(f"{bridge.address}\n(on this machine alone, for one page at a time; Ctrl-C ends)", flush=True)
     if opens:
         webbrowser.open(bridge.address)
@@ -102,7 +102,8 @@ def serve(bridge: Bridge, opens: bool) -> None:
 
 
 def main(arguments: list[str]) -> int:
-    """Runs streetsim-live; gives status 0. Fault where the port cannot be had."""
+    """Runs streetsim-live: serves the page until Ctrl-C, or writes it to the file of -o; gives status 0. Fault where
+    the port cannot be had."""
     words = parser().parse_args(arguments)
     if words.keep and words.output:
         raise Fault("--keep is of a page that is served, and -o writes one file")

@@ -80,7 +80,8 @@ def dawdles(text: str) -> list[int]:
 
 
 def main(arguments: list[str]) -> int:
-    """Runs streetsim-plot; gives status 0."""
+    """Runs streetsim-plot: draws and writes the picture; gives status 0. Fault for words that do not fit to each
+    other."""
     words = parser().parse_args(arguments)
     if words.folder is None and not words.ring:
         raise Fault("fundamental needs a folder or --ring")

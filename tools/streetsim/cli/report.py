@@ -98,7 +98,8 @@ def parser() -> Parser:
 
 
 def main(arguments: list[str]) -> int:
-    """Runs streetsim-report; gives status 0."""
+    """Runs streetsim-report: writes the page, what is sealed beside it and the table of --csv, and prints how large the
+    page is; gives status 0."""
     made = parser()
     words = made.parse_args(arguments)
     given = given_words(made, words, ELSEWHERE)
@@ -141,7 +142,8 @@ def text_again(arguments: list[str], seal: Seal) -> str:
 
 
 def refuse(words: argparse.Namespace) -> None:
-    """Fault for words that do not fit to each other. Sets --detail, --first and --last where they were not given."""
+    """Fault for words that do not fit to each other. Sets detail, first and last of the words where they were not
+    given."""
     if len(words.runs) > 2:
         raise Fault("a report is of one run, or of two: before and after")
     if words.plans and len(words.plans) != len(words.runs):

@@ -134,7 +134,8 @@ def add_machines(made: argparse.ArgumentParser) -> None:
 
 
 def main(arguments: list[str]) -> int:
-    """Runs streetsim-signals; gives the status, as `tell` says."""
+    """Runs streetsim-signals: searches, writes the plan (or the bounds) and tables, and prints what was found; gives
+    the status, as `tell` says."""
     words = parser().parse_args(arguments)
     changed, cycles = changes_of(words)
     check = check_seeds(words)
@@ -166,7 +167,7 @@ def bounds_found(
     words: argparse.Namespace, reading: Reading, town: Town, changed: Sequence[str], cycles: range
 ) -> int:
     """Finds bounds of actuated lights, and the best plan of seconds to compare them with; writes and prints both, and
-    gives the status. changed, cycles: as `changes_of` gives them."""
+    gives the status. changed, cycles: as `changes_of` gives them. Fault where --edges is given."""
     if words.edges:
         raise Fault("--edges draws plans of seconds, and --bounds finds none")
     ground, check = ground_of(reading, town), check_seeds(words)
@@ -188,8 +189,8 @@ def bounds_found(
 
 
 def changes_of(words: argparse.Namespace) -> tuple[list[str], range]:
-    """What may be changed, of CHANGES, and the cycles to try, in seconds, an empty range where cycles stay; Fault where
-    the words name others."""
+    """(what may be changed, of CHANGES; cycles to try, in seconds), an empty range where cycles stay; Fault where the
+    words name others."""
     changed = listed(words.change)
     if unknown := [name for name in changed if name not in CHANGES]:
         raise Fault(f"--change: {unknown[0]!r} is none of {', '.join(CHANGES)}")
@@ -203,8 +204,8 @@ def changes_of(words: argparse.Namespace) -> tuple[list[str], range]:
 
 
 def check_seeds(words: argparse.Namespace) -> range:
-    """The seeds of --check, by which the plan that is found is judged. Refuses fewer than two of them, one that --seeds
-    names too, and a --budget below the simulations of one plan: one for each seed of --seeds."""
+    """The seeds of --check, by which the plan that is found is judged. Fault for fewer than two of them, one that
+    --seeds names too, and a --budget below the simulations of one plan: one for each seed of --seeds."""
     seeds, check = seeds_of(words.seeds, "--seeds") if words.seeds else range(1), seeds_of(words.check, "--check")
     if len(check) < 2:
         raise Fault(f"--check {words.check}: an interval needs two seeds at least")
@@ -285,8 +286,8 @@ def search_seeds(words: argparse.Namespace, runner: Runner, tried: Sequence[int]
 def searched(
     words: argparse.Namespace, runner: Runner, changed: Sequence[str], cycles: range, seeds: Sequence[int]
 ) -> tuple[Search, bool]:
-    """The search when it has ended, and whether the user ended it by Ctrl-C. changed, cycles: as `changes_of` gives
-    them; seeds: of the search."""
+    """Searches; gives (search when it has ended, whether the user ended it by Ctrl-C). changed, cycles: as `changes_of`
+    gives them; seeds: of the search."""
     town, meanwhile = runner.town, Meanwhile("simulations", words.budget)
     streets = streets_of(town.run, town.mapping, town.lights)
     with Stopping() as stopping:

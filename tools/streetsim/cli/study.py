@@ -58,7 +58,8 @@ def percent(text: str) -> float:
 
 
 def main(arguments: list[str]) -> int:
-    """Runs streetsim-study; gives status 0."""
+    """Runs streetsim-study: makes the runs, writes the folder of --out, and prints the differences; gives status 0.
+    Fault where --out is no folder."""
     made = parser()
     words = made.parse_args(arguments)
     if os.path.exists(words.out) and not os.path.isdir(words.out):

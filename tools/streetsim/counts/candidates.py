@@ -57,7 +57,7 @@ class Way:
 
 
 def entries_and_exits(graph: Graph) -> tuple[list[int], list[int]]:
-    """The numbers of the edges that nothing leads to, and of those that lead nowhere, but by turning back."""
+    """(numbers of the edges that nothing leads to, numbers of those that lead nowhere), but by turning back."""
     back = graph.turns_back
     return (
         [edge for edge, into in enumerate(graph.into) if all(back[movement] for _, movement in into)],
@@ -99,7 +99,7 @@ def pairs_of_zones(graph: Graph, zones: Mapping[str, Zone], wanted: Iterable[tup
     """The pairs of zones that are wanted, (source, target) by name; edges of weight 0 are left out."""
 
     def numbers(weights: Mapping[str, float]) -> dict[int, float]:
-        """Edges by number with their weights; those of weight 0 are left out."""
+        """{number of an edge: its weight}; those of weight 0 are left out."""
         return {graph.number[name]: weight for name, weight in weights.items() if weight}
 
     return [
@@ -108,9 +108,8 @@ def pairs_of_zones(graph: Graph, zones: Mapping[str, Zone], wanted: Iterable[tup
 
 
 def thinned(pairs: Sequence[Pair], ways: int, most: int, seed: int) -> tuple[list[Pair], int]:
-    """The pairs to search, and how many ways of each, so that there are about `most` ways in all: fewer ways of each
-    pair first, as pairs that are left out cost more; where even one way of each is too many, a seed draws some
-    pairs."""
+    """(pairs to search, how many ways of each), so that there are about `most` ways in all: fewer ways of each pair
+    first, as pairs that are left out cost more; where even one way of each is too many, a seed draws some pairs."""
     count = sum(len(pair.sources) * len(pair.sinks) for pair in pairs)
     each = max(1, min(ways, most // max(1, count)))
     if count <= most:
@@ -182,7 +181,7 @@ def shares_by(ways: Sequence[Way], habit: Habit) -> Any:
 
 
 def ends_wanted(pairs: Iterable[Pair]) -> dict[int, list[int]]:
-    """For each edge on which trips begin the edges on which they end, sorted; an edge is no end of itself."""
+    """{edge on which trips begin: edges on which they end, sorted}, by number; an edge is no end of itself."""
     wanted: dict[int, set[int]] = {}
     for pair in pairs:
         for source in pair.sources:

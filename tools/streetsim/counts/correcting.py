@@ -52,7 +52,8 @@ class Attempt:
         )
 
     def order(self) -> tuple[bool, float, float]:
-        """What attempts are ranked by: the better one has the greater value."""
+        """What attempts are ranked by, the better one has the greater value: (whether it fits, share of counts with GEH
+        below 5, totals' difference with a minus)."""
         return self.judged.fits, round(self.judged.share, 3), -self.judged.apart
 
 
@@ -76,7 +77,8 @@ def attempts(
 
 
 def attempt(basis: Basis, asked: Asked, ground: Ground, number: int, fitted: Fitted, costs: Costs) -> Attempt:
-    """Runs a fit; number: of the run, from 1; costs: the seconds of movements by which the fit was made."""
+    """Runs the vehicles of a fit, and judges by what passed; number: of the run, from 1; costs: the seconds of
+    movements by which the fit was made."""
     trips = vehicles_of(basis, asked, fitted)
     town = basis.town
     loaded = town.loaded(trips)

@@ -131,8 +131,8 @@ def refuse_nothing(asked: Asked) -> None:
 
 
 def read_matrix(asked: Asked, counts: Sequence[Count], town: Town) -> tuple[dict[str, Zone], list[Cell]]:
-    """The zones by name, and the cells of the matrix between them; without zones a matrix is between edges. Cells
-    without a period have that of all counts."""
+    """({name: zone}, cells of the matrix between zones); without zones a matrix is between edges. Cells without a
+    period have that of all counts. Fault for zones or edges that are not known, and for a matrix without a vehicle."""
     zones = read_zones(asked.zones)
     checking.check_zone_edges(zones, town.net)
     period = (min(one.begin for one in counts), max(one.end for one in counts)) if counts else None
@@ -189,8 +189,8 @@ def by_pairs(
 
 
 def given_routes(town: Town, asked: Asked) -> list[tuple[str, ...]]:
-    """The edges of each route of the files of candidates: as often as vehicles have it, once where none has. Routes of
-    one edge are left out; Fault where a file has none, or no connection leads from an edge to the next."""
+    """The edges, by name, of each route of the files of candidates: as often as vehicles have it, once where none has.
+    Routes of one edge are left out; Fault where a file has none, or no connection leads from an edge to the next."""
     demand = Demand(town.net, town.types, asked.seed, Report())
     for path in asked.candidates:
         demand.read(path)
@@ -238,7 +238,7 @@ def bounds_of(counts: Iterable[Count], cells: Iterable[Cell], departs: Sequence[
 
 
 def by_cells(cells: Sequence[Cell], pairs: Sequence[Pair], ways: Sequence[Way], slices: Slices) -> dict[str, Any]:
-    """By class the vehicles of a matrix as an array by way and slice, ways first: those of a cell over the slices of
+    """{class: the vehicles of a matrix as an array by way and slice, ways first}: those of a cell over the slices of
     its period, evenly, and over the ways of its pair by their shares. Cells of pairs that have no place are left
     out."""
     numpy, _ = needed()
@@ -256,7 +256,7 @@ def by_cells(cells: Sequence[Cell], pairs: Sequence[Pair], ways: Sequence[Way], 
 
 
 def by_departures(departs: Sequence[tuple[float, int]], slices: Slices, ways: int) -> dict[str, Any]:
-    """The vehicles of each way and slice, ways first, under the empty class, of departures (second, place of the way);
+    """{"": an array of the vehicles of each way and slice, ways first}, of departures (second, place of the way);
     nothing where there are none. ways: how many there are."""
     if not departs:
         return {}
@@ -269,8 +269,8 @@ def by_departures(departs: Sequence[tuple[float, int]], slices: Slices, ways: in
 
 
 def stacked(basis: Basis, costs: Costs) -> Any:
-    """The matrix of all classes side by side: rows are counts, columns class, way and slice. A count of one class has
-    shares in the columns of this alone, one without a class in all."""
+    """The matrix (sparse) of all classes side by side: rows are counts, columns class, way and slice. A count of one
+    class has shares in the columns of this alone, one without a class in all."""
     numpy, scipy = needed()
     base = passing_matrix(basis.town.graph, basis.ways, basis.slices, basis.places, costs)
     masks = [numpy.array([float(one.kind in ("", kind)) for one in basis.counts]) for kind in basis.kinds]

@@ -32,14 +32,15 @@ class Problem:
 
 
 def deviations(counted: Any, error: float) -> Any:
-    """How far off counts are taken to be, in vehicles; counted: an array of vehicles; error: share of a count."""
+    """How far off counts are taken to be, in vehicles, as an array; counted: an array of vehicles; error: share of a
+    count."""
     numpy, _ = needed()
     return numpy.sqrt(CHANCE + (error * counted) ** 2)
 
 
 def solved(problem: Problem) -> Any:
-    """The vehicles of each column, 0 at least, for which the sum of squares is least: of what the counts differ by over
-    their deviations, and of what the vehicles differ by from those expected over the root of these."""
+    """The vehicles of each column, 0 at least, as an array, for which the sum of squares is least: of what the counts
+    differ by over their deviations, and of what the vehicles differ by from those expected over the root of these."""
     numpy, scipy = needed()
     root = numpy.sqrt(numpy.maximum(problem.expected, LEAST))
     scaled = scipy.sparse.diags(1 / problem.deviation) @ problem.passing @ scipy.sparse.diags(root)
@@ -48,7 +49,7 @@ def solved(problem: Problem) -> Any:
     target = problem.counted / problem.deviation
 
     def value(of: Any) -> tuple[float, Any]:
-        """Half the sum of squares, and its slope, for vehicles over the root of those that are expected."""
+        """(half the sum of squares, its slope), for vehicles over the root of those that are expected (of)."""
         apart, from_expected = scaled @ of - target, of - root
         return 0.5 * float(apart @ apart + from_expected @ from_expected), across @ apart + from_expected
 
@@ -81,8 +82,8 @@ class Ends:
         self.kind = numpy.array([int(known[name].outside) for name in numbers])
 
     def shares(self, vehicles: Any) -> Any:
-        """For each way the vehicles of its place: half of them as the ways have them, half as all places of its kind
-        would by their weights. vehicles: of each way."""
+        """For each way, as an array, the vehicles of its place: half of them as the ways have them, half as all places
+        of its kind would by their weights. vehicles: of each way, as an array."""
         numpy, _ = needed()
         own = numpy.bincount(self.of_way, vehicles, len(self.weight))
         rates = numpy.bincount(self.kind, own, 2) / numpy.maximum(numpy.bincount(self.kind, self.weight, 2), LEAST)
@@ -105,9 +106,9 @@ class Expecting:
         self.outside = 2.0 ** sum(kinds)  # doubles for each end of a way that lies outside
 
     def without_matrix(self, passing: Any, counted: Any) -> Any:
-        """The vehicles of each way and slice, ways first, by counts alone: at first by the habit of drivers, and by
-        what ends outside have more, that fit the counts best; then half by what begins and ends at each place, and half
-        by what the counts have shown of each way. passing, counted: as `Problem` has them."""
+        """The vehicles of each way and slice, ways first, as an array, by counts alone: at first by the habit of
+        drivers, and by what ends outside have more, that fit the counts best; then half by what begins and ends at each
+        place, and half by what the counts have shown of each way. passing, counted: as `Problem` has them."""
         numpy, _ = needed()
         deviation = deviations(counted, self.error)
         if all(way.weight for way in self.ways):
@@ -129,21 +130,21 @@ class Expecting:
         return apart_in(problem, solved(problem))
 
     def scaled(self, passing: Any, counted: Any, base: Any) -> tuple[Any, Any]:
-        """The vehicles of each way over all slices, and the share, 0 to 1, that each slice has of them, by all counts
+        """(vehicles of each way over all slices, share, 0 to 1, that each slice has of them), arrays by all counts
         together; base: any numbers in whose proportion ways have vehicles."""
         rates = self.rates(passing, counted, base)
         total = float(rates.sum())
         return base * total, rates / total
 
     def by_ends(self, vehicles: Any) -> Any:
-        """The vehicles of each way as the product of how many begin and how many end at its places and of its share;
-        their sum is that of `vehicles`."""
+        """The vehicles of each way, as an array, as the product of how many begin and how many end at its places and of
+        its share; their sum is that of `vehicles`, of each way."""
         made = self.begins.shares(vehicles) * self.ends.shares(vehicles) * self.share
         return made * (vehicles.sum() / max(made.sum(), LEAST))
 
     def rates(self, passing: Any, counted: Any, base: Any) -> Any:
-        """How many vehicles a slice has for one vehicle of `base`, which has a number for each way. The slice that
-        leads in, if there is one, has as many a second as the next."""
+        """By slice, as an array, how many vehicles it has for one vehicle of `base`, which has a number for each way.
+        The slice that leads in, if there is one, has as many a second as the next."""
         numpy, scipy = needed()
         count = len(self.slices)
         columns = numpy.arange(passing.shape[1])

@@ -39,7 +39,7 @@ class Compared:
         return geh(self.counted / hours, self.passed / hours)
 
     def row(self) -> tuple[object, ...]:
-        """The row of fit.csv that stands for it."""
+        """The row of fit.csv that stands for it, as FIT has the columns."""
         source, *others = self.edges
         ends = source, " ".join(others)
         values = f"{self.counted:g}", f"{self.passed:g}", f"{self.geh:.2f}"
@@ -76,13 +76,13 @@ class Sums:
         return self.share >= SHARE and abs(self.difference) <= TOTAL
 
     def row(self) -> tuple[object, ...]:
-        """The row of hours.csv that stands for it."""
+        """The row of hours.csv that stands for it, as HOURS has the columns."""
         told = "passed" if self.fits else "not passed"
         totals = f"{self.counted:g}", f"{self.passed:g}", f"{100 * self.difference:.1f}"
         return (self.begin, self.end, self.counts, self.good, f"{100 * self.share:.1f}", *totals, told)
 
     def group_row(self) -> tuple[object, ...]:
-        """The row of groups.csv that stands for it."""
+        """The row of groups.csv that stands for it, as GROUPS has the columns."""
         hours = (self.end - self.begin) / HOUR
         geh = f"{geh(self.counted / hours, self.passed / hours):.2f}"
         totals = f"{self.counted:g}", f"{self.passed:g}", f"{100 * self.difference:.1f}"
@@ -179,8 +179,8 @@ def sums_of(hourly: Iterable[Compared], grouped: bool) -> list[Sums]:
 
 
 def line_through(each: Sequence[Compared]) -> tuple[float, float] | None:
-    """Pearson's r of what passed with what was counted, and the slope of the line through them; none where one of both
-    does not vary."""
+    """(Pearson's r of what passed with what was counted, slope of the line through them); none where one of both does
+    not vary."""
     counted, passed = [one.counted for one in each], [one.passed for one in each]
     r = correlation(counted, passed)
     return None if r is None else (r, r * pstdev(passed) / pstdev(counted))

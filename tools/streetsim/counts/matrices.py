@@ -31,7 +31,7 @@ def read_matrices(paths: Iterable[FilePath], period: tuple[int, int] | None) -> 
 
 
 def refuse_twice(cells: Iterable[Cell]) -> None:
-    """Fault for two cells of one period, pair and class."""
+    """Fault for two cells of one period, pair and class; where their periods only overlap, both count."""
     seen: dict[tuple[int, int, str, str, str], Cell] = {}
     for cell in cells:
         key = cell.begin, cell.end, cell.source, cell.target, cell.kind
@@ -103,7 +103,8 @@ class Words:
 
 def of_format(path: FilePath) -> Iterator[Cell]:
     """The cells of a file in SUMO's formats $O.. (from, to, vehicles) or $V.. (a square matrix), with its factor; an M
-    in the first word means that a line with the vehicle type follows, which is passed over."""
+    in the first word means that a line with the vehicle type follows, which is passed over. Fault for any other
+    file."""
     with reading(path), open_text(path) as file:
         words = Words(path, file.read().splitlines())
     head = words.one("its first line")
@@ -130,7 +131,7 @@ def hours_of(words: Words, text: str) -> int:
 
 
 def pairs(words: Words) -> Iterator[Cell]:
-    """The cells of the O format's lines, still without period and factor."""
+    """The cells of the O format's lines, still without period and factor; Fault for a line of another form."""
     while row := words.following():
         if len(row) != 3:
             raise Fault(f"{words.where}: expected from, to and vehicles")
@@ -138,7 +139,8 @@ def pairs(words: Words) -> Iterator[Cell]:
 
 
 def square(words: Words) -> Iterator[Cell]:
-    """The cells of the V format's matrix, still without period and factor."""
+    """The cells of the V format's matrix, still without period and factor; Fault where its rows do not fit to the
+    number of its districts."""
     text = words.one("the number of its districts")
     if not text.isdecimal() or not int(text):
         raise Fault(f"{words.where}: {text!r} is no number of districts")

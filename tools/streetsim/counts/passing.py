@@ -59,8 +59,8 @@ class Places:
         self.sizes = sorted({len(edges) for edges in self.of})
 
     def along(self, path: Path) -> Iterator[tuple[list[int], int]]:
-        """The counts of each place that a way passes, and the place in the way of the edge at whose end they are
-        counted."""
+        """(counts of a place, by their places in the list; place in the way, from 0, of the edge at whose end they are
+        counted) for each place that a way passes."""
         for at in range(len(path)):
             for size in self.sizes:
                 some = self.of.get(path[at : at + size])
@@ -69,7 +69,7 @@ class Places:
 
     def when(self, some: Sequence[int], begin: float, end: float) -> Iterator[tuple[int, float]]:
         """Of the counts of one place (some) those in whose period vehicles pass that go by evenly from one clock to
-        another, and the share, 0 to 1, of these vehicles in each."""
+        another: (place of the count in the list, share, 0 to 1, of these vehicles)."""
         counts = self.counts
         at = bisect_left(some, begin, key=lambda one: counts[one].end)
         while at < len(some) and counts[some[at]].begin < end:
@@ -81,8 +81,8 @@ class Places:
 
 
 def clocks_of(graph: Graph, table: Table, path: Path, depart: float) -> list[float]:
-    """The clock at which the end of each edge of a way is passed by a vehicle that departs at a clock; table: seconds
-    of movements by time."""
+    """For each edge of a way the clock at which a vehicle that departs at a clock passes its end; table: seconds of
+    movements by time."""
     found, clock = [], depart
     for way in pairwise((*path, END)):
         clock += table.at(graph.movement_of[way], clock)

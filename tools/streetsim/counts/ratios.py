@@ -37,8 +37,8 @@ def read_inflows(paths: Iterable[FilePath], seed: int) -> list[Inflow]:
 
 
 def read_ratios(paths: Iterable[FilePath]) -> tuple[list[Ratio], set[str]]:
-    """Turn ratios, and the names of the edges that are said to be sinks, where vehicles end; Fault where a file has no
-    ratio, or another element."""
+    """(turn ratios, names of the edges that are said to be sinks, where vehicles end); Fault where a file has no ratio,
+    or another element."""
     found: list[Ratio] = []
     sinks: set[str] = set()
     for path in paths:

@@ -70,7 +70,7 @@ def scatter(fit: Judged) -> str:
     scale = (SIDE - EDGE - 10) / most
 
     def at(counted: float, passed: float) -> str:
-        """The pixels across and down of a point, as text."""
+        """The pixels across and down of a point, as the text X,Y."""
         return f"{EDGE + counted * scale:.1f},{SIDE - EDGE - passed * scale:.1f}"
 
     parts = [f'<polyline points="{at(0, 0)} {at(most, most)}" stroke="#000" fill="none"/>']

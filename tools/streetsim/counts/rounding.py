@@ -21,8 +21,8 @@ def rounded(vehicles: Any, passing: Any, seed: int, error: float) -> Any:
 
 
 def improved(whole: Any, vehicles: Any, passing: Any, error: float) -> Any:
-    """Swaps one that was rounded up with one that was rounded down, as long as what passes the counts comes nearer to
-    that of `vehicles`. whole: the rounded numbers, which it changes."""
+    """The rounded numbers, as integers, after swaps of one that was rounded up with one that was rounded down, as long
+    as what passes the counts comes nearer to that of `vehicles`. whole: the rounded numbers, which it changes."""
     numpy, scipy = needed()
     wanted = passing @ vehicles
     scaled = (scipy.sparse.diags(1 / deviations(wanted, error)) @ passing).tocsc()

@@ -8,7 +8,7 @@ THREADS = ("OPENBLAS_NUM_THREADS", "OMP_NUM_THREADS", "MKL_NUM_THREADS")
 
 
 def needed() -> Any:
-    """NumPy and SciPy; Fault, which says what to install, where they are missing. They take one thread: with several,
+    """(NumPy, SciPy); Fault, which says what to install, where they are missing. They take one thread: with several,
     sums hang on chance."""
     for name in THREADS:
         os.environ.setdefault(name, "1")

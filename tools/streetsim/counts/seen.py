@@ -224,14 +224,14 @@ def arrival_of(row: Mapping[str, str]) -> float | None:
 
 
 def links_of(mapping: Map) -> list[list[int]]:
-    """The links of a map, as the load of a run has them."""
+    """The links of a map, as the load of a run has them: [number, begin, end, lanes, cells, limit]."""
     return [
         [at, link.begin, link.end, len(link.lanes), link.cells, link.limit] for at, link in enumerate(mapping.links)
     ]
 
 
 def turns_of(mapping: Map) -> dict[int, list[int]]:
-    """By link the links to which it has turns."""
+    """{link: links to which it has turns, each once}."""
     found: defaultdict[int, list[int]] = defaultdict(list)
     for turn in mapping.turns:
         if turn.next not in found[turn.link]:

@@ -49,7 +49,8 @@ def features(runs: Runs, places: Places) -> Iterator[dict]:
 
 
 def feature(kind: str, shape: str, coordinates: list, content: dict) -> dict:
-    """A feature of GeoJSON; kind: EDGE or JUNCTION; shape: GeoJSON's type; coordinates: of it, longitude first."""
+    """A feature of GeoJSON; kind: EDGE or JUNCTION; shape: GeoJSON's type; coordinates: of it, longitude first;
+    content: its further properties."""
     return {
         "type": "Feature",
         "geometry": {"type": shape, "coordinates": coordinates},

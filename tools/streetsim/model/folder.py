@@ -32,35 +32,35 @@ class Folder:
     doubts: list[str] = field(default_factory=list)  # why the run is not to be trusted
 
     def trips(self) -> list[dict[str, str]]:
-        """The rows of trips.csv, in the order of the vehicles' numbers."""
+        """The rows of trips.csv (tables.TRIPS), in the order of the vehicles' numbers."""
         return tables.read_table(f"{self.path}/trips.csv", tables.TRIPS)
 
     def counts(self) -> list[dict[str, str]]:
-        """The rows of counts.csv."""
+        """The rows of counts.csv (tables.COUNTS)."""
         return tables.read_table(f"{self.path}/counts.csv", tables.COUNTS)
 
     def edges(self) -> list[dict[str, str]]:
-        """The rows of edges.csv."""
+        """The rows of edges.csv (tables.EDGES)."""
         return tables.read_table(f"{self.path}/edges.csv", tables.EDGES)
 
     def queues(self) -> list[dict[str, str]]:
-        """The rows of queues.csv."""
+        """The rows of queues.csv (tables.QUEUES)."""
         return tables.read_table(f"{self.path}/queues.csv", tables.QUEUES)
 
     def works(self) -> list[dict[str, str]]:
-        """The rows of works.csv; Fault where the run had no works."""
+        """The rows of works.csv (tables.WORKS); Fault where the run had no works."""
         if not os.path.exists(f"{self.path}/{tables.WORKS_FILE}"):
             raise Fault(f"{self.path}: no works in this run (streetsim-run --close)")
         return tables.read_table(f"{self.path}/{tables.WORKS_FILE}", tables.WORKS)
 
     def stops(self) -> list[dict[str, str]]:
-        """The rows of stops.csv; Fault where the run had no stops."""
+        """The rows of stops.csv (tables.STOPS); Fault where the run had no stops."""
         if not os.path.exists(f"{self.path}/{tables.STOPS_FILE}"):
             raise Fault(f"{self.path}: no stops of vehicles in this run")
         return tables.read_table(f"{self.path}/{tables.STOPS_FILE}", tables.STOPS)
 
     def phases(self) -> list[dict[str, str]]:
-        """The rows of phases.csv; Fault where detectors drove no light."""
+        """The rows of phases.csv (tables.PHASES); Fault where detectors drove no light."""
         if not os.path.exists(f"{self.path}/{tables.PHASES_FILE}"):
             raise Fault(f"{self.path}: detectors drive no light in this run")
         return tables.read_table(f"{self.path}/{tables.PHASES_FILE}", tables.PHASES)
@@ -74,7 +74,7 @@ class Folder:
             yield from map(json.loads, file)
 
     def links_along(self, edges: Iterable[str]) -> list[list[int]]:
-        """The links of each edge of a path, in its order; Fault where the map has no such edge."""
+        """For each edge of a path, in its order, the numbers of its links; Fault where the map has no such edge."""
         for edge in edges:
             if edge not in self.mapping.links_of:
                 raise Fault(f"{self.path}: the map has no edge {edge!r}")

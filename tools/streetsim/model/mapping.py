@@ -34,14 +34,14 @@ class MapLink:
         return limits.CELL_METRES if self.cells == usual else self.metres / self.cells
 
     def cells_between(self, begin: float, end: float) -> tuple[int, int]:
-        """The first and the last cell, both included, from one place of the lane to another, in metres from its
+        """The (first, last) cell, from 0, both included, from one place of the lane to another, in metres from its
         begin."""
         size = self.metres / self.cells
         first = min(self.cells - 1, max(0, int(begin / size)))
         return first, min(self.cells - 1, max(first, round(end / size) - 1))
 
     def closed_between(self, begin: float, end: float) -> tuple[int, int]:
-        """The first and the last cell, both included, that works close from one place to another, in metres from the
+        """The (first, last) cell, from 0, both included, that works close from one place to another, in metres from the
         lane's begin. Where there is a lane beside, the first four cells stay open as far as the works allow: turns lead
         to this lane, and who comes by one leaves it there."""
         first, last = self.cells_between(begin, end)

@@ -30,8 +30,8 @@ class Names:
         return bool(self.edges or self.junctions)
 
     def of_streets(self) -> dict[str, str]:
-        """By junction the names of up to three streets that meet there, those of most links first: 'Hill Street /
-        Market Street'. Junctions without a named street are left out."""
+        """{junction: the names of up to three streets that meet there, those of most links first, as 'Hill Street /
+        Market Street'}. Junctions without a named street are left out."""
         found: dict[str, Counter[str]] = {}
         for link in self.mapping.links:
             if name := self.edges.get(link.edge):

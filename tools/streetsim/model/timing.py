@@ -47,7 +47,7 @@ class Timing:
         return "".join(max((state[place] for place in movement.places), key=RANK.find) for state in self.states())
 
     def pairs(self) -> Iterator[tuple[Movement, Movement]]:
-        """The pairs of movements that come from different edges and whose ways cross or join."""
+        """The pairs (movement, other) that come from different edges and whose ways cross or join, each once."""
         for one, other in combinations(self.movements, 2):
             if one.edge != other.edge and any(
                 frozenset((place, against)) in self.conflicts for place in one.places for against in other.places

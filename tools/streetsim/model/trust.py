@@ -142,7 +142,7 @@ def of_waiting(waiting: Mapping[str, Sequence[tuple[int, int]]], vehicles: int) 
 
 
 def works_in(run: Run, mapping: Map) -> Iterator[tuple[str, int]]:
-    """For each line of a run that closes lanes for works: SUMO's id of the lane, and the clock at which it begins."""
+    """For each line of a run that closes lanes for works: (SUMO's id of the lane, clock at which it is sent)."""
     for clock, line in run.timed:
         if line.number == 0 and line.command["cmd"] == "close":
             yield mapping.lane_name(line.command["link"], line.command["lane"]), clock
@@ -162,7 +162,7 @@ def of_works(works: Iterable[tuple[str, int]], runs: Sequence[tuple[int, int | N
 
 
 def plans_before(clock: int, run: Run) -> list[list[int]]:
-    """The plans of the vehicles that wish to depart before a clock."""
+    """The plans (links) of the vehicles that wish to depart before a clock."""
     return [line.command["plan"] for line in run.enters if line.command["depart"] < clock]
 
 

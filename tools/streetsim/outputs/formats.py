@@ -152,7 +152,7 @@ class Fcd(XmlFile):
         self.file.write("".join([*rows, "    </timestep>\n"]))
 
     def named(self, trip: Trip) -> tuple[str, str]:
-        """A trip's name and vehicle type, quoted as attributes have them."""
+        """(name of a trip, its vehicle type), quoted as attributes have them."""
         return quoteattr(trip.name), quoteattr(trip.kind)
 
     def text(self, at: At) -> tuple[str, str]:

@@ -129,7 +129,7 @@ class Detectors(XmlFile):
         raise NotImplementedError
 
     def note(self, one: Detector, sums: Sums, second: Second, here: Sequence[tuple[int, At]]) -> None:
-        """Adds a second; here: (car, place) of the vehicles on the detector's lane in it."""
+        """Adds a second to the sums of a detector; here: (car, place) of the vehicles on its lane in it."""
         raise NotImplementedError
 
     def row(self, one: Detector, sums: Sums, seconds: int) -> str:
@@ -183,15 +183,15 @@ class Loops(Detectors):
         return LoopSums()
 
     def note(self, one: Detector, sums: LoopSums, second: Second, here: Sequence[tuple[int, At]]) -> None:
-        """Adds a second of an e1: whether its cell is covered, and who has passed it."""
+        """Adds a second to the sums of an e1: whether its cell is covered, and who has passed it."""
         sums.occupied += any(at.cell is not None and at.cell - at.size < one.first <= at.cell for _, at in here)
         for car, last in second.before.items():
             if last.link == one.link and last.cell is not None and last.cell <= one.first:
                 self.note_pass(one, sums, last, second.here.get(car))
 
     def note_pass(self, one: Detector, sums: LoopSums, last: At, now: At | None) -> None:
-        """Notes a vehicle that was on the loop or before it in the second before (last), if it is behind it now; now:
-        none where it is gone. Who left the edge is taken to have kept its lane."""
+        """Adds to the sums of an e1 a vehicle that was on the loop or before it in the second before (last), if it is
+        behind it now; now: none where it is gone. Who left the edge is taken to have kept its lane."""
         gone = now is None or now.link != one.link or now.cell is None
         lane = now.lane if now is not None and now.link == one.link else last.lane
         if lane == one.lane and (gone or (now is not None and now.front > one.first)):
@@ -246,7 +246,7 @@ class Areas(Detectors):
         return AreaSums(inside=before.inside, halts=before.halts, interval_halts=dict.fromkeys(before.halts, 0))
 
     def note(self, one: Detector, sums: AreaSums, second: Second, here: Sequence[tuple[int, At]]) -> None:
-        """Adds a second of an e2; here: the vehicles on its lane."""
+        """Adds a second to the sums of an e2; here: (car, place) of the vehicles on its lane."""
         inside = {car: at for car, at in here if at.cell is not None and one.first <= at.cell <= one.last}
         sums.entered += len(inside.keys() - sums.inside.keys())
         sums.left += len(sums.inside.keys() - inside.keys())
@@ -263,7 +263,7 @@ class Areas(Detectors):
         self.note_halts(sums, {car for car, at in inside.items() if not at.speed})
 
     def note_halts(self, sums: AreaSums, standing: set[int]) -> None:
-        """Notes the halts of an area in a second; standing: the cars that stand in it."""
+        """Adds to the sums of an e2 the halts of a second; standing: the cars that stand in it."""
         for car in sums.halts.keys() - standing:
             sums.ended.append((sums.halts.pop(car), sums.interval_halts.pop(car)))
         sums.started += len(standing - sums.halts.keys())

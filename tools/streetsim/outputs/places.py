@@ -30,8 +30,8 @@ class Places:
         return at.speed * self.cell_metres[at.link]
 
     def point(self, at: At) -> tuple[float, float, float]:
-        """x and y of a vehicle's front in metres, on its lane beside the link's line, and its angle in degrees,
-        clockwise from north."""
+        """(x, y, angle) of a vehicle's front, on its lane beside the link's line: metres, and degrees clockwise from
+        north."""
         link = self.mapping.links[at.link]
         side = ((len(link.lanes) - 1) / 2 - at.lane) * LANE_WIDTH
         return self.lines[at.link].at(self.metres(at) / link.metres, side)
@@ -47,8 +47,8 @@ class Line:
         self.ends = list(accumulate(self.sizes))
 
     def at(self, share: float, side: float = 0.0) -> tuple[float, float, float]:
-        """The point (x, y) at a share, 0 to 1, of the length, `side` metres to the right of the line, and the angle of
-        the line there, in degrees clockwise from north."""
+        """(x, y, angle) at a share, 0 to 1, of the length, `side` metres to the right of the line: metres, and the
+        angle of the line there in degrees clockwise from north."""
         way = share * self.ends[-1]
         piece = min(bisect_right(self.ends, way), len(self.sizes) - 1)
         (x, y), (following_x, following_y) = self.points[piece : piece + 2]

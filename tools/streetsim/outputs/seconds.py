@@ -135,7 +135,7 @@ class Follower:
 
 
 def note_standing(trip: Trip, at: At) -> None:
-    """Counts a trip's seconds of standing and its halts, by where it is in this second."""
+    """Adds to a trip, by where it is in this second, a second of standing and maybe a halt."""
     if at.speed:
         trip.standing = 0
         return

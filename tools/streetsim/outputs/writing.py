@@ -48,7 +48,8 @@ class Outputs(contextlib.ExitStack):
             self.push(files.pop_all())
 
     def __exit__(self, kind: type[BaseException] | None, *details: Any) -> bool:
-        """Writes the ends of the files; after an exception they are not left behind."""
+        """Writes the ends of the files, which get their names; after an exception they are not left behind. Gives
+        False, so that the exception goes on."""
         if kind is None:
             for writer in self.writers:
                 writer.end()

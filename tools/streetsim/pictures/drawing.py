@@ -51,7 +51,8 @@ def ending_of(path: str) -> str:
 
 
 def save(figure: Figure, path: str) -> None:
-    """Writes a picture in the format of its name, whole or not at all; a PNG with 64 colours, which keeps it small."""
+    """Writes a picture in the format of its name, whole or not at all; a PNG with 64 colours, which keeps it small.
+    Fault for a name with another ending."""
     ending = ending_of(path)
     with whole_path(path) as half:
         if ending != "png":

@@ -30,7 +30,7 @@ def draw_greens(pyplot: Pyplot, folder: Folder, lights: Sequence[str]) -> Figure
 
 
 def of_lights(folder: Folder, lights: Sequence[str]) -> dict[str, list[Row]]:
-    """By light the rows of phases.csv of greens that have ended; of the first six lights where none is named. Fault
+    """{light: the rows of phases.csv of its greens that have ended}; of the first six lights where none is named. Fault
     where a named one has none."""
     found: defaultdict[str, list[Row]] = defaultdict(list)
     for row in folder.phases():

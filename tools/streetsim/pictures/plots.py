@@ -118,7 +118,7 @@ def draw_fundamental(pyplot: Pyplot, folder: Folder, edges: Sequence[str], at_st
 
 
 def fundamental(pyplot: Pyplot, title: str) -> tuple[Figure, Axes]:
-    """An empty picture of flow over density, and its axes."""
+    """(empty picture of flow over density, its axes)."""
     figure, axes = pyplot.subplots(figsize=(7, 5))
     axes.set(xlabel="density (vehicles/km and lane)", ylabel="flow (vehicles/h and lane)", title=title)
     return figure, axes

@@ -12,7 +12,7 @@ EdgeKey = tuple[float, float, str]  # begin and end of a period, and an edge
 
 
 def read_tripinfo(path: str) -> dict[str, Trip]:
-    """SUMO's trips by vehicle, as (wished departure, arrival) in seconds; those that did not arrive are left out."""
+    """SUMO's trips, {vehicle: (wished departure, arrival)} in seconds; those that did not arrive are left out."""
     trips = {}
     for element in elements(path, ["tripinfos"]):
         if element.tag == "tripinfo" and (arrival := attribute(path, element, "arrival", seconds)) >= 0:
@@ -39,7 +39,8 @@ def read_edgedata(path: str) -> dict[EdgeKey, int]:
 
 
 def trips_of(folder: Folder) -> dict[str, Trip]:
-    """A run's trips by vehicle in the form of `read_tripinfo`; those that did not arrive are left out."""
+    """A run's trips in the form of `read_tripinfo`, {vehicle: (wished departure, arrival)} in seconds; those that did
+    not arrive are left out."""
     return {row["id"]: (float(row["depart"]), float(row["arrival"])) for row in folder.trips() if row["arrival"]}
 
 

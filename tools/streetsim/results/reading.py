@@ -64,7 +64,7 @@ class Runs:
         return Names(self.first.mapping)
 
     def mean_trips(self) -> dict[int, float]:
-        """By seed the mean trip in seconds of those who arrived; seeds in which nobody did are left out."""
+        """{seed: mean trip in seconds of those who arrived}; seeds in which nobody did are left out."""
         found = {}
         for seed, folder in self.folders.items():
             durations = [float(row["duration"]) for row in folder.trips() if row["duration"]]
@@ -77,8 +77,8 @@ class Runs:
         return sorted({(begin, end) for _, begin, end in self.rows})
 
     def busiest(self) -> tuple[int, int]:
-        """The interval in which most vehicles an hour crossed junctions, the first of equal ones; ValueError where no
-        junction tables were read."""
+        """The interval (begin, end), in seconds, in which most vehicles an hour crossed junctions, the first of equal
+        ones; ValueError where no junction tables were read."""
         volumes: dict[tuple[int, int], float] = {}
         for (table, begin, end), rows in self.rows.items():
             if table == "junctions":
@@ -152,7 +152,8 @@ def read_rows(runs: Runs, table: str) -> None:
 
 
 def means(seeds: Mapping[int, Mapping[str, float]]) -> dict[str, float]:
-    """The mean of each measure over the seeds that have it; of the greatest queue the greatest."""
+    """{measure: its mean over the seeds that have it}, of the greatest queue the greatest; seeds: {seed: {measure:
+    value}}."""
     names = {name for values in seeds.values() for name in values}
     found = {name: fmean(values[name] for values in seeds.values() if name in values) for name in names}
     if "queue_max_m" in found:

@@ -53,7 +53,7 @@ def trajectories(folder: Folder, edges: Iterable[str], first: int, last: int) ->
 
 def bands(pieces: Iterable[Piece]) -> Iterator[tuple[Spot, Spot, Spot, Spot]]:
     """The areas that vehicles longer than a cell cover over time, from their fronts to their rears, as four corners
-    each; shorter ones are left out."""
+    each, (second, metres); shorter ones are left out."""
     for (second, place), (later, other), _, long in pieces:
         if long > 1.5 * limits.CELL_METRES:
             yield (second, place), (later, other), (later, other - long), (second, place - long)
@@ -132,9 +132,9 @@ def crossed(names: Names, junction: str, edges: Iterable[str]) -> str:
 
 
 def green_band(folder: Folder, edges: Sequence[str], first: int) -> tuple[int, int] | None:
-    """The width of the green band: how many seconds of a cycle in a row let a vehicle that passes the first signal pass
-    all others too at its free speed; and the cycle. Plans are those at the clock `first`; none where there is no signal
-    or no common cycle."""
+    """(width of the green band, cycle) in seconds: the width is how many seconds of a cycle in a row let a vehicle that
+    passes the first signal pass all others too at its free speed. Plans are those at the clock `first`; none where
+    there is no signal or no common cycle."""
     lines = stop_lines(folder, edges)
     plans = {node: command for clock, command in folder.signals if clock <= first for node in [command["node"]]}
     stops = [(after, plans[node], here, following) for after, node, here, following in lines if node in plans]
@@ -239,20 +239,20 @@ def middle_flows(folder: Folder, edges: Sequence[str]) -> list[tuple[float, floa
 
 
 def middle(cells: int) -> tuple[int, int]:
-    """The first cell of a link's middle third, and the cell behind its last; cells: of the link."""
+    """(first cell of a link's middle third, cell behind its last); cells: of the link."""
     first = cells // 3
     return first, max(first + 1, cells - first)
 
 
 def arrival_curves(folder: Folder) -> tuple[list[int], list[int]]:
-    """The clocks, sorted, of wished departures up to the run's end, and of arrivals."""
+    """(clocks of wished departures up to the run's end, clocks of arrivals), each sorted."""
     trips, end = folder.trips(), folder.made.get("until", inf)
     departs = sorted(depart for row in trips if (depart := int(row["depart"])) <= end)
     return departs, sorted(int(row["arrival"]) for row in trips if row["arrival"])
 
 
 def difference(first: Sequence[float], second: Sequence[float]) -> tuple[list[float], list[int]]:
-    """The clocks at which one of two curves rises, and by how many vehicles the first is then above the second; first,
+    """(clocks at which one of two curves rises, by how many vehicles the first is then above the second); first,
     second: sorted clocks, one for each vehicle."""
     times = sorted({*first, *second})
     return times, [bisect_right(first, time) - bisect_right(second, time) for time in times]

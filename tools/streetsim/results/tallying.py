@@ -49,7 +49,7 @@ def compared(said: str, found: str, counts: Compared) -> Iterator[tuple[str, str
 
 
 def settings(path: str) -> Any:
-    """A run's setting without what may differ between two makings of it; Fault where it is none."""
+    """A run's setting, as JSON, without what may differ between two makings of it; Fault where it is none."""
     try:
         value = json.loads(Path(path).read_text(encoding="utf-8"))
         for name in UNTOLD:
@@ -69,7 +69,8 @@ def lines_of(path: str) -> list[bytes]:
 
 
 def of_lines(name: str, first: list[bytes], second: list[bytes], counts: Compared) -> Iterator[tuple[str, str, str]]:
-    """The lines of two files that differ, as `compared` gives them; name: the file; first: said, second: found."""
+    """The lines of two files that differ, as `compared` gives them; name: the file; first: said, second: found. Adds to
+    `counts`."""
     for number in range(max(len(first), len(second))):
         said, found = (side[number].decode(errors="replace") if number < len(side) else "" for side in (first, second))
         counts.numbers += sum(part.isdecimal() for part in found.replace("]", ",").replace("[", ",").split(","))
@@ -79,7 +80,7 @@ def of_lines(name: str, first: list[bytes], second: list[bytes], counts: Compare
 
 def of_tables(name: str, first: str, second: str, counts: Compared) -> Iterator[tuple[str, str, str]]:
     """The cells of two CSV files that differ, as `compared` gives them; name: the file; first: path of the one that was
-    said, second: of the one found."""
+    said, second: of the one found. Adds to `counts`."""
     with open(first, encoding="utf-8", newline="") as one, open(second, encoding="utf-8", newline="") as other:
         rows = [list(csv.reader(file)) for file in (one, other)]
     head = rows[1][0] if rows[1] else []
@@ -96,7 +97,8 @@ def of_tables(name: str, first: str, second: str, counts: Compared) -> Iterator[
 
 
 def of_values(name: str, said: Any, found: Any, counts: Compared) -> Iterator[tuple[str, str, str]]:
-    """The values of two settings that differ, as `compared` gives them; name: the file and the keys so far."""
+    """The values of two settings that differ, as `compared` gives them; name: the file and the keys so far. Adds to
+    `counts`."""
     if isinstance(said, dict) and isinstance(found, dict):
         for key in {**said, **found}:
             yield from of_values(f"{name}, {key}", said.get(key), found.get(key), counts)

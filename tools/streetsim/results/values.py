@@ -30,7 +30,7 @@ def intervals_of(runs: Runs) -> list[tuple[int, int]]:
 
 
 def traffic_of(rows: Iterable[dict], begin: int, end: int) -> dict[str, Traffic]:
-    """The traffic of each edge from `begin` to `end`, in seconds, of rows of edges.csv; a row whose period lies in part
+    """{edge: its traffic from `begin` to `end`}, in seconds, of rows of edges.csv; a row whose period lies in part
     there counts with that part. Edges without a row are left out."""
     found = defaultdict(list)
     for row in rows:
@@ -69,7 +69,8 @@ def mean_of(several: list[Traffic]) -> Traffic:
 
 
 def values_of(runs: Runs, begin: int, end: int) -> dict[str, Values]:
-    """What is known of each edge of the map from `begin` to `end`, in seconds, as means over the seeds."""
+    """{edge: what is known of it from `begin` to `end`, in seconds}, for each edge of the map, as means over the
+    seeds."""
     seen = defaultdict(list)
     for folder in runs.folders.values():
         for edge, one in traffic_of(folder.edges(), begin, end).items():

@@ -58,9 +58,9 @@ class Town:
         return Loaded(run, mapping, free)
 
     def imported(self, trips: Sequence[Trip], joint: Sequence[str], led: Sequence[str] = ()) -> tuple[Run, Map]:
-        """The run and its map without works. joint, led: names of lanes, beside those of the options: joint lanes end
-        in one queue, and the turns of led lanes are given to the links beside. Fault where a trip is skipped, or a
-        limit of the program is passed."""
+        """(run, its map) without works. joint, led: names of lanes, beside those of the options: joint lanes end in one
+        queue, and the turns of led lanes are given to the links beside. Fault where a trip is skipped, or a limit of
+        the program is passed."""
         report = Report()
         options = replace(self.options, joint=(*self.options.joint, *joint), led=(*self.options.led, *led))
         network, lights, commands, names = converted(
@@ -75,8 +75,8 @@ class Town:
         return run_of("the routes", lines), map_of(network, lights, names, report)
 
     def with_works(self, trips: Sequence[Trip], run: Run, mapping: Map) -> tuple[Run, Map, list[str]]:
-        """The run and its map with the town's works, imported anew where lanes must be joint or led from beside, and
-        the texts on those who lose their only lane."""
+        """(run, its map, texts on those who lose their only lane) with the town's works, imported anew where lanes must
+        be joint or led from beside."""
         works = [works_of(text, mapping) for text in self.works]
         led = lanes_to_lead(works, mapping) if self.lost == "lead" else []
         if (names := lanes_to_join(works, mapping)) or led:

@@ -42,7 +42,7 @@ def write_results(
 
 
 def iteration_rows(iterations: Sequence[Iteration]) -> Iterator[tuple]:
-    """The rows of iterations.csv, one for each iteration."""
+    """The rows of iterations.csv, as ITERATIONS has the columns, one for each iteration."""
     for one in iterations:
         yield (
             *(
@@ -54,14 +54,14 @@ def iteration_rows(iterations: Sequence[Iteration]) -> Iterator[tuple]:
 
 
 def check_rows(judged: Judged) -> Iterator[tuple]:
-    """The rows of check.csv, one for each check seed."""
+    """The rows of check.csv, as CHECK has the columns, one for each check seed."""
     for seed, one in zip(judged.seeds, judged.outcomes, strict=True):
         yield seed, f"{one.mean:.3f}", one.arrived, one.rescues
 
 
 def movement_rows(town: Town, judged: Judged, width: int) -> Iterator[tuple]:
-    """The rows of movements.csv: for each slice of width seconds and each movement that was seen in the check runs,
-    vehicles in one run by the mean, their mean seconds, and seconds without traffic."""
+    """The rows of movements.csv, as MOVEMENTS has the columns: for each slice of width seconds and each movement that
+    was seen in the check runs, vehicles in one run by the mean, their mean seconds, and seconds without traffic."""
     graph, observed = town.graph, mean_of([one.observed for one in judged.outcomes])
     for slice_ in range(observed.slices):
         for movement, (edge, following) in enumerate(graph.movements):
@@ -91,8 +91,8 @@ def trip_rows(trips: Sequence[Trip], judged: Judged) -> Iterator[tuple]:
 
 
 def flow_rows(graph: Graph, all_: Sequence[Diverted]) -> Iterator[tuple]:
-    """The rows of flows.csv: for each edge how many trips have it on their ways, before and with each share of drivers
-    who know of the works, and how many more than before."""
+    """The rows of flows.csv, as FLOWS has the columns: for each edge how many trips have it on their ways, before and
+    with each share of drivers who know of the works, and how many more than before."""
     flows = [Counter(edge for trip in one.trips for edge in set(trip.path)) for one in all_]
     for edge, name in enumerate(graph.edges):
         for one, flow in zip(all_, flows, strict=True):

@@ -270,8 +270,8 @@ def changes(found: Sequence[Found], share: float) -> list[Found]:
 
 
 def steps_of(found: Sequence[Found], share: float, tried: int) -> list[list[Found]]:
-    """The trips that change by a share, by half of it, and so on, tried times; a step that is no smaller than the one
-    before it is left out."""
+    """Lists of the trips that change: by a share, by half of it, and so on, tried times; a list that is no shorter than
+    the one before it is left out."""
     steps = [changes(found, share / 2**at) for at in range(tried)]
     return [step for at, step in enumerate(steps) if at == 0 or len(step) < len(steps[at - 1])]
 

@@ -76,8 +76,8 @@ def outcomes(
 def searched_bounds(
     asked: Asked, workers: Machines, ground: Ground, tried: Sequence[int]
 ) -> tuple[Search, bool]:
-    """Searches for bounds; gives the search when it has ended, and whether the user ended it. tried: seeds for first
-    runs of the given bounds, which say how many of them the search uses; used only where asked.seeds is empty."""
+    """Searches for bounds; gives (search when it has ended, whether the user ended it). tried: seeds for first runs of
+    the given bounds, which say how many of them the search uses; used only where asked.seeds is empty."""
     cars, meanwhile = len(ground.town.session.departs), Meanwhile("simulations", asked.budget)
     seeds = asked.seeds
     if not seeds:
@@ -167,8 +167,8 @@ def write_found_bounds(output: str, out: str, ground: Ground, found: Found) -> i
 
 
 def bound_rows(before: Bounded, after: Bounded) -> Iterator[Entry]:
-    """The rows of lights.csv, one for each green that detectors extend: its bounds and the gap of its light, seconds,
-    as given and as found."""
+    """The rows of lights.csv, as LIGHTS has the columns, one for each green that detectors extend: its bounds and the
+    gap of its light, seconds, as given and as found."""
     for name, own in sorted(before.items()):
         for (phase, least, most), (_, low, high) in zip(own.greens, after[name].greens, strict=True):
             yield name, phase, least, low, most, high, f"{own.gap:g}", f"{after[name].gap:g}"

@@ -87,8 +87,8 @@ def write_found(target: Target, town: Town, search: Search, rows: Sequence[Compa
 
 
 def light_rows(town: Town, plan: Plan) -> Iterator[Entry]:
-    """The rows of lights.csv: each light's cycle, offset and greens that may be stretched, seconds, as given and as
-    found."""
+    """The rows of lights.csv, as LIGHTS has the columns: each light's cycle, offset and greens that may be stretched,
+    seconds, as given and as found."""
     for name, light in sorted(town.lights.items()):
         pair = town.plan[name], plan[name]
         greens = (" ".join(str(one.durations[at]) for at in light.free) for one in pair)

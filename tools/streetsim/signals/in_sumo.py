@@ -31,7 +31,7 @@ class Verified:
     teleports: tuple[int, int]
 
     def difference(self) -> tuple[float, float]:
-        """The mean difference, after less before, and half the width of its 95 % interval, seconds."""
+        """(mean difference, after less before; half the width of its 95 % interval), seconds."""
         mean, half = paired(self.before, self.after)
         assert half is not None
         return mean, half

@@ -115,7 +115,7 @@ def bounded(value: Seconds, bound: tuple[int, int]) -> Seconds | int:
 
 
 def light_of(name: str, program: Program, least: int = LEAST) -> tuple[Light, Timing]:
-    """The light of a SUMO program and its timing in whole seconds; least: a green of so many seconds or more may be
+    """(light of a SUMO program, its timing in whole seconds); least: a green of so many seconds or more may be
     stretched."""
     durations = whole(duration for duration, _ in program.phases)
     given = program.bounds or [(None, None)] * len(durations)

@@ -166,7 +166,8 @@ def climb(search: Search, plan: Tried, step: str, change: Callable[[Tried, int],
 
 
 def shift_of(names: Sequence[str], seconds: int) -> Callable[[Plan, int], Plan | None]:
-    """A change for climb: the offsets of some lights later by some seconds (sign 1), or earlier (sign -1)."""
+    """A change for climb, which can always be made: the offsets of some lights later by some seconds (sign 1), or
+    earlier (sign -1)."""
     return lambda plan, sign: {**plan, **{name: plan[name].shifted(sign * seconds) for name in names}}
 
 

@@ -103,7 +103,7 @@ def read_town(reading: Reading) -> Town:
 
 
 def searched_lights(reading: Reading, run: Run, mapping: Map, net: SumoNet) -> tuple[dict[str, Light], Plan]:
-    """The lights that are searched, and their plan as given; which lights are left as they are, and why, is written to
+    """({name: light that is searched}, their plan as given); which lights are left as they are, and why, is written to
     standard error. Fault where --keep names no light of the map, or no light may be changed."""
     names, asked = lights_of(reading, mapping, net), set(reading.keep)
     if unknown := sorted(asked - set(names)):
@@ -170,8 +170,8 @@ class Runner:
         return list(self.ordered(outcome_giving_way, [plan], seeds))
 
     def gaps(self, seeds: Sequence[int]) -> list[Any]:
-        """For each seed, the signal lines by which vehicles without a light give way under the given plan, and how many
-        junctions and lines these are."""
+        """For each seed (signal lines by which vehicles without a light give way under the given plan, how many
+        junctions and lines these are)."""
         return list(self.ordered(gaps, [self.town.plan], seeds))
 
     def ordered(
@@ -193,7 +193,8 @@ class Runner:
 
 def sessions_of(town: Town, seeds: Sequence[int], runner: Runner) -> list[Session]:
     """The sessions that workers get: that of the report, that of the search, and where vehicles give way without a
-    light one for each seed, with the gaps of the given plan, whose place is noted in town.giving."""
+    light one for each seed, with the gaps of the given plan, whose place is noted in town.giving; how many give way is
+    said on standard error."""
     sessions = [town.session, town.careful]
     if town.session.giving is None:
         return sessions

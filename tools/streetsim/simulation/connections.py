@@ -26,8 +26,8 @@ class Connections:
         return [turn for turn in self.by_link.get(link, ()) if turn.next == following]
 
     def plan(self, edges: Sequence[str]) -> tuple[int, ...]:
-        """Links along some edges, each with a turn to the next; ValueError where no such links exist, edges is empty,
-        or an edge is unknown."""
+        """The numbers of links along some edges, each with a turn to the next; ValueError where no such links exist,
+        edges is empty, or an edge is unknown."""
         if unknown := [edge for edge in edges if edge not in self.map.links_of]:
             raise ValueError(f"the map has no edge {unknown[0]!r}")
         plans: dict[int, tuple[int, ...]]

@@ -81,8 +81,7 @@ def told_of_files(facts: Facts) -> str:
 
 
 def output_paths(options: Options, facts: Facts) -> dict[str, str]:
-    """The paths of the output files that are asked for, by kind: by options, and the first edgeData of additional
-    files."""
+    """{kind: path} of the output files that are asked for: by options, and the first edgeData of additional files."""
     prefix, paths = options.get("output-prefix", ""), {}
     for name, kind in SERVED.items():
         if options.get(name, NOWHERE[0]) not in NOWHERE:

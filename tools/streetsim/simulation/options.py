@@ -43,8 +43,8 @@ KNOWN = re.compile(
 
 
 def options_of(words: list[str]) -> dict[str, str]:
-    """SUMO's options by their long names, as texts, empty where a word has no value; words count before those of a
-    configuration that they name. FatalTraCIError for what SUMO does not know either, or what is refused here."""
+    """SUMO's options, {long name: text}, empty where a word has no value; words count before those of a configuration
+    that they name. FatalTraCIError for what SUMO does not know either, or what is refused here."""
     options, at = {}, 0
     if words and not str(words[0]).startswith("-"):
         options["configuration-file"], at = str(words[0]), 1

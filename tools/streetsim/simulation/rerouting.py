@@ -7,9 +7,9 @@ from streetsim.simulation.session import Session
 
 
 def other_way(session: Session, name: str, place: Place | None, edges: Sequence[str]) -> None:
-    """Has a vehicle go on along other edges; the first must be the one where it is (place) or, where place is None, the
-    one on which it will depart. TraCIException otherwise, or where the edges have no connection. Nothing where these
-    are its edges already."""
+    """Has a vehicle go on along other edges, as a route without a name; the first must be the one where it is (place)
+    or, where place is None, the one on which it will depart. TraCIException otherwise, or where the edges have no
+    connection. Nothing where these are its edges already."""
     plan = session.plan(name)
     here = plan[0] if place is None else place.link
     edge = session.map.links[here].edge

@@ -82,7 +82,7 @@ def load_state(session: Session, path: str) -> None:
 
 
 def restore_vehicles(session: Session, state: State) -> None:
-    """Takes what a state knows of vehicles and induction loops."""
+    """Puts into a session what a state knows of vehicles and induction loops."""
     fleet, types, view = session.fleet, session.types, session.view
     fleet.cars, fleet.sizes, fleet.names = state["cars"], state["sizes"], dict(enumerate(state["names"]))
     fleet.plans = {name: tuple(links) for name, links in state["plans"].items()}
@@ -100,7 +100,7 @@ def restore_vehicles(session: Session, state: State) -> None:
 
 
 def restore_lights(session: Session, state: State) -> None:
-    """Takes what a state knows of lights, and of phases that are still to be shown."""
+    """Puts into a session what a state knows of lights, and of phases that are still to be shown."""
     control, shown = session.control, session.shown
     for name, (phases, begin, program, names) in state["lights"].items():
         light = control.lights[name]

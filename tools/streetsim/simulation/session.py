@@ -173,8 +173,8 @@ class Session(Simulation):
         return len(self.source.enters) - self.entered + super().expected()
 
     def route(self, name: str) -> tuple[int, ...]:
-        """The links of a route of the files, or of one that a script added; TraCIException where its edges have no
-        connection."""
+        """The numbers of the links of a route of the files, or of one that a script added; TraCIException where its
+        edges have no connection."""
         if name not in self.routes:
             try:
                 return self.connections.plan(self.facts.routes[name])
@@ -185,7 +185,7 @@ class Session(Simulation):
     # Other plans: a vehicle enters anew where its other way begins, and is the same one for all calls
 
     def plan(self, name: str) -> tuple[int, ...]:
-        """The links of a vehicle's plan, also before it departs, with those that it has driven."""
+        """The numbers of the links of a vehicle's plan, also before it departs, with those that it has driven."""
         if plan := self.fleet.plans.get(name) or self.wishes.get(name):
             return plan
         return tuple(self.source.enters[self.types.known[name]].command["plan"])

@@ -102,7 +102,7 @@ class Shown:
         self.coming = {node: phases for node, phases in self.coming.items() if node not in self.forgotten}
 
     def due(self, clock: int) -> list[Command]:
-        """The commands of the phases of long programs that begin by a clock."""
+        """The commands of the phases of long programs that have begun by a clock and were not given before."""
         return [command for phases in self.coming.values() for command in phases.due(clock)]
 
     def next_clock(self, target: int) -> int:

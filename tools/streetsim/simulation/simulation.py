@@ -53,7 +53,8 @@ class Simulation:
     # Lines
 
     def send(self, lines: Iterable[bytes]) -> list[Any]:
-        """Sends lines and gives the replies; raises what refusal gives where one is refused."""
+        """Sends lines, each with its end, and gives the typed replies; raises what refusal gives where one is
+        refused."""
         sent = list(lines)
         replies = [read_reply(text) for text in self.client.exchange(sent)]
         for line, reply in zip(sent, replies, strict=True):
@@ -66,7 +67,7 @@ class Simulation:
         return reply
 
     def tell(self, command: Command) -> Any:
-        """Sends one command, and gives its reply."""
+        """Sends one command, and gives its typed reply; raises as `send` does."""
         [reply] = self.send([line_of(command)])
         return reply
 
@@ -157,7 +158,7 @@ class Simulation:
         return self.enter(name, links, lane, depart, self.fleet.sizes[name], driven)
 
     def plan(self, name: str) -> Sequence[int]:
-        """The links of a vehicle's plan, those that it has driven among them."""
+        """The numbers of the links of a vehicle's plan, those that it has driven among them."""
         return self.fleet.plans[name]
 
     def expected(self) -> int:

@@ -113,7 +113,7 @@ class Facts:
         self.lights[name] = light
 
     def lights_at(self, names: Container[str]) -> dict[str, Light]:
-        """The lights whose name is among names, each with its connections by index."""
+        """{name: light} of the lights whose name is among names; puts into each its connections by index."""
         links: dict[str, dict[int, tuple[str, str, str]]] = {}
         for lane, fact in self.lanes.items():
             for one in fact.links:
@@ -145,7 +145,7 @@ def read_facts(net: str, additional: Sequence[str], routes: Sequence[str]) -> Fa
 
 
 def read_element(facts: Facts, path: str, element: Element) -> None:
-    """Takes what an element of a network or an additional file tells; other elements are passed over."""
+    """Adds to the facts what an element of a network or an additional file tells; other elements are passed over."""
     if element.tag == "edge":
         facts.read_edge(path, element)
     elif element.tag == "connection":

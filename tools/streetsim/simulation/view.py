@@ -37,7 +37,8 @@ class View:
         self.places, self.asked = {}, False
 
     def look(self) -> None:
-        """Polls all lanes; notes where each vehicle is, and who has departed or ended since the look before."""
+        """Polls all lanes; notes where each vehicle is, and who has departed or ended since the look before.
+        FatalTraCIError where a poll is refused."""
         self.places, self.asked, self.on_lane, self.in_buffer, self.frame = {}, True, {}, {}, []
         texts = self.simulation.client.exchange(line for _, line in self.polls)
         for (place, _), text in zip(self.polls, texts, strict=True):

@@ -26,7 +26,7 @@ def means_of(study: Study, results: Mapping[str, Sequence[Outcome]], name: str) 
 
 
 def run_rows(study: Study, results: Mapping[str, Sequence[Outcome]]) -> Iterator[Entry]:
-    """The rows of runs.csv: one for each variant and seed."""
+    """The rows of runs.csv, as RUNS has the columns: one for each variant and seed."""
     for name, outcomes in results.items():
         for seed, one, mean in zip(study.seeds, outcomes, means_of(study, results, name), strict=True):
             ends = one.seconds, one.end, one.ended.partition(": ")[2] or "until"

@@ -139,7 +139,7 @@ def joint_lanes(path: str, study: Json) -> dict[tuple[str, str], dict[str, None]
 
 
 def pair_of(study: Json, variant: Json) -> tuple[str, str]:
-    """The paths of the run and the map of a variant, else those of the study."""
+    """(path of the run, path of the map) of a variant, else of the study, as they are written there."""
     return variant.get("run", study["run"]), variant.get("map", study["map"])
 
 
