@@ -7,6 +7,7 @@ order. A row is known by its first cells, as many as tell the printed rows apart
 import re
 from collections.abc import Iterator
 from dataclasses import dataclass, field
+from itertools import takewhile
 
 RULE = re.compile(r"\s*\|[|\s:-]+\|\s*")
 Row = tuple[str, ...]
@@ -37,6 +38,10 @@ class Placed:
     placed: int = 0  # rows that the page has, moved or not
 
 
+def is_row(line: str) -> bool:
+    return line.lstrip().startswith("|")
+
+
 def cells(line: str) -> Row:
     """The cells of a row, without what makes them bold."""
     inner = line.strip().removeprefix("|").removesuffix("|")
@@ -45,15 +50,10 @@ def cells(line: str) -> Row:
 
 def grids(lines: list[str], first: int = 0) -> Iterator[Grid]:
     """The tables of some lines of a text, which are numbered from first on."""
-    at = 0
-    while at + 1 < len(lines):
-        if lines[at].lstrip().startswith("|") and RULE.fullmatch(lines[at + 1]):
-            end = at + 2
-            while end < len(lines) and lines[end].lstrip().startswith("|"):
-                end += 1
-            yield Grid(cells(lines[at]), {first + row: cells(lines[row]) for row in range(at + 2, end)})
-            at = end
-        at += 1
+    heads = [at for at, line in enumerate(lines[1:]) if RULE.fullmatch(line) and is_row(lines[at])]
+    for head, following in zip(heads, [*heads[1:], len(lines)]):
+        rows = takewhile(lambda at: is_row(lines[at]), range(head + 2, following))
+        yield Grid(cells(lines[head]), {first + row: cells(lines[row]) for row in rows})
 
 
 def section(lines: list[str], heading: str) -> range:
@@ -106,7 +106,7 @@ def put(text: str, heading: str, printed: str) -> Placed:
     done = Placed(text.split("\n"))
     within = section(done.lines, heading)
     there = list(grids(done.lines[within.start : within.stop], within.start))
-    for made in grids(printed.split("\n")):
+    for made in grids([line for line in printed.split("\n") if is_row(line)]):
         ways = [found for grid in there if (found := match(grid, made))]
         best = max(ways, key=lambda one: (one.common(), len(one.grid.head)), default=None)
         if best and best.common():

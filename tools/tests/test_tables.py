@@ -40,6 +40,7 @@ Words.
 PRINTED = """| Street | flow | trips | mean, s | |
 |---|---|---|---|---|
 | main | 100 | 7 | 21.0 (+2 %) |  |
+    what the script says of a row
 | main | 200 | 7 | 30.0 | doubted |
 | side | 200 | 7 | 41.0 |  |
 told below
