@@ -10,8 +10,10 @@ from support import FORK, Case, lane, needs_package, needs_simulator, net
 from streetsim.base.files import Fault
 from streetsim.base.report import Report
 from streetsim.cli import compare, demand
-from streetsim.counts import checking, judging, matrices, ratios, reading, science, zones
+from streetsim.counts import checking, demanding, judging, matrices, ratios, reading, science, zones
 from streetsim.counts.cells import clock_of
+from streetsim.counts.judging import Compared
+from streetsim.counts.pictures import each_once
 from streetsim.counts.seen import fewest
 from streetsim.counts.values import Count
 from streetsim.routes.loading import read_town
@@ -143,6 +145,26 @@ class Inputs(Case):
             known = [(one.source, one.target, one.weight) for one in found]
             self.assertEqual(known, [("a", "b", 0.7), ("a", "c", 0.3)])
             self.assertEqual(sinks, {"b", "c"})
+
+    def test_ratios_before_any_interval_hold_at_any_time(self):
+        # As jtrrouter takes them, which leads vehicles of each second of a run on by them.
+        text = '<turns><edgeRelation from="a" to="b" probability="1"/></turns>'
+        [one], _ = ratios.read_ratios([self.write("r.xml", text)])
+        self.assertTrue(one.begin == 0 and one.end > 100 * 86_400)
+
+    def test_a_map_has_each_vehicle_once(self):
+        # At a all vehicles and the trucks among them are counted, at b trucks alone, at a in another hour too.
+        hourly = [
+            Compared(begin, begin + 3600, (edge,), kind, "", 9.0, 8.0)
+            for begin, edge, kind in ((0, "a", ""), (0, "a", "truck"), (0, "b", "truck"), (3600, "a", "truck"))
+        ]
+        found = [(one.begin, one.edges[0], one.kind) for one in each_once(hourly)]
+        self.assertEqual(found, [(0, "a", ""), (0, "b", "truck"), (3600, "a", "truck")])
+
+    def test_slices_begin_with_the_soonest_departure(self):
+        # Two flows, the second of which begins first; the count is of 900 to 1800 s.
+        counts = [Count(900, 1800, ("a",), 5.0, "")]
+        self.assertEqual(demanding.bounds_of(counts, [], [(950.0, 0), (300.5, 1)]), [300, 900, 1800])
 
 
 class Contradictions(Case):

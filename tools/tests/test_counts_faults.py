@@ -85,6 +85,8 @@ class Faults(Tool):
                 self.assertRegex(self.fault("--counts", counts, "--matrix", matrix, "--zones", zones), told)
         self.assertIn("there is no zone '1': give zones", self.fault("--counts", counts, "--matrix", matrix))
         self.assertIn("no columns begin and end", self.fault("--matrix", matrix))
+        loose = self.write("m.xml", '<data><tazRelation from="1" to="2" count="5"/></data>')
+        self.assertIn("line 1: <tazRelation> stands in no <interval>", self.fault("--matrix", loose))
 
     def test_ratios(self):
         flow = '<routes><flow id="f" from="{}" begin="0" end="900" number="9" {}/></routes>'

@@ -16,7 +16,7 @@ from support import PROGRAM, TOOLS, Case, needs_simulator
 from streetsim.base.files import Fault
 from streetsim.cli.check import page_again
 from streetsim.reports import seal as sealing
-from streetsim.reports.elements import differences
+from streetsim.reports.elements import differences, numbers_in
 from streetsim.reports.seal import DATA, PACK, packed, seal_of, sum_of, unpacked
 
 CORRIDOR = TOOLS / "examples/corridor"
@@ -35,6 +35,12 @@ def other_digit(text, at):
     """The text with another digit at a place."""
     assert text[at].isdigit(), text[at - 20 : at + 20]
     return text[:at] + str((int(text[at]) + 1) % 10) + text[at + 1 :]
+
+
+class Numbers(unittest.TestCase):
+    def test_names_of_tags_are_no_numbers(self):
+        page = '<h1>In 2026</h1><style>p { margin: 3px }</style><p>8,000 of 9.5</p><path d="M 4 5"/><h2>7</h2>'
+        self.assertEqual(numbers_in(page), 6)  # 2026, 8,000, 9.5, 4, 5, 7
 
 
 class Sealed(Case):

@@ -231,7 +231,7 @@ def bounds_of(counts: Iterable[Count], cells: Iterable[Cell], departs: Sequence[
     if departs and not bounds:
         bounds = {int(min(depart for depart, _ in departs)), int(max(depart for depart, _ in departs)) + 1}
     elif departs:
-        bounds |= {min(*bounds, int(departs[0][0]))}
+        bounds |= {min(*bounds, int(min(depart for depart, _ in departs)))}
     if len(bounds) < 2:
         raise Fault("there is no period in which vehicles depart")
     return sorted(bounds)

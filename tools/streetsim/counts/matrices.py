@@ -55,11 +55,14 @@ def of_table(path: FilePath, period: tuple[int, int] | None) -> Iterator[Cell]:
 
 
 def of_sumo(path: FilePath) -> Iterator[Cell]:
-    """The cells of a file of SUMO's tazRelations; Fault for any other element."""
+    """The cells of a file of SUMO's tazRelations; Fault for any other element, and before the first interval, where
+    SUMO's od2trips reads without an end."""
     begin = end = 0
     for tag in tags(path, ("data", "meandata", "tazRelations")):
         if tag.name == "interval":
             begin, end = period_of(tag.get("begin", clock_rounded), tag.get("end", clock_rounded), tag.where)
+        elif tag.name == "tazRelation" and not end:
+            raise Fault(f"{tag.where}: <tazRelation> stands in no <interval>")
         elif tag.name == "tazRelation":
             ends = tag.get("from", name_of), tag.get("to", name_of)
             yield Cell(begin, end, *ends, number_in(tag, BY_TURN, None), tag.where)

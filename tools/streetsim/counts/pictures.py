@@ -57,11 +57,11 @@ def of_geh(counted: float, sign: int) -> float:
 
 def map_of(pyplot: Any, hourly: Sequence[Compared], links: Sequence[MapLink], what: str) -> Any:
     """The map of edges by how many vehicles an hour more or fewer passed than were counted: of the edge itself, else of
-    its turns together. what: how vehicles passed."""
+    its turns together; of all vehicles, else of the classes together. what: how vehicles passed."""
     whole: defaultdict[str, float] = defaultdict(float)
     turns: defaultdict[str, float] = defaultdict(float)
     hours = len({one.begin // HOUR for one in hourly})
-    for one in hourly:
+    for one in each_once(hourly):
         into = whole if len(one.edges) == 1 else turns
         into[one.edges[0]] += (one.passed - one.counted) * HOUR / (one.end - one.begin) / hours
     values = [round(whole.get(link.edge, turns.get(link.edge, 0.0))) for link in links]
@@ -78,6 +78,13 @@ def map_of(pyplot: Any, hourly: Sequence[Compared], links: Sequence[MapLink], wh
     label, beside = "vehicles/h fewer (broken lines) or more than counted", {"location": "bottom"} if wide else {}
     figure.colorbar(lines, ax=axes, label=label, shrink=0.8, **beside)
     return figure
+
+
+def each_once(hourly: Sequence[Compared]) -> list[Compared]:
+    """Places and hours without those of a class where all vehicles are counted at the same place in the same hour, so
+    that sums have each vehicle once."""
+    whole = {(one.begin // HOUR, one.edges) for one in hourly if not one.kind}
+    return [one for one in hourly if not one.kind or (one.begin // HOUR, one.edges) not in whole]
 
 
 def halfway(link: MapLink) -> tuple[float, float]:

@@ -3,7 +3,7 @@ import random
 from collections.abc import Iterable
 
 from streetsim.base.files import Fault, FilePath, elements, told
-from streetsim.counts.cells import name_of, period_of, vehicles_of
+from streetsim.counts.cells import MOST_SECONDS, name_of, period_of, vehicles_of
 from streetsim.counts.reading import clock_rounded
 from streetsim.counts.tags import Tag, tags
 from streetsim.counts.values import Inflow, Ratio
@@ -38,12 +38,12 @@ def read_inflows(paths: Iterable[FilePath], seed: int) -> list[Inflow]:
 
 def read_ratios(paths: Iterable[FilePath]) -> tuple[list[Ratio], set[str]]:
     """(turn ratios, names of the edges that are said to be sinks, where vehicles end); Fault where a file has no ratio,
-    or another element."""
+    or another element. Ratios before the first interval hold at any time, as in SUMO's jtrrouter."""
     found: list[Ratio] = []
     sinks: set[str] = set()
     for path in paths:
         before = len(found)
-        begin = end = 0
+        begin, end = 0, MOST_SECONDS
         source = ""
         for tag in tags(path, TURNS):
             if tag.name == "interval":

@@ -123,8 +123,9 @@ def elements_of(text: str) -> list[Element]:
 
 def numbers_in(text: str) -> int:
     """How many numbers a page has, in words, tables and pictures; not in its styles and scripts, what is sealed among
-    them, nor in pictures of points."""
-    shown = re.sub(r"<(style|script)\b.*?</\1>|data:image/png;base64,[^\"]*", "", text, flags=re.DOTALL)
+    them, nor in pictures of points or in the names of tags, as h2."""
+    hidden = r"<(style|script)\b.*?</\1>|data:image/png;base64,[^\"]*|</?[a-zA-Z][a-zA-Z0-9]*"
+    shown = re.sub(hidden, "", text, flags=re.DOTALL)
     return len(NUMBER.findall(shown))
 
 
