@@ -12,6 +12,7 @@ from streetsim.model.mapping import Map, MapLink, MapTurn
 from streetsim.model.runs import Line, Run
 from streetsim.run.record import Recorder
 from streetsim.run.settings import Settings
+from streetsim.run.worked import Works
 from streetsim.works.asked import clock_of, sites_of, really_closed, works_of
 from streetsim.works.closures import Closure, closures_of
 from streetsim.works.crowding import beyond_joint, crowded
@@ -72,6 +73,20 @@ class Queues(unittest.TestCase):
         self.assertEqual(self.reach(a0=near, z1=[(90, 30, 0)])[:2], (26 * 7.5 - 7.5, 9), "too far behind the last")
 
 
+class Two(unittest.TestCase):
+    """Works in cells 30 to 35 of lane 0 of a from 100 to 900 s, and in cells 10 to 19 from 100 to 500 s."""
+
+    def test_each_has_the_queue_before_it(self):
+        first, second = Closure(1, 0, 10, 19, 100, 500), Closure(1, 0, 30, 35, 100, 900)
+        watched = Works([first, second], TWO, pace=[0.5, 0.5]).watched
+        standing = lanes(z0=[(9, 38, 0)], z1=[], a0=[(1, 29, 0), (4, 2, 0)], a1=[(2, 22, 0), (3, 12, 0), (5, 9, 0)])
+        found = [(one.reach(120, standing).vehicles, one.reach(120, standing).metres) for one in watched]
+        self.assertEqual(found, [(3, 75.0 + 15.0), (3, (30 - 12) * 7.5)])
+        self.assertEqual(watched[1].further(120, standing), [], "the queue upstream is that of the works there")
+        later = watched[1].reach(501, standing)
+        self.assertEqual((later.vehicles, later.metres), (6, 30 * 7.5 + 15), "these are over")
+
+
 class Seen(unittest.TestCase):
     """Works in cells 30 to 39 of lane 0 of a; a vehicle alone takes half a second a cell."""
 
@@ -93,9 +108,9 @@ class Seen(unittest.TestCase):
     def test_links_upstream_are_looked_at_where_the_queue_comes_near_them(self):
         one = self.watched()
         near = [(car, 29 - 3 * car, 0) for car in range(9)]
-        self.assertEqual(one.further(lanes(a0=(), a1=())), [])
-        self.assertEqual(one.further(lanes(a0=near, a1=())), [0])
-        self.assertEqual(one.further(lanes(a0=near, a1=(), z0=(), z1=())), [])
+        self.assertEqual(one.further(120, lanes(a0=(), a1=())), [])
+        self.assertEqual(one.further(120, lanes(a0=near, a1=())), [0])
+        self.assertEqual(one.further(120, lanes(a0=near, a1=(), z0=(), z1=())), [])
         one.look(110, lanes(a0=near, a1=(), z0=[(50, 39, 0)], z1=[(51, 38, 0)]), lambda car, link: car != 51)
         self.assertEqual((one.coming[50].free, 51 in one.coming), (0.5 + 15, False))
         self.assertEqual(one.left, None)

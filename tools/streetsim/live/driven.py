@@ -93,9 +93,9 @@ class DrivenEngine(Engine):
 
     def look(self) -> None:
         """Has the lights that are due at the clock look at their detectors, and shows what they begin."""
-        client = self.client
-        assert client is not None
-        self.show(self.driver.look(self.clock, Senses(client.read, lambda place: client.lane(*place))))
+        assert self.client is not None
+        read, lane = self.client.read, self.client.lane
+        self.show(self.driver.look(self.clock, Senses(read, lambda place: lane(*place))))
 
     def show(self, commands: Iterable[Command]) -> None:
         """Sends commands that place detectors of lights, or set signals; the signals are kept for the page."""

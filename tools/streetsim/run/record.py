@@ -20,7 +20,6 @@ from streetsim.run.records import Records, Tell
 from streetsim.run.settings import Settings
 from streetsim.run.worked import Works
 from streetsim.works.closures import begun_here, closures_of
-from streetsim.works.queues import reach_of
 
 
 class Recorder(Desk):
@@ -151,7 +150,7 @@ class Recorder(Desk):
         for one in self.works.watched:
             place = one.closure
             if place.begin < clock <= place.end:
-                reach = reach_of(lanes, one.streets, place.link, place.first)
+                reach = one.reach(clock, lanes)
                 if reach.vehicles:
                     row = clock, place.link, place.lane, reach.vehicles, reach.metres, BEFORE_WORKS
                     self.records.queues.append(row)

@@ -27,7 +27,7 @@ class Works:
         links = {one.link for one in closures if len(mapping.links[one.link].lanes) == 2} if merging else set()
         self.merges = Merges({link: mapping.links[link].cells for link in links})
         streets = streets_of(mapping) if closures and pace else None
-        self.watched = [Watched(one, streets, pace) for one in closures] if streets else []
+        self.watched = [Watched(one, streets, pace, before(one, closures)) for one in closures] if streets else []
 
     def next(self, clock: int) -> int | None:
         """The next clock after this one at which lanes are to be looked at; None where there is nothing left to look
@@ -43,7 +43,7 @@ class Works:
         seen = self.seen({*merging, *(one.closure.link for one in watched)}, lanes)
         for one in watched:
             own = {place: lane for place, lane in seen.items() if place[0] == one.closure.link}
-            while more := one.further(own):
+            while more := one.further(clock, own):
                 own.update(self.seen(more, lanes))
             one.look(clock, own, bound)
         for link in merging:
@@ -54,6 +54,12 @@ class Works:
         places = [(link, lane) for link in sorted(links) for lane in range(len(self.mapping.links[link].lanes))]
         found = lanes(places) if places else {}
         return {place: found.get(place, NOTHING) for place in places}
+
+
+def before(own: Closure, closures: Iterable[Closure]) -> list[Closure]:
+    """The works on the lane of some works that begin upstream of these."""
+    place = own.link, own.lane
+    return [one for one in closures if (one.link, one.lane) == place and one.first < own.first]
 
 
 def due_after(watched: Watched, clock: int) -> int | None:

@@ -44,25 +44,27 @@ class Reach:
 class Piece:
     """A link that the queue may reach, seen from a cell upstream of the works. end: the cell before which vehicles
     count; last: where the last one stands so far, in cells of this link; behind: metres from its cell end to the
-    works."""
+    works; begin: the cell from which on vehicles count, above 0 where other works begin there."""
 
     link: int
     lanes: Collection[int]
     end: int
     last: int
     behind: float
+    begin: int = 0
 
 
-def reach_of(lanes: Mapping[Place, Lane], streets: Streets, link: int, first: int) -> Reach:
+def reach_of(lanes: Mapping[Place, Lane], streets: Streets, link: int, first: int, begin: int = 0) -> Reach:
     """The queue before works that begin in the cell first of a link: all who stand, each at most APART cells behind the
     one before it, on lanes from which one comes to the works. lanes: replies on the lanes of the link and of those
-    upstream."""
+    upstream; begin: where other works on the link begin upstream of these, their first cell, as who stands before it
+    belongs to their queue; else 0."""
     found, known = Reach(), {link}
-    pieces = [Piece(link, range(len(lanes)), first, first, 0.0)]
+    pieces = [Piece(link, range(len(lanes)), first, first, 0.0, begin)]
     while pieces:
         piece = pieces.pop()
         last = along(piece, lanes, streets.scale[piece.link], found)
-        if last > APART:
+        if last > APART or piece.begin:
             continue
         found.full.append(piece.link)
         behind = piece.behind + piece.end * streets.scale[piece.link]
@@ -78,7 +80,7 @@ def along(piece: Piece, lanes: Mapping[Place, Lane], scale: float, found: Reach)
     """Adds those who stand on a piece to the queue found; gives the cell of the last one. scale: metres of a cell."""
     last = piece.last
     for cell, speed, size in vehicles_of(piece, lanes):
-        if last - cell > APART:
+        if last - cell > APART or cell < piece.begin:
             break
         if speed == 0:
             last = cell

@@ -62,6 +62,7 @@ class Watched:
     closure: Closure
     streets: Streets
     pace: Sequence[float]  # seconds a cell on each link, alone on the road
+    upstream: Sequence[Closure] = ()  # other works on the lane, which begin before these
     coming: dict[int, Coming] = field(default_factory=dict)  # by car
     beyond: set[int] | None = None  # cars on the link past the works' begin; None before the first look
     standing: dict[tuple[int, int, int], int] = field(default_factory=dict)  # car, lane, cell: since
@@ -72,11 +73,21 @@ class Watched:
     left: int | None = None  # the clock at which the queue first left the network
     last: int | None = None  # look
 
-    def further(self, lanes: Mapping[Place, Lane]) -> list[int]:
-        """The links upstream whose lanes must be looked at too, by what the lanes so far show; empty where the queue
-        does not reach them, or MOST_LINKS are looked at."""
+    def reach(self, clock: int, lanes: Mapping[Place, Lane]) -> Reach:
+        """The queue before the works at a clock, by what lanes show; who stands before other works upstream on the lane
+        belongs to their queue alone."""
+        return reach_of(lanes, self.streets, self.closure.link, self.closure.first, self.begin(clock))
+
+    def begin(self, clock: int) -> int:
+        """The cell of the link from which on vehicles stand before these works at a clock: where the last works before
+        them on the lane begin; 0 where there are none."""
+        return max((one.first for one in self.upstream if one.begin < clock <= one.end), default=0)
+
+    def further(self, clock: int, lanes: Mapping[Place, Lane]) -> list[int]:
+        """The links upstream whose lanes must be looked at too at a clock, by what the lanes so far show; empty where
+        the queue does not reach them, or MOST_LINKS are looked at."""
         known = {link for link, _ in lanes}
-        reach = reach_of(lanes, self.streets, self.closure.link, self.closure.first)
+        reach = self.reach(clock, lanes)
         feeders = [feeder for link in reach.full for feeder in self.streets.before.get(link, ())]
         room = MOST_LINKS + 1 - len(known)
         return [one for one in dict.fromkeys(feeders) if one not in known][:room] if reach.vehicles else []
@@ -86,7 +97,7 @@ class Watched:
         whether a car has a link in its plan."""
         self.note_passing(clock, lanes, bound)
         self.note_standing(clock, lanes)
-        self.note_queue(clock, reach_of(lanes, self.streets, self.closure.link, self.closure.first))
+        self.note_queue(clock, self.reach(clock, lanes))
         self.last = clock
 
     def note_passing(self, clock: int, lanes: Mapping[Place, Lane], bound: Bound) -> None:
@@ -126,12 +137,12 @@ class Watched:
 
     def note_standing(self, clock: int, lanes: Mapping[Place, Lane]) -> None:
         """Notes who stands before the works on their link, and for how long."""
-        link, first = self.closure.link, self.closure.first
+        link, begin, first = self.closure.link, self.begin(clock), self.closure.first
         now = [
             (car, lane, cell)
             for (other, lane), reply in lanes.items()
             for car, cell, speed, *_ in reply.cells
-            if other == link and cell < first and speed == 0
+            if other == link and begin <= cell < first and speed == 0
         ]
         self.standing = {key: self.standing.get(key, clock) for key in now}
         self.stands.append(Stand(clock, max((clock - since for since in self.standing.values()), default=0)))
