@@ -125,7 +125,8 @@ class Scenario(Running):
     def divert(self, edge: str, until: float) -> list[str]:
         """Has vehicles on the road, and those that have not departed, take the shortest way round an edge that is shut,
         if they would come there before the second until. One on the road is taken out and entered anew, with another
-        number, where its new way begins. Gives the names of those for whom there is a way."""
+        number, where its new way begins. Gives the names of those for whom there is a way. ValueError for an until that
+        is over."""
         self.refuse_past(until)
         return self.detours.begin(edge, until)
 
@@ -187,13 +188,13 @@ class Vehicle(Part, VehicleCalls[Scenario]):
     """Calls on vehicles of the file and of the script. KeyError for a name that neither has."""
     def add(self, name: str, route: str, depart: float | None = None, size: int = 1) -> None:
         """Adds a vehicle of size cells (1 to 4) on a route that route.add named; it departs at depart seconds, rounded
-        up (None: now). ValueError where its name is taken."""
+        up (None: now). ValueError where its name is taken, KeyError where the route was not named."""
         plan = self.scenario.routes[route]
         clock = self.scenario.clock if depart is None else max(0, -int(-depart // 1))
         self.scenario.add(name, plan, self.scenario.connections.departure_lane(plan), clock, size)
 
     def remove(self, name: str) -> None:
-        """Takes a vehicle out, wherever it is."""
+        """Takes a vehicle out, wherever it is; Gone where it has ended."""
         self.scenario.client.takeout(self.scenario.fleet.cars[name])
 
     def getIDList(self) -> tuple[str, ...]:

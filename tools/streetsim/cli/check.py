@@ -56,7 +56,8 @@ def main(arguments: list[str]) -> int:
 
 
 def check_page(words: argparse.Namespace) -> int:
-    """Checks a sealed page; gives the status as `main` does. Fault where it is not sealed, or its seal was changed."""
+    """Checks a sealed page, and prints the result; gives the status as `main` does. Fault where it is not sealed, or
+    its seal was changed."""
     with reading(words.target), open_text(words.target) as file:
         text = file.read()
     seal = seal_of(words.target, text)
@@ -135,7 +136,7 @@ def made_again(words: argparse.Namespace, seal: Seal, place: str) -> str:
 
 
 def check_folder(words: argparse.Namespace, study: bool) -> int:
-    """Checks a folder of a run, or of a study; gives the status as `main` does."""
+    """Checks a folder of a run, or of a study, and prints the result; gives the status as `main` does."""
     counts = Compared()
     with tempfile.TemporaryDirectory() as place, Slow(f"running again what made {words.target}"):
         with contextlib.redirect_stdout(io.StringIO()), contextlib.redirect_stderr(io.StringIO()):

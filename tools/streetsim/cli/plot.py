@@ -72,7 +72,7 @@ def parser() -> Parser:
 
 
 def dawdles(text: str) -> list[int]:
-    """One to six chances of dawdling, 0 to 1,000 of 1,000, with commas between; argparse's error otherwise."""
+    """One to six chances of dawdling, 0 to 1,000 of 1,000, with commas between; ArgumentTypeError otherwise."""
     values = [within(0, 1000)(part) for part in text.split(",")]
     if len(values) > len(MARKERS):
         raise argparse.ArgumentTypeError(f"at most {len(MARKERS)} of them")

@@ -139,8 +139,8 @@ def add_works(made: argparse.ArgumentParser) -> None:
 
 
 def shares_of(text: str) -> list[float]:
-    """The shares, 0 to 1, of a list with commas, in its order; what comes again is left out. argparse's error where one
-    is no share."""
+    """The shares, 0 to 1, of a list with commas, in its order; what comes again is left out. ArgumentTypeError where
+    one is no share."""
     return list(dict.fromkeys(map(share_of, listed(text))))
 
 

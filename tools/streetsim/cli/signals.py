@@ -286,8 +286,8 @@ def search_seeds(words: argparse.Namespace, runner: Runner, tried: Sequence[int]
 def searched(
     words: argparse.Namespace, runner: Runner, changed: Sequence[str], cycles: range, seeds: Sequence[int]
 ) -> tuple[Search, bool]:
-    """Searches; gives (search when it has ended, whether the user ended it by Ctrl-C). changed, cycles: as `changes_of`
-    gives them; seeds: of the search."""
+    """Searches for a plan; gives (search when it has ended, whether the user ended it by Ctrl-C). changed, cycles: as
+    `changes_of` gives them; seeds: of the search."""
     town, meanwhile = runner.town, Meanwhile("simulations", words.budget)
     streets = streets_of(town.run, town.mapping, town.lights)
     with Stopping() as stopping:

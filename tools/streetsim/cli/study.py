@@ -47,7 +47,7 @@ def parser() -> Parser:
 
 
 def percent(text: str) -> float:
-    """A percentage above 0 and at most 100, of a text; argparse's error otherwise."""
+    """A percentage above 0 and at most 100, of a text; ArgumentTypeError otherwise."""
     try:
         value = float(text)
     except ValueError:
@@ -94,7 +94,7 @@ def write_made(words: argparse.Namespace, given: list[str], folder: str) -> None
 
 
 def run_all(words: argparse.Namespace, study: Study) -> dict[str, list[Outcome]]:
-    """What each variant gives with each seed, {variant: outcomes in the order of the seeds}."""
+    """Runs each variant with each seed; gives {variant: outcomes in the order of the seeds}."""
     sessions = [variant.session for variant in study.variants.values()]
     total = len(study.variants) * len(study.seeds)
     meanwhile = Meanwhile("runs", total)

@@ -59,8 +59,8 @@ class Names:
         return f"{street}, {self.came(edge)}" if street else self.came(edge)
 
     def movement(self, edge: str, to: str) -> str:
-        """What the movement from an edge to the next is called: 'Hill Street into Market Street, from the north'; by
-        directions where a street has no name."""
+        """What the movement from an edge to the next is called: 'Hill Street into Market Street, from the north', or
+        'along Hill Street, from the north to the south'; by directions where a street has no name."""
         street, following = self.street(edge), self.street(to)
         if street and street == following:
             return f"along {street}, {self.came(edge)} {self.goes(to)}"

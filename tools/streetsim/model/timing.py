@@ -55,8 +55,8 @@ class Timing:
                 yield one, other
 
     def clashes(self) -> Iterator[tuple[Movement, Movement, int]]:
-        """The pairs of `pairs` that have main greens (G) on conflicting places together, and for how many seconds of
-        the cycle."""
+        """(movement, other, seconds of the cycle) for those of `pairs` that have main greens (G) on conflicting places
+        together, and for how long."""
         states = self.states()
         for one, other in self.pairs():
             both = [

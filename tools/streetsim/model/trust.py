@@ -181,8 +181,8 @@ def of_actuated(clock: int, run: Run, mapping: Map, lights: Sequence[str]) -> It
 
 
 def of_crowded(vehicles: int, crowded: Mapping[str, int]) -> Iterator[str]:
-    """A doubt where streets that give way without a light and are nearly full are passed, all together, more often than
-    a tenth of the vehicles is many. vehicles: how many there are; crowded: {edge: how many pass it then}."""
+    """A doubt where streets that give way without a light were nearly full, and were passed then more than a tenth as
+    often as there are vehicles. vehicles: how many there are; crowded: {edge: how many pass it then}."""
     if (count := sum(crowded.values())) > MOST_CROWDED * vehicles:
         most = ", ".join(sorted(crowded, key=lambda edge: (-crowded[edge], edge))[:NAMED])
         yield (

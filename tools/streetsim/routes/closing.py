@@ -43,9 +43,9 @@ class Closing:
 def shut_edges(
     works: Iterable[Works], graph: Graph, mapping: Map, dawdle: float
 ) -> dict[int, list[tuple[float, float]]]:
-    """By the number of an edge in the graph, the (first, last) seconds in which it is not to be entered: while all its
-    lanes are closed, and so shortly before that one would not come past the works. dawdle: the chance, 0 to 1, to go on
-    by a cell less."""
+    """{number of an edge in the graph: the (first, last) seconds in which it is not to be entered}: while all its lanes
+    are closed, and so shortly before that one would not come past the works. dawdle: the chance, 0 to 1, to go on by a
+    cell less."""
     driving, links = FreeFlow(mapping, dawdle).driving, shut_links(sites_of(works, mapping), mapping)
     found = {}
     for edge in dict.fromkeys(mapping.links[link].edge for link in links):
@@ -59,8 +59,8 @@ def shut_edges(
 
 
 def barred_ways(works: Iterable[Works], graph: Graph, mapping: Map) -> dict[tuple[int, int], list[Times]]:
-    """The (first, last) seconds in which works have closed the only lanes of a movement, by its two edges' numbers in
-    the graph."""
+    """{(edge, next edge), by numbers in the graph: the (first, last) seconds in which works have closed the only lanes
+    of this movement}."""
     lost = lost_ways(closed_ends(closures_at(sites_of(works, mapping)), mapping), mapping)
     return {(graph.number[edge], graph.number[after]): list(times) for (edge, after), times in lost.items()}
 

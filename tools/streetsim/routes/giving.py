@@ -10,8 +10,8 @@ Passed = dict[tuple[str, int], list[tuple[float, str]]]  # by edge and lane, as 
 
 
 def named(found: Mapping[tuple[int, int], Sequence[tuple[float, int]]], mapping: Map) -> Passed:
-    """When vehicles passed which stop line, with names in place of the map's numbers, as another import may number
-    links otherwise. found: {(link, lane): [(second, next link)]}."""
+    """{(edge, lane): [(second, next edge)]}: when vehicles passed which stop line, with names in place of the map's
+    numbers, as another import may number links otherwise. found: {(link, lane): [(second, next link)]}."""
     links = mapping.links
     return {
         (links[link].edge, links[link].lanes[lane]): [(second, links[following].edge) for second, following in each]

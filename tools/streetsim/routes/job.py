@@ -93,7 +93,8 @@ def found_routes(job: Job, workers: Team, stopping: Stopping) -> list[Diverted]:
 
 
 def write(job: Job, all_: Sequence[Diverted]) -> None:
-    """Writes all files of what was found; the folder of tables is written whole or not at all."""
+    """Writes the routes, the run with its map where they are asked for, and the folder of tables and pictures, whole or
+    not at all; where there are many shares, routes, runs and tables of each."""
     target, many = job.target, len(all_) > 2
     for one in all_[len(all_) > 1 :]:
         write_routes(placed(target.routes, one.share, many), Trips(list(one.trips), job.trips.types), job.town.graph)

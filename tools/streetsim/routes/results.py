@@ -78,9 +78,9 @@ def movement_rows(town: Town, judged: Judged, width: int) -> Iterator[tuple]:
 
 
 def trip_rows(trips: Sequence[Trip], judged: Judged) -> Iterator[tuple]:
-    """The rows of trips.csv: each trip's mean seconds over the check runs (empty where it did not arrive in all of
-    them), and the seconds of its way and of the shortest way by the costs of these runs (empty where its way was not
-    searched)."""
+    """The rows of trips.csv, as TRIPS has the columns: each trip's mean seconds over the check runs (empty where it did
+    not arrive in all of them), and the seconds of its way and of the shortest way by the costs of these runs (empty
+    where its way was not searched)."""
     searched = {one.trip: one for one in judged.found}
     for at, trip in enumerate(trips):
         ends = [end for one in judged.outcomes if (end := one.ends[at]) is not None]

@@ -220,7 +220,7 @@ class Search:
 
     def judged(self, seeds: Sequence[int]) -> Judged:
         """What the present ways are worth, by runs with seeds that the search did not see; each run finds its own gaps
-        for those who give way."""
+        for those who give way. The trips' mean entries are noted."""
         loaded = self.town.loaded(self.trips)
         outcomes = self.team.checks(loaded, self.expected or flat_costs(self.town.graph, loaded.free), seeds)
         costs = self.noted(loaded, outcomes)

@@ -66,7 +66,7 @@ class WaysRound:
         times: tuple[float, float],
         seed: int,
     ) -> dict[str, Path]:
-        """The new plans, by name, of vehicles that would come to the edges in shut within times (first and last
+        """{name: new plan, by links} of the vehicles that would come to the edges in shut within times (first and last
         second). Vehicles that begin or end there, drive a round, or have no way round are left out. vehicles: all that
         count for the volumes; signals: the signal commands in force."""
         free = free_seconds(self.graph, self.by_link, signals, self.dawdle)

@@ -71,8 +71,8 @@ class Target:
 
 
 def write_found(target: Target, town: Town, search: Search, rows: Sequence[Compared], doubts: Sequence[str]) -> None:
-    """Writes the plan, the tables and the pictures, or nothing where one cannot be written. rows: of before-after.csv;
-    doubts: why the result is not to be trusted, empty where it is."""
+    """Writes the plan to its file, and the tables and pictures into the folder of the target, or nothing where one
+    cannot be written. rows: of before-after.csv; doubts: why the result is not to be trusted, empty where it is."""
     plan = search.best[1]
     with whole_folder(target.folder, LAST, ("before.png", "after.png")) as folder:
         told = [(name, *(f"{value:.3f}" for value in values), runs) for name, *values, runs in rows]

@@ -130,7 +130,8 @@ class PlaceCalls(Calls[Simulated]):
         raise NotImplementedError
 
     def speed_of_nobody(self, _name: str) -> float:
-        """The mean speed where there is nobody, metres a second."""
+        """What is told as the mean speed, metres a second, where there is nobody: -1, but in domains that have their
+        own."""
         return -1.0
 
     def getLastStepVehicleIDs(self, name: str) -> tuple[str, ...]:

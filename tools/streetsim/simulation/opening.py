@@ -23,8 +23,9 @@ PERIOD = 900  # seconds of the rows of edgeData without a period
 
 
 def open_session(words: Sequence[str]) -> Session:
-    """Opens a session, by the words of SUMO's command line without SUMO's name; FatalTraCIError or Fault where that
-    cannot be done."""
+    """Opens a session by the words of SUMO's command line without SUMO's name: imports the files that they name, tells
+    on standard error what differs from SUMO, and starts the program. FatalTraCIError or Fault where that cannot be
+    done."""
     options = options_of([*words])
     with TemporaryDirectory() as folder:
         return opened(Path(folder), options)

@@ -114,7 +114,7 @@ class Session(Simulation):
             loop.note(self.view, self.clock)
 
     def router(self) -> Ways:
-        """The search for shortest ways, by the travel times at each clock."""
+        """The search for shortest ways, by the travel times at each clock; each step is looked at from now on."""
         self.follow()
         if self.ways is None:
             self.ways = Ways(self, self.inside, self.view)
@@ -144,8 +144,8 @@ class Session(Simulation):
             self.expect(name, command["depart"])
 
     def add(self, name: str, plan: Sequence[int], depart: int, size: int) -> None:
-        """Adds a vehicle of a script. plan: links; depart: clock; size: cells. TraCIException where its name is
-        taken."""
+        """Adds a vehicle of a script. plan: numbers of links; depart: clock; size: cells. TraCIException where its name
+        is taken."""
         self.refuse_second(name)
         self.enter(name, plan, self.connections.departure_lane(plan), depart, size)
         self.loaded.append(name)

@@ -52,8 +52,9 @@ class Shown:
     def program(
         self, light: str, phases: Sequence[tuple[float, str]], offset: float, clock: int
     ) -> tuple[list[Command], list[str]]:
-        """(commands that show a cycle of (seconds, state) at a light from a clock on; warnings). offset: as in a
-        tlLogic, seconds. Of permissive greens the usual share is shown, as flows are not known here."""
+        """(commands that show a cycle of (seconds, state) at a light from a clock on; warnings). What was still to be
+        sent for the light is forgotten. offset: as in a tlLogic, seconds. Of permissive greens the usual share is
+        shown, as flows are not known here."""
         report, commands, coming = Report(), [], {}
         for node in self.nodes(light):
             own = self.own(light, node, phases, offset, report)
@@ -77,7 +78,7 @@ class Shown:
 
     def constant(self, light: str, state: str, begin: float) -> list[Command]:
         """The commands that show a state without permissive greens, in one phase from the clock begin on, until another
-        is sent."""
+        is sent. What was still to be sent for the light is forgotten."""
         self.forget(light)
         commands = []
         for node in self.nodes(light):

@@ -120,7 +120,7 @@ class Simulation:
         self.shown.signals.update({command["node"]: command for command in commands})
 
     def show_driven(self, commands: Iterable[Command]) -> None:
-        """Sends commands of lights that detectors drive: detectors, and signals."""
+        """Sends commands of lights that detectors drive: detectors, and signals, which are then in force."""
         for command in commands:
             self.tell(command)
             if command["cmd"] == "signal":
