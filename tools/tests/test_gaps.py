@@ -256,17 +256,26 @@ class Stays(Case):
         return network.residences[network.nodes.index("X")]
 
     def test_who_enters_and_leaves_a_roundabout_turns(self):
-        # 2.3 s are lost in a turn, in whole seconds and beside the one that each junction takes.
-        self.assertEqual([self.stay([way]) for way in ("s after", "before t", "before after")], [3, 3, 1])
+        # 2.3 s are lost in a turn, in whole seconds and beside the one that each junction takes. The ring's edge takes
+        # 2.2 s in SUMO and 2 cells at 1.83 a second here, 1.1 s less, which are lost behind it.
+        self.assertEqual([self.stay([way]) for way in ("s after", "before t", "before after")], [3, 4, 2])
 
     def test_a_junction_of_a_roundabout_takes_the_mean_of_its_vehicles(self):
-        # One of two loses 2.3 s: 1.15; one of five: 0.46. The others' edge takes 0.25 s longer than in SUMO.
-        self.assertEqual(self.stay(["s after", "before after"]), 2)
-        self.assertEqual(self.stay(["s after", *["before after"] * 4]), 1)
+        # One loses 2.3 s, and the others 1.1 s each: with one of these 1.7 on average, with eight of them 1.2.
+        self.assertEqual(self.stay(["s after", "before after"]), 3)
+        self.assertEqual(self.stay(["s after", *["before after"] * 8]), 2)
 
-    def test_what_an_edge_of_a_ring_takes_longer_here_is_made_up_for(self):
-        # 36 m at 8.33 m/s take 4.3 s in SUMO; here 5 cells at 0.83 a second take 6.0 s, 1.7 of the 2.3 s that are lost.
-        self.assertEqual([self.stay([way], metres=36.0) for way in ("s after", "before t", "before after")], [3, 2, 1])
+    def test_what_an_edge_of_a_ring_takes_less_here_is_made_up_for(self):
+        # 36 m at 8.33 m/s take 4.3 s in SUMO; here 5 cells at 1.83 a second take 2.7 s.
+        self.assertEqual([self.stay([way], metres=36.0) for way in ("s after", "before t", "before after")], [3, 5, 3])
+
+    def test_a_ring_has_two_cells_a_step_at_least(self):
+        net = self.write("x.net.xml", ring_junction('<roundabout nodes="X" edges="before after"/>', 18.0))
+        network, *_ = convert(net, [], [], Options(), Report())
+        self.assertEqual([network.links[network.links_of[name][0]].limit for name in ("before", "after", "s")], [2] * 3)
+        alone = self.write("y.net.xml", ring_junction("", 18.0))
+        network, *_ = convert(alone, [], [], Options(), Report())
+        self.assertEqual([network.links[network.links_of[name][0]].limit for name in ("before", "s")], [1, 2])
 
     def test_without_a_roundabout_two_streets_meet(self):
         self.assertEqual(self.stay(["s after"], ""), 1)

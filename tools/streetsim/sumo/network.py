@@ -20,7 +20,7 @@ Targets = Mapping[LaneKey, set[str]]  # the next edges to which a lane leads
 
 OTHER_SPEED = 0.1  # of a lane's speed, by which a limit may be off
 FREE_LIMITS = range(1, limits.LIMIT + 1)  # cells a step
-SLOW = FREE_LIMITS[1:]  # of a part with a lower limit: where all go on by one cell a step a lane passes 1,050 an hour
+SLOW = FREE_LIMITS[1:]  # of slow parts and of rings: where all go on by one cell a step a lane passes 1,050 an hour
 MISSING_TURN = 0.5  # what a change between parallel links costs that SUMO has no connection for
 WRONG_LANE = 100.0  # the same from lanes that do not lead to an edge to which others wait for a gap
 AT_CUT = 1.5  # seconds that a vehicle alone loses between two parts of an edge; the first has fewer cells for it
@@ -405,7 +405,8 @@ def link_of(
     edge: Edge, lanes: Sequence[Lane], number: Mapping[str, int], options: Options, in_ring: bool
 ) -> Link:
     """The link of some lanes of an edge; number: of each junction's node; in_ring: the edge is in a roundabout."""
-    limit, cells = limit_and_cells(lanes[0], options.dawdle / 1000, in_ring, SLOW if edge.is_slow else FREE_LIMITS)
+    free_limits = SLOW if edge.is_slow or in_ring else FREE_LIMITS
+    limit, cells = limit_and_cells(lanes[0], options.dawdle / 1000, in_ring, free_limits)
     if edge.is_cut:
         cells = max(1, cells - round(AT_CUT * (limit - options.dawdle / 1000)))
     return Link(
