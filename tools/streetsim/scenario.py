@@ -51,7 +51,8 @@ class Scenario(Running):
         joint: Iterable[str] = (), rounds: int = ROUNDS,
     ) -> None:  # fmt: skip
         """run, mapping: paths; program: None: the usual one; workers: threads of the program; joint: edges or lanes to
-        be closed later; rounds: runs that are made before, by which vehicles give way."""
+        be closed later; rounds: runs that are made before, by which vehicles give way. Warns (Python's warnings) of
+        lights and stops that are other than in SUMO."""
         source, read, _ = with_works(*read_with_map(run, mapping), mapping, [], Asking(tuple(joint)))
         super().__init__(source, read, rounds, program, workers)
         for told in filter(None, (*self.driving.lights.notes(), why_unmade(len(self.map.visits)))):

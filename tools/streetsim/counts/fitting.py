@@ -107,8 +107,9 @@ class Expecting:
 
     def without_matrix(self, passing: Any, counted: Any) -> Any:
         """The vehicles of each way and slice, ways first, as an array, by counts alone: at first by the habit of
-        drivers, and by what ends outside have more, that fit the counts best; then half by what begins and ends at each
-        place, and half by what the counts have shown of each way. passing, counted: as `Problem` has them."""
+        drivers (whose shares are then kept in `share`), and by what ends outside have more, that fit the counts best;
+        then half by what begins and ends at each place, and half by what the counts have shown of each way. passing,
+        counted: as `Problem` has them."""
         numpy, _ = needed()
         deviation = deviations(counted, self.error)
         if all(way.weight for way in self.ways):

@@ -140,14 +140,14 @@ class Traces:
         return self.sums
 
     def begin(self, car: int) -> Last:
-        """Takes a vehicle of the run file at its departure."""
+        """Begins the trail of a vehicle of the run file at its departure, and gives where it is then."""
         one = self.driven[car]
         self.trails[car] = [self.mapping.links[one.plan[0]].edge]
         return Last(one.depart, one.plan[0])
 
     def go_on(self, car: int, before: Last | None, clock: float, link: int) -> Last:
-        """Takes a vehicle that is seen on a link at a clock: it has passed all links since it was seen before (none: it
-        is seen for the first time)."""
+        """Counts what a vehicle has passed that is seen on a link at a clock, and gives where it is now: it has passed
+        all links since it was seen before (none: it is seen for the first time)."""
         if car < len(self.driven):
             plan, before = self.driven[car].plan, before or self.begin(car)
             if link in plan[before.place :]:
@@ -172,8 +172,8 @@ class Traces:
                 self.add(car, tuple(trail[-size:]), clock)
 
     def end(self, car: int, before: Last, clock: float) -> None:
-        """Takes a vehicle that is gone by a clock: it has arrived on the edge where it was seen, or further on in its
-        plan; one that was rescued or did not arrive counts no more."""
+        """Counts what a vehicle has passed that is gone by a clock, and forgets it: it has arrived on the edge where it
+        was seen, or further on in its plan; one that was rescued or did not arrive counts no more."""
         arrival = self.driven[car].arrival if car < len(self.driven) else (before.clock + clock) / 2
         if arrival is not None:
             if car < len(self.driven):

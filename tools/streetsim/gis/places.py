@@ -9,8 +9,8 @@ Places = Callable[[Iterable], list]
 
 def places_of(location: dict, projection: str | None, path: str) -> Places:
     """A function that converts points (x, y) in a network's metres to (longitude, latitude) in degrees; Fault where no
-    projection is known. location: of the map; projection: what the user says, in place of the map's own, or none; path:
-    for faults."""
+    projection is known, or pyproj is not installed. location: of the map; projection: what the user says, in place of
+    the map's own, or none; path: for faults."""
     try:
         from pyproj import CRS, Transformer
         from pyproj.exceptions import CRSError
@@ -34,7 +34,7 @@ def places_of(location: dict, projection: str | None, path: str) -> Places:
     x, y = location.get("offset", (0.0, 0.0))
 
     def converted(points: Iterable) -> list:
-        """Points (x, y) in metres as [longitude, latitude] in degrees."""
+        """Points (x, y) in metres as [longitude, latitude] in degrees; Fault where one is nowhere on Earth."""
         xs, ys = zip(*points, strict=True)
         found = zip(*to_earth.transform([value - x for value in xs], [value - y for value in ys]), strict=True)
         return [on_earth(place, path, told) for place in found]

@@ -96,7 +96,7 @@ class Summary(XmlFile):
         self.loaded = self.inserted = self.arrived = self.delays = self.durations = self.teleports = 0
 
     def step(self, second: Second) -> None:
-        """Writes the row of a second."""
+        """Adds a second to the sums, and writes its row."""
         self.loaded = bisect_right(self.wished, second.time)
         self.count(second)
         speeds = [self.places.speed(at) for at in second.here.values()]
@@ -121,7 +121,7 @@ class Summary(XmlFile):
         self.file.write(f"    <step {row}/>\n")
 
     def count(self, second: Second) -> None:
-        """Adds those who departed, arrived and were taken out in a second."""
+        """Adds to the sums those who departed, arrived and were taken out in a second."""
         self.inserted += len(second.departed)
         self.delays += sum(second.trips[car].depart - second.trips[car].wished for car in second.departed)
         self.arrived += len(second.arrived)
@@ -177,7 +177,7 @@ class Queue(XmlFile):
         self.standing: dict[int, int] = {}  # car: seconds
 
     def step(self, second: Second) -> None:
-        """Writes the lanes with vehicles that stand in a second."""
+        """Adds a second to the time of those who stand, and writes the lanes on which any do."""
         cars = [(car, at) for car, at in second.here.items() if at.cell is not None and not at.speed]
         self.standing = {car: self.standing.get(car, 0) + 1 for car, _ in cars}
         lengths: dict[Place, float] = {}

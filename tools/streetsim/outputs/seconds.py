@@ -80,8 +80,9 @@ class Follower:
         self.expected[car] = name, wished, kind
 
     def see(self, clock: int, lanes: Iterable[Sequence[Any]], arrived: Iterable[int]) -> Second:
-        """The second that ends at a clock; called for every second, rising. lanes: [link, lane, cells, cars in the
-        buffer, ..] as a folder's polls have them, empty lanes left out; arrived: the cars that arrived in it."""
+        """Takes the second that ends at a clock, and gives what it shows; called for every second, rising. lanes:
+        [link, lane, cells, cars in the buffer, ..] as a folder's polls have them, empty lanes left out; arrived: the
+        cars that arrived in it."""
         second = Second(clock, self.trips, before=self.before)
         for link, lane, cells, buffer, *_ in lanes:
             for entry in cells:
@@ -99,8 +100,8 @@ class Follower:
         return second
 
     def in_junction(self, car: int, link: int, lane: int, clock: int) -> At:
-        """Where a vehicle in the buffer of a lane is: it drives, at a cell a second, for as long as the junction takes
-        at least, and then stands."""
+        """Where a vehicle in the buffer of a lane is; notes since when. It drives, at a cell a second, for as long as
+        the junction takes at least, and then stands."""
         last = self.before.get(car)
         if last is None or last.cell is not None or last.link != link:
             self.entered_at[car] = clock
@@ -109,7 +110,8 @@ class Follower:
         return At(link, lane, None, 1.0 if driving else 0.0, last.size if last else 1)
 
     def follow(self, second: Second, car: int, at: At) -> None:
-        """Notes in `second` what a vehicle did since the second before; at: where it is now."""
+        """Begins the trip of a vehicle, or goes on with it, and notes in `second` what it did since the second before;
+        at: where it is now."""
         last, trip = self.before.get(car), self.trips.get(car)
         if trip is None:
             name, wished, kind = self.expected.get(car, (f"#{car}", second.clock - 1, "DEFAULT_VEHTYPE"))

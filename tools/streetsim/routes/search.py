@@ -136,7 +136,7 @@ class Search:
                 raise no_way(self.town.graph, lost[0])
 
     def improve(self, asked: Asked) -> None:
-        """Searches; the trips then have the ways of the best iteration."""
+        """Searches, and keeps each iteration and the best one; the trips then have the ways of the best."""
         share = asked.share
         steps: list[list[Found]] = [[]]
         for number in range(asked.iterations + 1):
@@ -163,9 +163,10 @@ class Search:
         give(self.trips, self.best.ways)
 
     def best_of(self, seeds: Sequence[int], steps: Sequence[Sequence[Found]]) -> tuple[Seen, int]:
-        """Runs the present ways with each of some steps (lists of trips that change), side by side; gives what the best
-        step showed, and its place. The trips then have its ways. Who gives way without a light waits for those who
-        passed in the iteration before; in the first iteration for those who passed in a run in which nobody waits."""
+        """Runs the present ways with each of some steps (lists of trips that change), side by side; gives (what the
+        best step showed, its place). The trips then have its ways, and its costs and passings are kept for the next.
+        Who gives way without a light waits for those who passed in the iteration before; in the first iteration for
+        those who passed in a run in which nobody waits."""
         ways = [paths_after(self.trips, step) for step in steps]
         loads = [self.loaded(paths) for paths in ways]
         expected = self.expected or flat_costs(self.town.graph, loads[0].free)

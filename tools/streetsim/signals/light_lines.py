@@ -70,7 +70,8 @@ class LightLines:
         return b"".join(lines)
 
     def phases(self, name: str, node: int, timing: Timing, light: Light) -> bytes:
-        """The phases of a light at one of its nodes, as the JSON of a signal line's "phases"."""
+        """The phases of a light at one of its nodes, as the JSON of a signal line's "phases". Puts the program into
+        self.net, and the light into self.permissive where some must find gaps in its greens."""
         program = Program(0.0, list(zip(timing.durations, light.states, strict=True)), "static")
         self.net.programs[name] = program
         junction, permissive = self.mapping.nodes[node][0], self.mapping.options["permissive"]

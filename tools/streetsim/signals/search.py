@@ -56,9 +56,9 @@ class Search:
         return self.trials[-1].simulations if self.trials else 0
 
     def values(self, steps: Sequence[tuple[str, Any]]) -> list[float]:
-        """The values of plans, in their order; steps: (what was tried, plan). A plan that was seen before costs
-        nothing. Raises Ended where the budget does not reach for all of them, after those that it does reach for, or
-        where the user ends it."""
+        """The values of plans, in their order; steps: (what was tried, plan). Those that are new are run, noted and
+        told; a plan that was seen before costs nothing. Raises Ended where the budget does not reach for all of them,
+        after those that it does reach for, or where the user ends it."""
         new: dict[Any, tuple[str, Any]] = {}
         for step, plan in steps:
             if self.key_of(plan) not in self.seen:
@@ -154,7 +154,8 @@ def climb_splits(search: Search, plan: Plan, lights: Mapping[str, Light], order:
 
 def climb(search: Search, plan: Tried, step: str, change: Callable[[Tried, int], Tried | None]) -> Tried:
     """Makes a change (sign 1) again and again as long as the value falls; where the first does not help, its contrary
-    (sign -1). Gives the best plan. step: its name in search.csv; change: gives None where it cannot be made."""
+    (sign -1). Gives the best plan; raises Ended as Search.values does. step: its name in search.csv; change: gives None
+    where it cannot be made."""
     best = search.cost(step, plan)
     for sign in (1, -1):
         went = False

@@ -68,7 +68,7 @@ class Facts:
     unwritten: list[str] = field(default_factory=list)
 
     def read_edge(self, path: str, element: Element) -> None:
-        """Takes the lanes of an edge; of lanes inside a junction the metres alone."""
+        """Notes the lanes of an edge; of lanes inside a junction the metres alone."""
         edge = attribute(path, element, "id")
         for lane in element.iter("lane"):
             name, metres = attribute(path, lane, "id"), attribute(path, lane, "length", number)
@@ -81,7 +81,7 @@ class Facts:
             self.streets[edge] = element.get("name") or ""
 
     def read_connection(self, element: Element) -> None:
-        """Takes a connection from a lane to a next one; of one inside a junction, on which lane it goes on."""
+        """Notes a connection from a lane to a next one; of one inside a junction, on which lane it goes on."""
         source, target = (
             f"{element.get(edge)}_{element.get(lane)}" for edge, lane in (("from", "fromLane"), ("to", "toLane"))
         )
@@ -98,7 +98,7 @@ class Facts:
         return metres + self.metres_inside(self.onward[via]) if via in self.onward else metres
 
     def read_light(self, path: str, element: Element) -> None:
-        """Takes a program of a light; the last one of a light is the one that runs, the others can be chosen. One
+        """Notes a program of a light; the last one of a light is the one that runs, the others can be chosen. One
         without phases is passed over."""
         phases = [
             (attribute(path, one, "duration", seconds), attribute(path, one, "state")) for one in element.iter("phase")

@@ -56,7 +56,7 @@ class View:
             self.note_missed()
 
     def note_lane(self, place: tuple[int, int], reply: Lane) -> None:
-        """Takes the reply on one lane."""
+        """Notes where the vehicles are that the reply on one lane (link, lane) tells of."""
         self.places.update({car: Place(*place, cell, speed) for car, cell, speed, *_ in reply.cells})
         self.places.update({car: Place(*place, None, speed) for car, speed, *_ in reply.buffer})
         self.on_lane[place] = [entry[0] for entry in reply.cells]
@@ -102,8 +102,8 @@ class View:
         return [car for car in self.to_depart() if departs[car] < clock]
 
     def rename(self, car: int, new: int, place: Place) -> None:
-        """Notes that a vehicle at a node (place) goes on under the number new, and counts as there until it is seen
-        again."""
+        """Notes that a vehicle at a node (place) goes on under the number new, and counts as there, standing, until it
+        is seen again."""
         self.seen.add(new)
         self.places.pop(car)
         self.places[new] = self.held[new] = Place(place.link, place.lane, None, 0)
