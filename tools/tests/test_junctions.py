@@ -223,6 +223,14 @@ class ByHand(unittest.TestCase):
         self.assertEqual([one.clock for one in self.measures.crossings], [8, 10])
         self.assertEqual(self.measures.interval(0, 9).lost["a", "b"].vehicles, 1)
 
+    def test_an_edge_that_stands_twice_in_a_plan(self):
+        """Each passage is judged by what follows there: the first goes on to b, the second ends on the edge."""
+        on = [[[0, 0, [[0, 5, 2]], []]], [[0, 0, [], [0]]], [[1, 0, [[0, 2, 2]], []]]]
+        seen = passages([*enumerate(on, 1), (4, [[0, 0, [[0, 3, 2]], []]]), (5, [[0, 0, [], [0]]])])
+        self.assertEqual(len(seen.done), 2)
+        found = Measures(self.mapping, self.approaches, [[0, SIGNAL]], 0, [[0, 1, 0]], seen)
+        self.assertEqual([(one.movement, one.clock) for one in found.crossings], [(("a", "b"), 3)])
+
     def test_who_departs_stands_without_a_stop(self):
         frames = [(1, [[0, 0, [[0, 0, 0]], []]]), (2, [[0, 0, [[0, 1, 1]], []]]), (3, [[0, 0, [], [0]]])]
         [passage] = passages(frames).done

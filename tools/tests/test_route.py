@@ -146,7 +146,8 @@ class Seconds(unittest.TestCase):
         found = [Found(at, (0,), 100.0, 100.0 + gain) for at, gain in enumerate((0, 40, 0.4, 10, 20))]
         self.assertEqual([one.trip for one in changes(found, 0.4)], [1, 4])
         self.assertEqual([one.trip for one in changes(found, 1.0)], [1, 3, 4])
-        self.assertEqual([[one.trip for one in step] for step in steps_of(found, 0.8, 4)], [[1, 3, 4], [1, 4], [1]])
+        steps = [[one.trip for one in step.trips] for step in steps_of(found, 0.8, 4)]
+        self.assertEqual(steps, [[1, 3, 4], [1, 4], [1]])
         self.assertAlmostEqual(gap_of(found), 70.4 / 500)
         self.assertEqual(gap_of([]), 0.0)
 
@@ -159,14 +160,16 @@ class Stepping(Search):
         trips = [Trip(str(at), 0.0, 0, 3, "", (100,), 0.0) for at in range(100)]
         super().__init__(None, None, trips, None, lambda _: False)
         self.given = iter(enumerate(seen))
+        self.place = 0  # of the step that is best
 
     def best_of(self, _, steps):
         number, (gap, lacking) = next(self.given)
-        ways = [(path, 0.0) for path in paths_after(self.trips, steps[0])]
+        step = steps[min(self.place, len(steps) - 1)]
+        ways = [(path, 0.0) for path in paths_after(self.trips, step.trips)]
         give(self.trips, ways)
         outcome = SimpleNamespace(mean=100.0, arrived=100 - lacking, rescues=0, calls=0, processor=0.0)
         self.number = number - 1
-        return Seen(ways, [outcome], None, self.ways_of(number), [], gap, lacking), 0
+        return Seen(ways, [outcome], None, self.ways_of(number), [], gap, lacking), step.part
 
     def searched(self, _):
         return self.ways_of(self.number)
@@ -189,6 +192,17 @@ class Steps(unittest.TestCase):
         expected = [(40, False), (36, False), (16, True), (16, False), (0, False)], {3: 16, 0: 24, 100: 60}
         self.assertEqual(search.improved(4), expected)
         self.assertEqual(search.best.number, 4)
+
+    def test_a_share_is_that_of_the_step_that_was_best(self):
+        """Two of eight trips gain: they change by the whole share, by a half and by a quarter, of which one step is
+        kept, and one of them by an eighth. Where this is best, the share is 0.9 / 8 from then on, by which one changes;
+        by 0.9 / 2 there would be two."""
+        search = Stepping((10, 0), (5, 0), (4, 0))
+        search.place = 1
+        search.ways_of = lambda number: [Found(at, (number,), 100.0, 150.0 if at < 2 else 100.0) for at in range(8)]
+        self.assertEqual([one.part for one in steps_of(search.ways_of(0), 1.0, 4)], [1.0, 0.125])
+        search.improve(Asked(2, 0.0, 1.0, range(1, 2), 4))
+        self.assertEqual([one.changed for one in search.iterations], [2, 1, 0])
 
     def test_the_least_gap_is_kept(self):
         search = Stepping((5, 0), (4, 0), (4.5, 0))

@@ -103,6 +103,7 @@ class Measures:
         self.mapping, self.approaches, self.plans, self.passages = mapping, approaches, plans, passages
         self.alone, self.greens = Alone(mapping, dawdle / 1000), Greens(mapping, signals)
         self.stopping = ways_that_stop(mapping)
+        self.before: Counter[tuple[int, str]] = Counter()  # by vehicle and edge: passages that were judged
         found = [(passage, self.crossing(passage)) for passage in passages.done]
         self.crossings = [crossing for _, crossing in found if crossing]
         self.taken: defaultdict[Place, set[int]] = defaultdict(set)  # (link, lane): links to which vehicles go
@@ -114,10 +115,12 @@ class Measures:
 
     def crossing(self, passage: Passage) -> Crossing | None:
         """What a vehicle lost on a passage of an approach, which must have ended; none where its plan ends on the
-        approach. Where the edge stands in the plan twice, both passages are judged as the first: by the edge that
-        follows there, and by the time that one alone takes to it."""
-        plan = self.plans[passage.car]
-        at = next((at for at, link in enumerate(plan) if self.mapping.links[link].edge == passage.edge), None)
+        approach. Where the edge stands in the plan more than once, the passages are asked for in their order: each is
+        judged by the edge that follows there, and by the time that one alone takes to it."""
+        plan, key = self.plans[passage.car], (passage.car, passage.edge)
+        places = [at for at, link in enumerate(plan) if self.mapping.links[link].edge == passage.edge]
+        at = places[min(self.before[key], len(places) - 1)] if places else None
+        self.before[key] += 1
         if at is None or at + 1 == len(plan):
             return None
         first = next((place for place in range(at, -1, -1) if plan[place] == passage.first), at)

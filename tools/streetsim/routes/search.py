@@ -95,6 +95,14 @@ class Best:
 
 
 @dataclass(frozen=True, slots=True)
+class Step:
+    """The trips that change by a part, 1, a half, .., of the share of an iteration."""
+
+    part: float
+    trips: list[Found]
+
+
+@dataclass(frozen=True, slots=True)
 class Judged:
     """Routes, and the runs by which they are judged, with seeds that no search saw."""
 
@@ -138,10 +146,10 @@ class Search:
     def improve(self, asked: Asked) -> None:
         """Searches, and keeps each iteration and the best one; the trips then have the ways of the best."""
         share = asked.share
-        steps: list[list[Found]] = [[]]
+        steps: list[Step] = [Step(1.0, [])]
         for number in range(asked.iterations + 1):
-            seen, place = self.best_of(asked.seeds, steps)
-            found, share = seen.found, share / 2**place
+            seen, part = self.best_of(asked.seeds, steps)
+            found, share = seen.found, share * part
             back = self.best.is_below(seen.lacking, seen.gap, TRUST)
             if not self.best.is_below(seen.lacking, seen.gap):
                 self.best = Best(seen.lacking, seen.gap, number, seen.ways, seen.passed)
@@ -156,18 +164,18 @@ class Search:
             share = max(LEAST_SHARE, share / 2 if back else share)
             steps = [] if last else steps_of(found, share, asked.tried)
             share = share if back else share * SLOWER
-            iteration = iteration_of(number, seen.outcomes, found, seen.gap, len(steps[0]) if steps else 0, back)
+            iteration = iteration_of(number, seen.outcomes, found, seen.gap, len(steps[0].trips) if steps else 0, back)
             self.iterations.append(iteration)
             if self.told(iteration) or last:
                 break
         give(self.trips, self.best.ways)
 
-    def best_of(self, seeds: Sequence[int], steps: Sequence[Sequence[Found]]) -> tuple[Seen, int]:
-        """Runs the present ways with each of some steps (lists of trips that change), side by side; gives (what the
-        best step showed, its place). The trips then have its ways, and its costs and passings are kept for the next.
-        Who gives way without a light waits for those who passed in the iteration before; in the first iteration for
-        those who passed in a run in which nobody waits."""
-        ways = [paths_after(self.trips, step) for step in steps]
+    def best_of(self, seeds: Sequence[int], steps: Sequence[Step]) -> tuple[Seen, float]:
+        """Runs the present ways with each of some steps, side by side; gives (what the best step showed, its part of
+        the share). The trips then have its ways, and its costs and passings are kept for the next. Who gives way
+        without a light waits for those who passed in the iteration before; in the first iteration for those who passed
+        in a run in which nobody waits."""
+        ways = [paths_after(self.trips, step.trips) for step in steps]
         loads = [self.loaded(paths) for paths in ways]
         expected = self.expected or flat_costs(self.town.graph, loads[0].free)
         if self.ground.rounds and loads[0].mapping.yields and not self.passed:
@@ -179,7 +187,7 @@ class Search:
         seen = all_[place]
         self.passed, self.expected = seen.passed if self.passed else [], seen.costs
         give(self.trips, seen.ways)
-        return seen, place
+        return seen, steps[place].part
 
     def loaded(self, paths: Sequence[Path]) -> Loaded:
         """The run of the trips with some ways, one path for each trip."""
@@ -270,11 +278,11 @@ def changes(found: Sequence[Found], share: float) -> list[Found]:
     return sorted(worth[: max(1, int(len(found) * share))], key=lambda one: one.trip)
 
 
-def steps_of(found: Sequence[Found], share: float, tried: int) -> list[list[Found]]:
+def steps_of(found: Sequence[Found], share: float, tried: int) -> list[Step]:
     """Lists of the trips that change: by a share, by half of it, and so on, tried times; a list that is no shorter than
     the one before it is left out."""
-    steps = [changes(found, share / 2**at) for at in range(tried)]
-    return [step for at, step in enumerate(steps) if at == 0 or len(step) < len(steps[at - 1])]
+    steps = [Step(1 / 2**at, changes(found, share / 2**at)) for at in range(tried)]
+    return [step for at, step in enumerate(steps) if at == 0 or len(step.trips) < len(steps[at - 1].trips)]
 
 
 def iteration_of(
