@@ -255,11 +255,10 @@ class Pockets(unittest.TestCase):
 
 
 class Crowding(unittest.TestCase):
-    def told(self, mapping, hourly):
+    def told(self, mapping, hourly, closures=(Closure(0, 0, 20, 30, 0, 900),)):
         run = run_of([[0]] * (hourly // 4))
         for line in run.enters:
             line.command["depart"] = line.command["depart"] * 3600 // hourly
-        closures = [Closure(0, 0, 20, 30, 0, 900)]
         return list(crowded(run, mapping, closures)), beyond_joint(run, mapping, closures)
 
     def test_more_come_than_pass(self):
@@ -270,6 +269,15 @@ class Crowding(unittest.TestCase):
         self.assertTrue(told[0].endswith("a queue grows before them"))
         told, doubted = self.told(mapped(link("a"), link("a", 1)), 2000)
         self.assertEqual(told, doubted)
+
+    def test_two_lanes_at_other_hours(self):
+        """Each leaves one lane; where both are closed at once none is left, which is told otherwise."""
+        lanes = [Closure(0, 0, 20, 30, 0, 400), Closure(0, 1, 20, 30, 400, 900)]
+        told, _ = self.told(mapped(link("a")), 2000, lanes)
+        self.assertIn("come to works that leave 1 of 2 lanes", told[0])
+        self.assertEqual(self.told(mapped(link("a")), 1500, lanes), ([], []))
+        together = [replace(one, begin=0, end=900) for one in lanes]
+        self.assertEqual(self.told(mapped(link("a")), 2000, together), ([], []))
 
 
 @needs_simulator

@@ -1,5 +1,7 @@
 """Works to which more vehicles come than the open lanes pass, by plans alone."""
+from collections import defaultdict
 from collections.abc import Iterator, Sequence
+from itertools import pairwise
 
 from streetsim.model.freeflow import FreeFlow
 from streetsim.model.mapping import Map
@@ -30,18 +32,31 @@ def beyond_joint(run: Run, mapping: Map, closures: Sequence[Closure]) -> list[st
 
 
 def too_many(run: Run, mapping: Map, here: Sequence[Closure]) -> str:
-    """The text on the works on one link (here: one closure at least); empty where no lane is left, or the open ones let
-    all vehicles pass."""
-    link = here[0].link
-    lanes, first, last = len(mapping.links[link].lanes), min(one.begin for one in here), max(one.end for one in here)
-    left = lanes - len({one.lane for one in here})
-    hourly = coming(run, mapping, (link,), first, last) * 3600 / (last - first)
-    if not left or hourly <= PASSES * left:
+    """The text on the works on one link (here: one closure at least) at their worst, by the lanes that are closed
+    together; empty where these leave no lane, or the open ones let all vehicles pass."""
+    link, worst = here[0].link, (0.0, 0.0, 0)
+    lanes = len(mapping.links[link].lanes)
+    for closed, times in closed_together(here).items():
+        count = sum(coming(run, mapping, (link,), *time) for time in times)
+        hourly, left = count * 3600 / sum(end - begin for begin, end in times), lanes - len(closed)
+        if left and hourly > PASSES * left:
+            worst = max(worst, (hourly / left, hourly, left))
+    _, hourly, left = worst
+    if not left:
         return ""
     return (
         f"some {hourly:,.0f} vehicles an hour come to works that leave {left} of {lanes} lanes, and a lane passes some "
         f"{PASSES:,}"
     )
+
+
+def closed_together(here: Sequence[Closure]) -> dict[frozenset[int], list[tuple[int, int]]]:
+    """By lanes of a link that works close at the same time, one at least: when they do, (begin, end) in seconds."""
+    found: defaultdict[frozenset[int], list[tuple[int, int]]] = defaultdict(list)
+    for begin, end in pairwise(sorted({clock for one in here for clock in (one.begin, one.end)})):
+        if closed := frozenset(one.lane for one in here if one.begin <= begin and end <= one.end):
+            found[closed].append((begin, end))
+    return dict(found)
 
 
 def coming(run: Run, mapping: Map, links: Sequence[int], first: int, last: int) -> int:
