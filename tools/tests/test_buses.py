@@ -1,16 +1,21 @@
 """Buses that stop: what files ask for, one bus at a stop by hand, whole runs."""
 import csv
 import unittest
+from types import SimpleNamespace
 
 from support import PROGRAM, Case, lane, needs_simulator, net
 from streetsim.actuated.logic import Actuated, Phase
 from streetsim.base.files import Fault
 from streetsim.base.report import Report
 from streetsim.buses.coordinated import Coordinated
+from streetsim.buses.fleet import Fleet
+from streetsim.buses.planned import planned
 from streetsim.buses.stopping import PATIENCE, Road, Stopping
 from streetsim.importing.convert import convert
 from streetsim.model.folder import read_folder
+from streetsim.model.runs import run_of_texts
 from streetsim.model.stops import MADE, MISSED, OTHER_LANE, STANDING, Visit
+from streetsim.run import rows
 from streetsim.sumo.converting import run_and_map
 from streetsim.sumo.network import Options
 from streetsim.works.merging import Seen
@@ -127,6 +132,21 @@ class Files(Case):
         with self.assertRaises(Fault) as fault:
             self.imported("", stops=STOPS + '<busStop id="first" lane="a_0"/>')
         self.assertIn("<busStop 'first'>: a second stop of this name", str(fault.exception))
+
+
+    def test_a_stop_past_which_the_run_leads_has_a_row(self):
+        # The bus is led over another link, as works on the stop's lane do.
+        stops = f'{AT_FIRST}<stop busStop="second" duration="20"/>'
+        bus = f'<vehicle id="v" type="bus" depart="0"><route edges="a b"/>{stops}</vehicle>'
+        lines, mapping, _ = self.imported(bus)
+        run = run_of_texts("", lines)
+        [enter] = run.enters
+        enter.command["plan"][0] = mapping.links_of["way"][0]
+        plan = planned(run, mapping)
+        self.assertEqual([one.stop for one in plan.visits], ["second"])
+        records = SimpleNamespace(stops=Fleet(plan, run, mapping).all())
+        found = [(row[2], row[3], row[4], row[-1]) for row in rows.stops(records, run, mapping)]
+        self.assertEqual(found, [("first", "a", 0, "not made"), ("second", "b", 0, "not reached")])
 
 
 def visit(**more):

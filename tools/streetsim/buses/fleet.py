@@ -13,7 +13,7 @@ from streetsim.buses.planned import Ahead, Planned
 from streetsim.buses.stopping import APPROACH, Road, Stopping
 from streetsim.model.mapping import Map, Place
 from streetsim.model.runs import Command, Run
-from streetsim.model.stops import AHEAD, MISSED, STANDING, Visit
+from streetsim.model.stops import AHEAD, MISSED, STANDING, UNMADE, Visit
 from streetsim.works.merging import Seen
 
 Ask = Callable[[Iterable[int]], list[Vehicle]]  # of vehicles of the run's file
@@ -229,7 +229,8 @@ class Fleet:
         self.closed = wanted
 
     def all(self) -> list[Done]:
-        """What became of all stops, those that no bus has come to among them; asked for at the end of a run."""
+        """What became of all stops, those that no bus has come to or could make among them; asked for at the end of a
+        run."""
         left = []
         for bus in self.buses.values():
             for visit in bus.visits:
@@ -238,7 +239,7 @@ class Fleet:
                     left.append(Done(visit, STANDING, one.lane, one.arrived))
                 else:
                     left.append(Done(visit, AHEAD))
-        return [*self.done, *left]
+        return [*self.done, *left, *(Done(visit, UNMADE) for visit in self.plan.off)]
 
 
 def stops_before(bus: Bus, ahead: Ahead) -> bool:

@@ -30,6 +30,7 @@ class Planned:
 
     visits: tuple[Visit, ...] = ()
     unmade: Mapping[str, tuple[str, ...]] = field(default_factory=dict)  # by reason, vehicle at stop
+    off: tuple[Visit, ...] = ()  # those of unmade whose vehicles are in the run
     ahead: Mapping[int, tuple[Ahead, ...]] = field(default_factory=dict)
     seen: int = 0  # seconds before a stop line from which on lights wait for them
     told: tuple[str, ...] = ()  # of priority
@@ -48,6 +49,7 @@ def planned(run: Run, mapping: Map) -> Planned:
     """The stops of a map that a run makes: those on the ways of its vehicles; the others are in unmade."""
     ways = [line.command["plan"] for line in run.enters]
     kept: list[Visit] = []
+    off: list[Visit] = []
     unmade: defaultdict[str, list[str]] = defaultdict(list)
     for visit in mapping.visits:
         way = ways[visit.vehicle] if visit.vehicle < len(ways) else ()
@@ -55,4 +57,5 @@ def planned(run: Run, mapping: Map) -> Planned:
             kept.append(visit)
         else:
             unmade[OTHER_WAY].append(f"{mapping.cars[visit.vehicle]} at {visit.stop}")
-    return Planned(tuple(kept), {why: tuple(names) for why, names in unmade.items()})
+            off += [visit] if way else []
+    return Planned(tuple(kept), {why: tuple(names) for why, names in unmade.items()}, tuple(off))

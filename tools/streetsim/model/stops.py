@@ -8,6 +8,7 @@ from streetsim.base.files import Json
 
 MADE, OTHER_LANE = "made", "other lane"  # how a stop ended: made on its lane, or on the lane beside
 STANDING, MISSED, AHEAD = "standing", "missed", "not reached"  # at the end of the run; passed; still to come
+UNMADE = "not made"  # as the run has another way for the vehicle than its map
 
 
 @dataclass(slots=True, frozen=True)
