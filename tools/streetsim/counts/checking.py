@@ -144,7 +144,7 @@ def of_junctions(there: There, graph: Graph, begins: Set[int], ends: Set[int]) -
 
 
 def every(there: There, keys: Iterable[tuple[str, ...]]) -> list[Count]:
-    """The counts of all places, by edges; empty where one of these has none."""
+    """The counts of some places; keys: the edges of each. Empty where one of them has no count."""
     found = [there.get(key) for key in keys]
     return [] if None in found else [count for count in found if count is not None]
 

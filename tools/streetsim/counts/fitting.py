@@ -61,7 +61,7 @@ def solved(problem: Problem) -> Any:
 
 
 def apart_in(problem: Problem, vehicles: Any) -> float:
-    """The sum of squares that `solved` makes least, for some vehicles."""
+    """The sum of squares that `solved` makes least, for any vehicles of each column."""
     numpy, _ = needed()
     counts = (problem.passing @ vehicles - problem.counted) / problem.deviation
     root = numpy.sqrt(numpy.maximum(problem.expected, LEAST))
@@ -125,14 +125,15 @@ class Expecting:
         return numpy.outer(numpy.maximum(base, LEAST), rates).ravel()
 
     def apart(self, passing: Any, counted: Any, share: Any) -> float:
-        """How far counts and what is expected stay apart in a fit, by the sum of squares; share: of each way."""
+        """How far counts and what is expected stay apart in a fit, by the sum of squares, so that the best of several
+        can be taken; share: of each way."""
         base, rates = self.scaled(passing, counted, self.by_ends(share))
         problem = Problem(pooled_columns(passing, rates), base, counted, deviations(counted, self.error))
         return apart_in(problem, solved(problem))
 
     def scaled(self, passing: Any, counted: Any, base: Any) -> tuple[Any, Any]:
-        """(vehicles of each way over all slices, share, 0 to 1, that each slice has of them), arrays by all counts
-        together; base: any numbers in whose proportion ways have vehicles."""
+        """(vehicles of each way over all slices, share, 0 to 1, that each slice has of them), arrays that fit all
+        counts together best; base: any numbers in whose proportion ways have vehicles."""
         rates = self.rates(passing, counted, base)
         total = float(rates.sum())
         return base * total, rates / total
@@ -162,8 +163,8 @@ class Expecting:
 
 
 def pooled_columns(passing: Any, rates: Any) -> Any:
-    """The matrix with one column for each way, in place of one for each of its slices; rates: the share that each slice
-    has."""
+    """The matrix with one column for each way, in place of one for each of its slices, by which ways are fitted while
+    the share that each slice has (rates) stays."""
     numpy, scipy = needed()
     columns = numpy.arange(passing.shape[1])
     sums = scipy.sparse.csr_matrix((rates[columns % len(rates)], (columns, columns // len(rates))))

@@ -9,9 +9,10 @@ LEAST_GAIN = 1e-9  # in the sum of squares, for which one is swapped
 
 
 def rounded(vehicles: Any, passing: Any, seed: int, error: float) -> Any:
-    """Each number of vehicles rounded up or down, as integers, so that the sum of any that follow each other is within
-    one of what it was; then swapped so that what passes the counts is near the fit. passing: as `Problem` has it; seed:
-    of the rounding; error: share of a count by which it is taken to be wrong."""
+    """The vehicles of a fit in whole numbers, an array of integers: each is rounded up or down, so that the sum of any
+    that follow each other is within one of what it was; then some are swapped so that what passes the counts is near
+    the fit. passing: as `Problem` has it; seed: of the rounding; error: share of a count by which it is taken to be
+    wrong."""
     numpy, _ = needed()
     start = numpy.random.default_rng(seed).random()
     whole = numpy.diff(numpy.floor(numpy.concatenate(([0.0], numpy.cumsum(vehicles))) + start))

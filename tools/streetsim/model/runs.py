@@ -73,8 +73,8 @@ def read_with_map(run_path: FilePath, map_path: FilePath) -> tuple[Run, Map]:
 
 
 def ends_of(run: Run, mapping: Map) -> Iterator[str]:
-    """For each vehicle that the map names, the edges on which it begins and ends, with a blank between; lanes, ways and
-    departures may be changed by hand."""
+    """For each vehicle that the map names a text, by which a map knows its run: the edges on which it begins and ends,
+    with a blank between. Lanes, ways and departures may be changed by hand."""
     edges = {number: link.edge for number, link in enumerate(mapping.links)}
     for line in run.enters[: len(mapping.cars)]:
         plan = line.command["plan"]

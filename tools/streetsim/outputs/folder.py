@@ -136,7 +136,7 @@ def by_class(trips: Sequence[Entry], mapping: Map) -> str:
 
 def lit_lines(sent: Iterable[tuple[int, Line]], mapping: Map) -> Iterator[tuple[int, Line]]:
     """Of the lines that a run sent, (clock, line), those with the signal plans that the tools made for nodes with a
-    light."""
+    light; the setting tells them as signals of the run."""
     lit = {node for _, node in mapping.signals}
     own = ((clock, line) for clock, line in sent if line.number < 0 and line.command["cmd"] == "signal")
     return ((clock, line) for clock, line in own if line.command["node"] in lit)

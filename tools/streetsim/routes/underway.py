@@ -40,8 +40,8 @@ class Turning:
 
 
 def turning(plan: Path, way: Path, clock: int) -> Turning:
-    """How a vehicle leaves its plan for another way, which begins on the same link or on one beside it; clock: its
-    due."""
+    """How a vehicle leaves its plan for another way, which begins on the same link or on one beside it: it first drives
+    the links that both begin with, one at least. clock: from which on it is looked at."""
     both = enumerate(zip(plan, way))
     common = max(1, next((at for at, (one, other) in both if one != other), min(len(plan), len(way))))
     return Turning(plan[:common], way[common:], clock)

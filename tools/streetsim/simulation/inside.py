@@ -23,7 +23,7 @@ class Inside:
         return self.known[way]
 
     def between(self, link: int, lane: int | None, following: int) -> float:
-        """As metres, looked for among the connections of the link's lanes."""
+        """What `metres` gives and keeps, looked for among the connections of the link's lanes."""
         target = self.map.links[following]
         wanted = {f"{target.edge}_{index}" for index in target.lanes}
         lanes = [self.map.lane_name(link, each) for each in range(len(self.map.links[link].lanes))]

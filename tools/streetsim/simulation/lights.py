@@ -161,7 +161,7 @@ class Control:
 
     def resume(self, name: str, node: int) -> None:
         """Goes on, at a node of a light, with a program that is sent phase by phase and whose present phase was sent
-        before."""
+        before, as after a state was loaded."""
         light = self.light(name)
         offset = light.begin % light.starts(len(light.phases))
         self.simulation.shown.resume(name, light.shown(), offset, self.simulation.clock, node)

@@ -100,7 +100,8 @@ class Session(Simulation):
         self.note_loops()
 
     def look_again(self) -> None:
-        """Looks after a state was loaded, when nothing is known of the step before."""
+        """Looks at all lanes after a state was loaded, when nothing is known of the step before; no second is
+        counted."""
         seen, self.loaded = set(self.view.seen), []
         self.view.before = {}
         self.view.look()

@@ -92,8 +92,8 @@ class Shown:
         return commands
 
     def resume(self, light: str, phases: Sequence[tuple[float, str]], offset: float, clock: int, node: int) -> None:
-        """Goes on, at a node, with a program that is sent phase by phase and whose present phase was sent before.
-        offset: as in a tlLogic, seconds; clock: now."""
+        """Goes on, at a node, with a program that is sent phase by phase and whose present phase was sent before, as
+        after a state was loaded. offset: as in a tlLogic, seconds; clock: now."""
         self.coming[node] = Phases(self.own(light, node, phases, offset, Report()), clock)
         list(self.coming[node].due(clock))
 
