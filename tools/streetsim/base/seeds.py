@@ -41,8 +41,8 @@ def half_width(deviation: float, runs: int) -> float:
 
 
 def paired(before: Sequence[float], after: Sequence[float]) -> tuple[float, float | None]:
-    """The mean of `after` less `before` over runs with equal seeds in the same order, and half the width of its 95 %
-    interval (none for one run)."""
+    """(mean of `after` less `before` over runs with equal seeds in the same order, half the width of its 95 %
+    interval), this none for one run."""
     return interval([there - here for here, there in zip(before, after, strict=True)])
 
 
@@ -75,7 +75,7 @@ def seeds_for(values: Sequence[float], spread: float = 0.005, error: float = 0.0
 
 
 def interval(values: Sequence[float]) -> tuple[float, float | None]:
-    """The mean of one or more values and half the width of its 95 % interval (none for one value)."""
+    """(mean of one or more values, half the width of its 95 % interval), this none for one value."""
     if len(values) < 2:
         return fmean(values), None
     return fmean(values), half_width(stdev(values), len(values))

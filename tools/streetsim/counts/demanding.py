@@ -165,8 +165,8 @@ def kinds_of(counts: Iterable[Count], cells: Iterable[Cell], types: Types) -> tu
 def by_pairs(
     town: Town, asked: Asked, times: Times, zones: Mapping[str, Zone], cells: Sequence[Cell]
 ) -> tuple[list[Pair], list[Way], tuple[int, int]]:
-    """The pairs of a matrix, of zones, or of entries and exits; their ways, with those of route files; and (pairs that
-    were kept, of how many)."""
+    """(pairs of a matrix, of zones, or of entries and exits; their ways, with those of route files; (pairs that were
+    kept, of how many))."""
     graph = town.graph
     count = (0 if asked.candidates else 3) if asked.ways is None else asked.ways
     if cells:
@@ -210,8 +210,8 @@ def given_routes(town: Town, asked: Asked) -> list[tuple[str, ...]]:
 def by_ratios(
     town: Town, asked: Asked, free: Sequence[float]
 ) -> tuple[list[Pair], list[Way], list[tuple[float, int]]]:
-    """The pairs and ways that turn ratios give, and (departure, place of its way) of each vehicle. free: seconds of
-    each movement."""
+    """(pairs that turn ratios give, their ways, (departure, place of its way) of each vehicle). free: seconds of each
+    movement."""
     found, sinks = ratios.read_ratios(asked.ratios)
     inflows = ratios.read_inflows(asked.flows, asked.seed)
     turns = walking.Turns(found, sinks, town.net, town.graph)

@@ -53,8 +53,8 @@ def read_run(path: FilePath) -> Run:
 
 
 def read_with_map(run_path: FilePath, map_path: FilePath) -> tuple[Run, Map]:
-    """A run and the map of its names; Fault where the map belongs to another run, by the links, how many vehicles there
-    are, and where these begin and end."""
+    """(run, map of its names); Fault where the map belongs to another run, by the links, how many vehicles there are,
+    and where these begin and end."""
     run, mapping = read_run(run_path), read_map(map_path)
     links = [
         [at, link.begin, link.end, len(link.lanes), link.cells, link.limit] for at, link in enumerate(mapping.links)

@@ -70,7 +70,7 @@ def signal_node(line: Line) -> int | None:
 
 
 def read_pair(run_path: str, map_path: str, until: int | None = None) -> tuple[Run, Map]:
-    """A run and its map. Fault where nothing departs: at all, or with until (a clock in seconds) before that, and where
+    """(run, its map). Fault where nothing departs: at all, or with until (a clock in seconds) before that, and where
     the run starts no earlier than until."""
     run, mapping = read_with_map(run_path, map_path)
     if until is None and not run.enters:

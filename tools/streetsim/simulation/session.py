@@ -175,7 +175,7 @@ class Session(Simulation):
 
     def route(self, name: str) -> tuple[int, ...]:
         """The numbers of the links of a route of the files, or of one that a script added; TraCIException where its
-        edges have no connection."""
+        edges have no connection, KeyError where there is none of this name."""
         if name not in self.routes:
             try:
                 return self.connections.plan(self.facts.routes[name])
