@@ -1,6 +1,7 @@
 """Buses that stop: what files ask for, one bus at a stop by hand, whole runs."""
 import csv
 import unittest
+import xml.etree.ElementTree as ElementTree
 from types import SimpleNamespace
 
 from support import PROGRAM, Case, lane, needs_simulator, net
@@ -276,6 +277,11 @@ class Runs(Case):
         self.assertEqual(read_folder(str(out)).stops(), [row])
         [trip] = self.table(out, "trips")
         self.assertEqual(trip["arrival"], "49")
+        # Of 48 s in its street 20 are of its stop; it has stood in no other place but where it departed.
+        self.made(self.ONE, "--sumo-output", "tripinfo")
+        [info] = ElementTree.parse(out / "sumo/tripinfo.xml").getroot()
+        self.assertEqual((info.get("stopTime"), info.get("waitingTime")), ("20.00", "1.00"))
+        self.assertEqual(float(info.get("timeLoss")), float(info.get("duration")) - 20 - 20)
         # Without the stop it arrives at 22 s: of the 27 s more 20 are its dwell, and no loss.
         out, _ = self.made(self.ONE, "--stops", "none")
         self.assertFalse((out / "stops.csv").exists())

@@ -6,6 +6,7 @@ from collections import Counter
 from types import SimpleNamespace
 
 from support import MAP, NUMBERED, PROGRAM, TOOLS, Case, needs_simulator
+from streetsim.buses.fleet import Dwell
 from streetsim.junctions import reporting
 from streetsim.junctions.capacity import usual_flow
 from streetsim.junctions.facing import facing
@@ -13,7 +14,7 @@ from streetsim.junctions.layout import Approach, Greens, approaches_of, turn_nam
 from streetsim.junctions.measures import Measures, Totals, stop_loss, together
 from streetsim.junctions.passages import Passages, discharges, queue_metres, who_stand
 from streetsim.junctions.rows import Tables
-from streetsim.junctions.sampling import LOOKS, Sampled, moments
+from streetsim.junctions.sampling import LOOKS, Ends, Sampled, moments
 from streetsim.model.mapping import map_from
 from streetsim.model.runs import run_of_texts
 from streetsim.model.service import PRIORITY, ROUNDABOUT, SIGNALS, STOP_LOSS, level, percentile
@@ -194,10 +195,10 @@ class Definitions(unittest.TestCase):
         self.assertEqual((one.headway, one.lost), (2.0, 4.0))
 
 
-def passages(frames):
-    """What the passages of the street see; the last look is empty."""
+def passages(frames, dwells=None):
+    """What the passages of the street see; the last look is empty. dwells: by vehicle its stops."""
     mapping = map_from("", MAP)
-    seen = Passages(mapping, approaches_of(mapping), 0)
+    seen = Passages(mapping, approaches_of(mapping), 0, dwells or {})
     for clock, lanes in [*frames, (frames[-1][0] + 1, [])]:
         seen.see({"clock": clock, "lanes": lanes})
     return seen
@@ -230,6 +231,17 @@ class ByHand(unittest.TestCase):
         self.assertEqual(len(seen.done), 2)
         found = Measures(self.mapping, self.approaches, [[0, SIGNAL]], 0, [[0, 1, 0]], seen)
         self.assertEqual([(one.movement, one.clock) for one in found.crossings], [(("a", "b"), 3)])
+
+    def test_a_stop_of_its_own_is_no_delay(self):
+        """The first vehicle stands for 3 s at a bus stop, 2 of them with open doors: it loses 2 s of its 4, has not
+        stopped for the junction, and stood nowhere else."""
+        plans = [[1, *plan] for plan in PLANS]
+        stopped = passages(FRAMES, {0: [Dwell(0, 4, 6, 3)]})
+        lost = Measures(self.mapping, self.approaches, [[0, SIGNAL]], 0, plans, stopped).interval(0, 10).lost["a", "b"]
+        self.assertEqual((lost.delay, lost.stood, lost.stops), ((2 + 4 + STOP_LOSS[0]) / 2, 1.0, 0.5))
+        # One on another link, or of another passage, changes nothing.
+        elsewhere = passages(FRAMES, {0: [Dwell(1, 4, 6, 3), Dwell(0, 90, 96, 6)]})
+        self.assertEqual([one.dwell for one in elsewhere.done], [0, 0, 0])
 
     def test_who_departs_stands_without_a_stop(self):
         frames = [(1, [[0, 0, [[0, 0, 0]], []]]), (2, [[0, 0, [[0, 1, 1]], []]]), (3, [[0, 0, [], [0]]])]
@@ -278,12 +290,17 @@ class Sampling(unittest.TestCase):
         pairs = zip(PLANS, (0, 2, 5), strict=True)
         enters = [{"cmd": "enter", "plan": plan, "depart": depart} for plan, depart in pairs]
         run = run_of_texts("", map(json.dumps, [{"cmd": "load", "dawdle": 0}, SIGNAL, *enters]))
-        made = Sampled(mapping, approaches_of(mapping), run, [10, 12, 12], 20)
+        made = Sampled(mapping, approaches_of(mapping), run, Ends([10, 12, 12]), 20)
         for clock, lanes in [*FRAMES, *((clock, []) for clock in range(11, 21))]:
             made.see({"clock": clock, "lanes": lanes})
         lost = made.finish().interval(0, 20).lost["a", "b"]
         self.assertEqual((lost.vehicles, lost.stood, lost.stops), (2, 2.5, None))
         self.assertAlmostEqual(lost.delay, 2 + STOP_LOSS[0] * 0.5 / (1 - 360 / 2400))
+        # With a stop of 2 s of one of both, at which it stood for 3.
+        made.ends = Ends([], {0: [Dwell(0, 4, 6, 3)]})
+        less = made.finish().interval(0, 20).lost["a", "b"]
+        self.assertEqual(less.stood, 1.0)
+        self.assertAlmostEqual(less.delay, lost.delay - 1)
 
 
 @needs_simulator

@@ -13,6 +13,7 @@ from xml.etree import ElementTree
 
 from support import MAP, NUMBERED, PROGRAM, TOOLS, Case, needs_package, needs_simulator, needs_sumo_tools
 from streetsim.base.files import Fault
+from streetsim.buses.fleet import Dwell
 from streetsim.cli import run as running
 from streetsim.model.folder import read_folder
 from streetsim.model.mapping import map_from
@@ -99,6 +100,17 @@ class ByHand(Case):
         names = ("depart", "departDelay", "arrival", "duration", "waitingTime", "routeLength", "timeLoss")
         self.assertEqual([float(row[name]) for name in names], [0, 0, 8, 8, 2, 150, 3])
         self.assertEqual(row["waitingCount"], "2")
+
+    def test_a_stop_of_its_own(self):
+        """In second 2 it stands at a bus stop for a second."""
+        with Outputs({"tripinfo": str(self.folder / "tripinfo.xml")}, map_from("", MAPPING), 0.0) as outputs:
+            outputs.dwells[0] = [Dwell(0, 2, 3, 1)]
+            outputs.expect(0, "v", 0)
+            for clock, lanes, arrived in FRAMES:
+                outputs.step(clock, lanes, arrived)
+        [row] = self.rows("tripinfo", "tripinfo")
+        self.assertEqual([float(row[name]) for name in ("stopTime", "waitingTime", "timeLoss")], [1, 1, 2])
+        self.assertEqual(row["waitingCount"], "1")
 
     def test_summary(self):
         rows = self.rows("summary", "step")

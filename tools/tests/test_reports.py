@@ -145,6 +145,25 @@ class Pages(Given):
         places = [text.index(told) for told in ("no route", "2 <turns>", "3 x stops", "1 light")]
         self.assertEqual(places, sorted(places))
 
+    def test_buses_and_cars_apart(self):
+        kinds = {"types": [["DEFAULT_VEHTYPE", "passenger"], ["bus", "bus"]], "type": [0, 1]}
+        for name, bus in (("before", "w,0,205,205,4,30,2,0,arrived"), ("after", "w,0,195,195,4,20,2,0,arrived")):
+            for seed in (1, 2):
+                place = self.folder / f"{name}/seed-{seed}"
+                setting = json.loads((place / "setting.json").read_text())
+                setting["map"] |= {"vehicles": kinds, "cars": ["v", "w"]}
+                (place / "setting.json").write_text(json.dumps(setting))
+                with open(place / "trips.csv", "a", encoding="utf-8") as file:
+                    file.write(f"{bus}\n")
+        text = re.sub(r"\s+", " ", re.sub("<[^>]*>", " ", self.page(*self.plans()).read_text()))
+        # Buses take 205 s and then 195, of which they lose 30 and 20.
+        heads = " ".join(f"{what} {when}, s" for what in ("trip", "delay") for when in ("before", "after", "change"))
+        self.assertIn(f"trips by class trips {heads} buses 2 205.0 195.0 -10.0 ± 0.0 30.0 20.0 -10.0 ± 0.0", text)
+        self.assertIn("cars 2 101.5 101.5 +0.0 ± 0.0 26.0 26.0 +0.0 ± 0.0", text)
+        text = re.sub(r"\s+", " ", re.sub("<[^>]*>", " ", self.page(self.plans()[0]).read_text()))
+        buses, cars = "buses 2 205.0 ± 0.0 30.0 ± 0.0", "cars 2 101.5 ± 6.4 26.0 ± 0.0"
+        self.assertIn(f"trips by class trips trip, s delay, s {buses} {cars}", text)
+
     def test_nothing_from_outside_and_no_dead_link(self):
         text = self.page(*self.plans()).read_text()
         self.assertFalse(re.search(r"https?:|src=\"(?!data:)|@import|<link|<script|@[A-Z]+@", text))

@@ -6,6 +6,7 @@ from __future__ import annotations
 from collections import defaultdict
 from collections.abc import Callable, Iterable, Iterator, Mapping, Sequence
 from dataclasses import dataclass
+from typing import NamedTuple
 
 from streetsim.base import limits
 from streetsim.base.client import Lane, Vehicle
@@ -32,6 +33,32 @@ class Done:
     lane: int | None = None
     arrived: int | None = None
     left: int | None = None
+
+
+class Dwell(NamedTuple):
+    """A stop that a vehicle has left: its link, the clocks at which it came to stand and its doors closed, and the
+    seconds for which it stood there in all, those of braking and starting among them."""
+
+    link: int
+    arrived: int
+    left: int
+    stood: int
+
+    @property
+    def seconds(self) -> int:
+        """How long it was at its stop."""
+        return self.left - self.arrived
+
+
+def dwells(stops: Iterable[Done]) -> dict[int, list[Dwell]]:
+    """By vehicle the stops that it has left, of what became of all stops."""
+    found: defaultdict[int, list[Dwell]] = defaultdict(list)
+    for one in stops:
+        if one.arrived is not None and one.left is not None:
+            moving = round(one.visit.braking) + round(one.visit.starting)
+            dwell = Dwell(one.visit.link, one.arrived, one.left, one.left - one.arrived + moving)
+            found[one.visit.vehicle].append(dwell)
+    return dict(found)
 
 
 @dataclass(slots=True)

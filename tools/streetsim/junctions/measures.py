@@ -125,7 +125,7 @@ class Measures:
             return None
         first = next((place for place in range(at, -1, -1) if plan[place] == passage.first), at)
         alone = sum(self.alone.approach(plan, place) for place in range(first, at + 1))
-        lost = passage.end - passage.begin - alone
+        lost = passage.end - passage.begin - alone - passage.dwell
         movement = passage.edge, self.mapping.links[plan[at + 1]].edge
         delay = lost + stop_loss(self.approaches[movement[0]], movement[1]) * (passage.stops > 0)
         delay += STOPPING * (movement in self.stopping)  # of which one alone has the mean of its junction

@@ -3,9 +3,11 @@ from __future__ import annotations
 
 from array import array
 from collections import defaultdict
-from collections.abc import Callable, Iterable, Mapping
+from collections.abc import Callable, Iterable, Mapping, Sequence
 from dataclasses import dataclass, field
+from types import MappingProxyType
 
+from streetsim.buses.fleet import Dwell
 from streetsim.junctions.layout import Approach
 from streetsim.model.detectors import Cells, size_of
 from streetsim.model.folder import Frame
@@ -34,6 +36,7 @@ class Passage:
     stops: int = 0
     stood: int = 0  # seconds
     still: int = 0  # seconds for which it has stood now
+    dwell: int = 0  # seconds at stops of its own, which are in neither stops nor stood
     alone: bool = True  # nobody who had stood was on its lane when it passed the stop line
 
 
@@ -48,9 +51,15 @@ class LaneLog:
 class Passages:
     """The passages of all vehicles of a run over some approaches, and what their lanes showed at each clock."""
 
-    def __init__(self, mapping: Map, approaches: Mapping[str, Approach], start: int) -> None:
-        """start: the clock at the run's begin."""
-        self.mapping, self.start = mapping, start
+    def __init__(
+        self,
+        mapping: Map,
+        approaches: Mapping[str, Approach],
+        start: int,
+        dwells: Mapping[int, Sequence[Dwell]] = MappingProxyType({}),
+    ) -> None:
+        """start: the clock at the run's begin; dwells: by vehicle its stops."""
+        self.mapping, self.start, self.dwells = mapping, start, dwells
         self.lanes = [place for approach in approaches.values() for place in approach.lanes]
         self.edges = {link: edge for edge, approach in approaches.items() for link in approach.all_links}
         self.before = {link: approach.before for approach in approaches.values() for link in approach.links}
@@ -114,6 +123,10 @@ class Passages:
         passage = self.here.pop(car)
         passage.end = clock
         passage.line = passage.line or clock
+        for one in self.dwells.get(car, ()):
+            if self.edges.get(one.link) == passage.edge and passage.begin <= one.arrived <= clock:
+                passage.dwell += one.seconds
+                passage.stood, passage.stops = max(0, passage.stood - one.stood), max(0, passage.stops - 1)
         self.done.append(passage)
 
     def note_lanes(self, shown: Mapping[Place, Cells]) -> None:

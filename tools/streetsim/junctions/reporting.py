@@ -2,12 +2,13 @@
 from collections.abc import Sequence
 
 from streetsim.base.report import some
+from streetsim.buses.fleet import dwells
 from streetsim.junctions.facing import facing
 from streetsim.junctions.layout import approaches_of, cut_short, places_of
 from streetsim.junctions.measures import Measures
 from streetsim.junctions.passages import Passages
 from streetsim.junctions.rows import Tables
-from streetsim.junctions.sampling import Sampled, moments
+from streetsim.junctions.sampling import Ends, Sampled, moments
 from streetsim.model.names import Names
 from streetsim.run.records import Recorded, Records
 from streetsim.run.watching import watch
@@ -24,12 +25,13 @@ def write_junctions(made: Recorded, interval: int) -> tuple[list[str], list[str]
     lanes = places_of(approaches, made.mapping)
     clocks: Sequence[int] = range(start + 1, until + 1)
     exact = len(clocks) * len(lanes) <= MOST_LOOKS
+    stopped = dwells(made.records.stops)
     seen: Passages | Sampled
     if exact:
-        seen = Passages(made.mapping, approaches, start)
+        seen = Passages(made.mapping, approaches, start, stopped)
     else:
         clocks = moments(start, until)
-        seen = Sampled(made.mapping, approaches, run, arrivals_of(made.records), interval)
+        seen = Sampled(made.mapping, approaches, run, Ends(arrivals_of(made.records), stopped), interval)
     for frame in watch(made, clocks, lanes):
         seen.see(frame)
     plans, dawdle = [line.command["plan"] for line in run.enters], run.load.command["dawdle"]

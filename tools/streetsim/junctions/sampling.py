@@ -4,8 +4,10 @@ from collections import Counter, defaultdict
 from collections.abc import Mapping, Sequence
 from random import Random
 from statistics import fmean, stdev
-from typing import Self
+from types import MappingProxyType
+from typing import NamedTuple, Self
 
+from streetsim.buses.fleet import Dwell
 from streetsim.junctions.capacity import Use, is_alike, usual_flow
 from streetsim.junctions.layout import Approach, Greens, ways_that_stop
 from streetsim.junctions.measures import Interval, Totals, Way, stop_loss
@@ -31,6 +33,14 @@ def moments(start: int, until: int) -> list[int]:
     return sorted({start + 1 + int((place + draws.random()) * part) for place in range(count)} - {until + 1})
 
 
+class Ends(NamedTuple):
+    """How the vehicles of a run ended: the clock at which each arrived, or none; and by vehicle the stops that it
+    made."""
+
+    arrivals: Sequence[int | None]
+    dwells: Mapping[int, Sequence[Dwell]] = MappingProxyType({})
+
+
 class Sampled:
     """The measures of a run that was looked at now and then; intervals are numbered from 0."""
 
@@ -39,12 +49,11 @@ class Sampled:
         mapping: Map,
         approaches: Mapping[str, Approach],
         run: Run,
-        arrivals: Sequence[int | None],
+        ends: Ends,
         interval: int,
     ) -> None:
-        """arrivals: the clock at which each vehicle of the run arrived, or none; interval: seconds of the intervals
-        that `interval` is asked for."""
-        self.mapping, self.approaches, self.arrivals = mapping, approaches, arrivals
+        """interval: seconds of the intervals that `interval` is asked for."""
+        self.mapping, self.approaches, self.ends = mapping, approaches, ends
         self.plans: list[Sequence[int]] = [line.command["plan"] for line in run.enters]
         self.departs: list[int] = [line.command["depart"] for line in run.enters]
         self.dawdle: int = run.load.command["dawdle"]
@@ -56,6 +65,8 @@ class Sampled:
         self.last: dict[int, tuple[int, int]] = {}  # vehicle: (place in its plan, clock) where it was seen last
         self.passed: defaultdict[int, Counter[Way]] = defaultdict(Counter)  # by interval, vehicles
         self.free: defaultdict[tuple[int, Way], float] = defaultdict(float)  # by interval: their free seconds, added up
+        self.dwelt: defaultdict[tuple[int, Way], int] = defaultdict(int)  # by interval: their seconds at stops
+        self.stood: defaultdict[tuple[int, Way], int] = defaultdict(int)  # those for which they stood there
         # By interval: (vehicles, standing ones) at each look at which there were; vehicles seen by lane.
         self.present: defaultdict[tuple[int, Way], list[tuple[int, int]]] = defaultdict(list)
         self.on_lanes: defaultdict[tuple[int, Way], Counter[Place]] = defaultdict(Counter)
@@ -141,11 +152,18 @@ class Sampled:
             self.greens_used[at, *place] += bool(cells) and link.cells - 1 - cells[0][1] < NEAR * link.limit
 
     def finish(self) -> Self:
-        """Adds what those passed who have arrived since they were seen last; called once, after the last look."""
-        for car, arrival in enumerate(self.arrivals):
+        """Adds what those passed who have arrived since they were seen last, and stops that vehicles made; called once,
+        after the last look."""
+        for car, arrival in enumerate(self.ends.arrivals):
             if arrival is not None:
                 before, since = self.last.get(car, (0, self.departs[car]))
                 self.pass_by(self.plans[car], before, since, len(self.plans[car]) - 1, arrival)
+        for car, one in ((car, one) for car, those in self.ends.dwells.items() for one in those):
+            plan = self.plans[car]
+            if movement := self.movement(plan, plan.index(one.link)):
+                at = int(one.left - self.start) // self.width
+                self.dwelt[at, movement] += one.seconds
+                self.stood[at, movement] += one.stood
         return self
 
     def interval(self, begin: int, end: int) -> Interval:
@@ -187,8 +205,8 @@ class Sampled:
         if not looks:
             return Totals(count, 0.0, 0.0, None)
         rate = count / seconds
-        stood = sum(standing for _, standing in seen) / looks / rate
-        delay = max(0.0, fmean(vehicles) / rate - self.free[at, movement] / count)
+        stood = max(0.0, sum(standing for _, standing in seen) / looks / rate - self.stood[at, movement] / count)
+        delay = max(0.0, fmean(vehicles) / rate - (self.free[at, movement] + self.dwelt[at, movement]) / count)
         error = NORMAL * stdev(vehicles) / looks**0.5 / rate if looks > 1 else None
         loss = stop_loss(self.approaches[movement[0]], movement[1])
         delay += STOPPING * (movement in self.stopping)

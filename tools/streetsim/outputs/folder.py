@@ -175,7 +175,8 @@ def write_sumo_outputs(made: Recorded, kinds: Iterable[str], trips: Iterable[Ent
     frames = watch(made, range(start + 1, made.settings.until + 1), made.mapping.lanes())
     rescued = [clock for clock, *_ in made.records.rescued]
     with Outputs(paths, made.mapping, dawdle, made.settings.period, start, rescued) as outputs:
-        outputs.write([dict(zip(tables.TRIPS, trip, strict=True)) for trip in trips], frames)
+        told = [dict(zip(tables.TRIPS, trip, strict=True)) for trip in trips]
+        outputs.write(told, frames, made.records.stops)
 
 
 def count_further(made: Recorded) -> None:

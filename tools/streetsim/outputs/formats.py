@@ -1,10 +1,12 @@
 """SUMO's output files that are made second by second: each class writes one, from what a second shows."""
 from bisect import bisect_right
-from collections.abc import Sequence
+from collections.abc import Mapping, Sequence
+from types import MappingProxyType
 from xml.sax.saxutils import quoteattr
 
 from streetsim.base import limits
 from streetsim.base.files import TextFile
+from streetsim.buses.fleet import Dwell
 from streetsim.model.mapping import Place
 from streetsim.outputs.places import Places
 from streetsim.outputs.seconds import At, Second, Trip
@@ -45,18 +47,26 @@ def attributes(**values: object) -> str:
 
 class Tripinfo(XmlFile):
     """tripinfo: a row for each vehicle that arrived. It departs in the second in which it is first seen; `departDelay`
-    is since the wished departure, so that both together are the duration of trips.csv."""
+    is since the wished departure, so that both together are the duration of trips.csv. Seconds at stops are in
+    `stopTime`, and neither in `waitingTime` nor in `timeLoss`."""
 
     root, schema = "tripinfos", "tripinfo_file"
 
+    def __init__(
+        self, file: TextFile, places: Places, dwells: Mapping[int, Sequence[Dwell]] = MappingProxyType({})
+    ) -> None:
+        """dwells: by vehicle its stops; those of one that arrives are known by then."""
+        super().__init__(file, places)
+        self.dwells = dwells
+
     def step(self, second: Second) -> None:
         """Writes a row for each vehicle that arrived in a second."""
-        for _, trip in second.arrived:
-            self.file.write(f"    <tripinfo {self.row(trip, second.clock)}/>\n")
+        for car, trip in second.arrived:
+            self.file.write(f"    <tripinfo {self.row(trip, second.clock, self.dwells.get(car, ()))}/>\n")
 
-    def row(self, trip: Trip, arrival: int) -> str:
-        """The attributes of a trip that arrived at a clock, in SUMO's order."""
-        names, duration = self.places.names, arrival - trip.depart
+    def row(self, trip: Trip, arrival: int, stops: Sequence[Dwell]) -> str:
+        """The attributes of a trip that arrived at a clock, with its stops, in SUMO's order."""
+        names, duration, dwell = self.places.names, arrival - trip.depart, sum(one.seconds for one in stops)
         return attributes(
             id=trip.name,
             depart=float(trip.depart),
@@ -70,10 +80,10 @@ class Tripinfo(XmlFile):
             arrivalSpeed=self.places.speed(trip.last),
             duration=float(duration),
             routeLength=trip.metres,
-            waitingTime=float(trip.waiting),
-            waitingCount=trip.stops,
-            stopTime=0.0,
-            timeLoss=max(0.0, duration - trip.free),
+            waitingTime=float(max(0, trip.waiting - sum(one.stood for one in stops))),
+            waitingCount=max(0, trip.stops - len(stops)),
+            stopTime=float(dwell),
+            timeLoss=max(0.0, duration - trip.free - dwell),
             rerouteNo=0,
             devices="",
             vType=trip.kind,

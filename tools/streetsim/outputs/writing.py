@@ -1,14 +1,18 @@
 """Writes SUMO's output files, from a run's looks at the lanes in every second."""
 import contextlib
 import itertools
+import os
 from bisect import insort
 from collections import defaultdict
-from collections.abc import Callable, Iterable, Mapping, Sequence
+from collections.abc import Callable, Iterable, Iterator, Mapping, Sequence
 from typing import Any
 
 from streetsim.base.files import Fault, TextFile, whole_file
+from streetsim.buses.fleet import Done, Dwell, dwells
 from streetsim.model.folder import Folder, Frame
 from streetsim.model.mapping import Map
+from streetsim.model.stops import Visit
+from streetsim.model.tables import STOPS_FILE
 from streetsim.outputs.formats import Fcd, Queue, Summary, Tripinfo, XmlFile
 from streetsim.outputs.intervals import Areas, Edgedata, Loops
 from streetsim.outputs.places import Places
@@ -31,9 +35,10 @@ class Outputs(contextlib.ExitStack):
         super().__init__()
         self.follower, self.start = Follower(mapping, dawdle), start
         self.wished: list[int] = []
+        self.dwells: dict[int, list[Dwell]] = {}
         places = Places(mapping)
         makers: dict[str, Callable[[TextFile], XmlFile]] = {
-            "tripinfo": lambda file: Tripinfo(file, places),
+            "tripinfo": lambda file: Tripinfo(file, places, self.dwells),
             "summary": lambda file: Summary(file, places, self.wished, rescued),
             "edgedata": lambda file: Edgedata(file, places, period, start),
             "fcd": lambda file: Fcd(file, places),
@@ -68,9 +73,12 @@ class Outputs(contextlib.ExitStack):
         for writer in self.writers:
             writer.step(second)
 
-    def write(self, trips: Sequence[Mapping[str, str | int]], frames: Iterable[Frame]) -> None:
-        """Writes a whole run, of the rows of trips.csv in the order of the vehicles' numbers, and what stood on the
-        lanes in every second; Fault where a second is missing."""
+    def write(
+        self, trips: Sequence[Mapping[str, str | int]], frames: Iterable[Frame], stops: Iterable[Done] = ()
+    ) -> None:
+        """Writes a whole run, of the rows of trips.csv in the order of the vehicles' numbers, what stood on the lanes
+        in every second, and what became of stops; Fault where a second is missing."""
+        self.dwells.update(dwells(stops))
         arrivals = defaultdict(list)
         for car, trip in enumerate(trips):
             self.expect(car, str(trip["id"]), int(trip["depart"]))
@@ -93,4 +101,14 @@ def write_from_folder(folder: Folder, kinds: Iterable[str], out: str) -> None:
     if first is None or folder.every != 1:
         raise Fault(f"{folder.path}: SUMO's outputs need a run with --every 1, or streetsim-run --sumo-output")
     with Outputs(paths, folder.mapping, folder.dawdle / 1000, folder.period, first["clock"] - 1) as outputs:
-        outputs.write(folder.trips(), itertools.chain([first], polls))
+        outputs.write(folder.trips(), itertools.chain([first], polls), stops_in(folder))
+
+
+def stops_in(folder: Folder) -> Iterator[Done]:
+    """What became of the stops of a run, by its stops.csv; nothing where it has none."""
+    visits: defaultdict[tuple[str, str], list[Visit]] = defaultdict(list)
+    for visit in sorted(folder.mapping.visits, key=lambda one: (one.vehicle, one.at)):
+        visits[folder.mapping.cars[visit.vehicle], visit.stop].append(visit)
+    for row in folder.stops() if os.path.exists(f"{folder.path}/{STOPS_FILE}") else ():
+        clocks = (int(row[name]) if row[name] else None for name in ("arrival", "departure"))
+        yield Done(visits[row["id"], row["stop"]].pop(0), row["state"], None, *clocks)

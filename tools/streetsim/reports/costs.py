@@ -5,6 +5,7 @@ from dataclasses import dataclass, field
 from statistics import fmean
 
 from streetsim.model.folder import Folder
+from streetsim.model.stops import classes_of
 from streetsim.reports.comparing import Difference, paired
 from streetsim.results.reading import Runs
 
@@ -48,6 +49,24 @@ def costs_of(before: Runs, after: Runs) -> Costs:
     differences = {group: paired(*sides) for group, sides in sums.items()}
     found.groups = {group: (counts[group], one) for group, one in differences.items() if one}
     return found
+
+
+Means = dict[int, tuple[int, float, float]]  # by seed: trips that arrived, their mean seconds, their mean delay
+
+
+def means_by_class(runs: Runs) -> dict[str, Means]:
+    """By vehicle class, as SUMO names it, the trips of a plan's runs; the delay of a trip is what it took longer than
+    alone on its way, without seconds at stops. Classes of which nobody arrived are left out."""
+    found: defaultdict[str, Means] = defaultdict(dict)
+    for seed, folder in runs.folders.items():
+        trips: defaultdict[str, list[tuple[int, float]]] = defaultdict(list)
+        rows = folder.trips()
+        for vclass, row in zip(classes_of(folder.mapping.kinds, len(rows)), rows, strict=True):
+            if row["duration"]:
+                trips[vclass].append((int(row["duration"]), float(row["loss"])))
+        for vclass, own in trips.items():
+            found[vclass][seed] = len(own), fmean(trip for trip, _ in own), fmean(loss for _, loss in own)
+    return dict(found)
 
 
 def durations(folder: Folder) -> dict[str, int]:

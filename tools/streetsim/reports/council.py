@@ -8,7 +8,7 @@ from streetsim.model.service import COLOURS
 from streetsim.reports import works
 from streetsim.reports.choosing import Told, told_of
 from streetsim.reports.comparing import Difference, paired, total_delay
-from streetsim.reports.costs import NOTICED, Costs, costs_of
+from streetsim.reports.costs import NOTICED, Costs, Means, costs_of, means_by_class
 from streetsim.reports.drawing import letter_mark, map_picture
 from streetsim.reports.markup import bullets, change_told, clock, mean_told, table
 from streetsim.reports.saying import change_in_words, number, several
@@ -17,6 +17,8 @@ from streetsim.results.reading import Row, Runs
 Interval = tuple[int, int]  # begin and end, seconds
 MOST_GROUPS = 6  # flows in the table of trips
 LONG = 160  # letters of a warning on the first page
+BUS = "bus"  # SUMO's class, which is told first
+CALLED = {BUS: "buses", "passenger": "cars"}  # others have SUMO's name
 LEAST_HOURLY = 20  # vehicles an hour of a movement that is called the worst
 
 
@@ -128,9 +130,37 @@ def costs(plans: Sequence[Runs], shown: Interval) -> str:
     movements = junctions_of(plans, shown, "movements")
     texts = [*worst_movements(movements, plans[-1])]
     if len(plans) < 2:
-        return bullets(texts)
+        return bullets(texts) + classes_table(plans)
     found = costs_of(*plans)
-    return bullets([*trips_told(found), *texts]) + groups_table(found)
+    return bullets([*trips_told(found), *texts]) + classes_table(plans) + groups_table(found)
+
+
+def classes_table(plans: Sequence[Runs]) -> str:
+    """A table of the trips and delays of buses, cars and other classes, with two plans before and after, as HTML; empty
+    where all vehicles are of one class."""
+    found = [means_by_class(runs) for runs in plans]
+    classes = sorted(found[0].keys() | found[-1].keys(), key=lambda vclass: (vclass != BUS, vclass))
+    if len(classes) < 2:
+        return ""
+    rows = [[escape(CALLED.get(one, one)), *class_row([own.get(one, {}) for own in found])] for one in classes]
+    heads = ["trip, s", "delay, s"]
+    if len(plans) == 2:
+        heads = [f"{what} {when}, s" for what in ("trip", "delay") for when in ("before", "after", "change")]
+    return table(["trips by class", "trips", *heads], rows)
+
+
+def class_row(sides: Sequence[Means]) -> list[str]:
+    """The cells of a class in a table of trips: how many arrived in the runs of the last plan, then the mean trip and
+    the mean delay in seconds; with two plans before, after and the change of each. '-': of nobody."""
+    cells = [f"{sum(count for count, *_ in sides[-1].values()):,}"]
+    for at in (1, 2):
+        values = [{seed: own[at] for seed, own in side.items()} for side in sides]
+        if len(sides) == 1:
+            cells.append(mean_told(values[0].values()))
+            continue
+        one = paired(*values)
+        cells += [f"{one.before:.1f}", f"{one.after:.1f}", change_told(one)] if one else ["-", "-", "-"]
+    return cells
 
 
 def trips_told(found: Costs) -> list[str]:

@@ -3,6 +3,7 @@ from collections import Counter
 from collections.abc import Iterable, Iterator
 
 from streetsim.base import limits
+from streetsim.buses.fleet import dwells
 from streetsim.model.detectors import Detector
 from streetsim.model.freeflow import Alone
 from streetsim.model.mapping import Map
@@ -58,11 +59,8 @@ def trips(records: Records, run: Run, mapping: Map) -> Iterator[Entry]:
 def dwelt(records: Records) -> Counter[int]:
     """The seconds that vehicles stood at their stops, by their number in the file; stops that they have not left do not
     count."""
-    found: Counter[int] = Counter()
-    for one in records.stops:
-        if one.arrived is not None and one.left is not None:
-            found[one.visit.vehicle] += one.left - one.arrived
-    return found
+    own = dwells(records.stops).items()
+    return Counter({vehicle: sum(one.seconds for one in those) for vehicle, those in own})
 
 
 def stops(records: Records, run: Run, mapping: Map) -> Iterator[Entry]:
