@@ -55,8 +55,8 @@ def of_table(path: FilePath, period: tuple[int, int] | None) -> Iterator[Cell]:
 
 
 def of_sumo(path: FilePath) -> Iterator[Cell]:
-    """The cells of a file of SUMO's tazRelations; Fault for any other element, and before the first interval, where
-    SUMO's od2trips reads without an end."""
+    """The cells of a file of SUMO's tazRelations; Fault for any other element, and for a relation before the first
+    interval, which would have no end."""
     begin = end = 0
     for tag in tags(path, ("data", "meandata", "tazRelations")):
         if tag.name == "interval":

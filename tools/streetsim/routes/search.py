@@ -279,8 +279,8 @@ def changes(found: Sequence[Found], share: float) -> list[Found]:
 
 
 def steps_of(found: Sequence[Found], share: float, tried: int) -> list[Step]:
-    """Lists of the trips that change: by a share, by half of it, and so on, tried times; a list that is no shorter than
-    the one before it is left out."""
+    """Steps of trips that change: by the share (part 1), by half of it (part 0.5), and so on, tried of them; one with
+    no fewer trips than the one before it is left out."""
     steps = [Step(1 / 2**at, changes(found, share / 2**at)) for at in range(tried)]
     return [step for at, step in enumerate(steps) if at == 0 or len(step.trips) < len(steps[at - 1].trips)]
 

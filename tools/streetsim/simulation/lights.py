@@ -62,7 +62,8 @@ class Control:
         self.change(simulation.clock)
 
     def change(self, clock: int) -> None:
-        """Has the lights know of their changes by time of day up to a clock, but for those that a script has set."""
+        """Gives the lights the programs that they have by time of day up to a clock; those that a script has set keep
+        what it set."""
         while self.changes and self.changes[0][0] <= clock:
             _, name, program = self.changes.popleft()
             if name in self.lights and not self.simulation.shown.forgotten & {*self.simulation.shown.nodes(name)}:
