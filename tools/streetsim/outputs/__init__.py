@@ -1,1 +1,2 @@
-"""SUMO's output files of a run: tripinfo, summary, edgeData, fcd, queue, e1, e2."""
+"""What a run writes: the folder with its tables and its setting, and SUMO's output files (tripinfo, summary, edgeData,
+fcd, queue, e1, e2)."""

@@ -1,4 +1,4 @@
-"""What a report reads: the folders of a run, one for each seed, and their junction tables."""
+"""What reports, maps and exports read: the folders of a run, one for each seed, and their junction tables."""
 import os
 from collections import defaultdict
 from collections.abc import Collection, Mapping
