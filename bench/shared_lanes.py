@@ -26,9 +26,9 @@ NET = TOP / "tools/tests/data/cross1.net.xml.gz"
 # Greens of the other street and of this one, shares that turn left in percent, vehicles an hour against them, and the
 # shares of these that turn left and right.
 ROWS = {
-    "42 of 90 s, all against go straight on": (["42-42"], (10, 20, 30, 60), (200, 300, 400, 600), 0, 0),
-    "57 or 27 of 90 s, 27 of 60 s": (["27-57", "57-27", "27-27"], (12, 25), (150, 300, 450), 0, 0),
-    "42, 57 or 27 of 90 s, 20 % against turn left": (["42-42", "27-57", "57-27"], (12, 25), (300, 500), 20, 0),
+    "42 of 90 s, all against go straight on": (["42-42"], (10, 30, 60), (200, 400, 600), 0, 0),
+    "57 or 27 of 90 s, 27 of 60 s": (["27-57", "57-27", "27-27"], (12, 25), (150, 450), 0, 0),
+    "42 or 27 of 90 s, 20 % against turn left": (["42-42", "57-27"], (12, 25), (300, 500), 20, 0),
     "42 or 57 of 90 s, 20 % left and 20 % right": (["42-42", "27-57"], (12, 25), (300, 500), 20, 20),
 }
 

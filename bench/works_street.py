@@ -259,7 +259,7 @@ def drawn_row(one: Drawn, program: str, seeds: range) -> str:
         added.append(first - second)
         runs.append(with_works)
     stood = max(seen.stood for seen in runs[1])
-    doubt = next((seen.doubt for seen in runs[1] if seen.doubt), "")
+    doubt = "doubted" if any(seen.doubt for seen in runs[1]) else ""
     what = f"{works.edge} ({one.lanes} lanes), lane {works.lane}, {works.end - works.begin} m"
     name = f"{one.made.name}{street_in_words(one.made.drawn) if one.made.kind == 'street' else ''}"
     cells = f"{100 * one.share:.0f} % | {added[0]:+.1f} | {added[1]:+.1f} | {stood} s | {doubt}"
