@@ -135,6 +135,16 @@ class Files(Case):
         self.assertIn("<busStop 'first'>: a second stop of this name", str(fault.exception))
 
 
+    def test_accelerations_count_where_vehicles_stop(self):
+        # One of three types has a vehicle that stops; a deceleration of another one has no effect.
+        types = '<vType id="x" accel="1" decel="2"/><vType id="y" decel="3"/><vType id="z" sigma="0.5"/>'
+        route = '<route edges="a b"/>{}'
+        cars = "".join(f'<vehicle id="{one}" type="{one}" depart="0">{route}</vehicle>' for one in "xyz")
+        for stop, expected in ((AT_FIRST, (0, 1)), ("", (1, 2))):
+            *_, report = self.imported(types + cars.format(stop, "", ""))
+            found = tuple(report.ignored[f"{name} of vTypes"] for name in ("accel", "decel"))
+            self.assertEqual((found, report.ignored["sigma of vTypes"]), (expected, 1))
+
     def test_a_stop_past_which_the_run_leads_has_a_row(self):
         # The bus is led over another link, as works on the stop's lane do.
         stops = f'{AT_FIRST}<stop busStop="second" duration="20"/>'

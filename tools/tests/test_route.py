@@ -17,19 +17,22 @@ from types import SimpleNamespace
 
 from clusters import ClusterCase, needs_distributed
 from support import DATA, PROGRAM, SCENARIOS, TOOLS, Case, lane, needs_simulator, needs_sumo_tools, net
+from streetsim.base.report import Report
 from streetsim.model.mapping import Map, MapLink, read_map
 from streetsim.model.runs import Line, Run, read_run
 from streetsim.model.waiting import Gap
 from streetsim.routes.diverting import Diverted
+from streetsim.routes.loading import read_town
 from streetsim.routes.passes import Passes, Sight
 from streetsim.routes.search import Asked, Search, Seen, changes, gap_of, give, is_still, paths_after, steps_of
 from streetsim.sumo.net import SumoNet
+from streetsim.sumo.network import Options
 from streetsim.ways.costs import Costs, Table, costs_of, flat_costs, nothing_observed
 from streetsim.ways.graph import END, Graph
 from streetsim.ways.minor import Minor
 from streetsim.ways.router import FAR, Found, Router, Wish, parts_of
 from streetsim.ways.seconds import reds
-from streetsim.ways.trips import Trip
+from streetsim.ways.trips import Trip, read_trips, write_routes
 
 # From a to d by b or by c; from b to c as well. Nobody may go from c to d's twin e.
 GRAPH = Graph(
@@ -150,6 +153,40 @@ class Seconds(unittest.TestCase):
         self.assertEqual(steps, [[1, 3, 4], [1, 4], [1]])
         self.assertAlmostEqual(gap_of(found), 70.4 / 500)
         self.assertEqual(gap_of([]), 0.0)
+
+
+STREET = net(
+    [(name, *ends, [lane(name, 0)]) for name, ends in (("a", "AB"), ("b", "BC"), ("c", "CD"), ("side", "BE"))],
+    [("a", 0, "b", 0, ""), ("b", 0, "c", 0, ""), ("a", 0, "side", 0, "")],
+)
+
+
+class Written(Case):
+    def test_routes_keep_what_their_vehicles_have(self):
+        """Attributes that have no effect here, the line, and the stops that lie on the way that was found; a flow's
+        stop is for a departure at its begin."""
+        text = """<routes><vType id="bus" vClass="bus" accel="1.2"/>
+        <vehicle id="v" type="bus" depart="7" departSpeed="max" departLane="0" arrivalPos="9" color="red" line="12">
+        <route edges="a b c"/><stop lane="b_0" endPos="50" duration="20" until="99"/></vehicle>
+        <trip id="t" depart="8" from="a" to="c" departPos="3"/>
+        <flow id="f" begin="10" end="40" number="2" from="a" to="c" departSpeed="5">
+        <stop lane="c_0" duration="5" until="30"/><stop lane="side_0" duration="9"/></flow></routes>"""
+        report = Report()
+        town = read_town(self.write("x.net.xml", STREET), [], Options(classes=("passenger", "bus")), report)
+        files = [self.write("r.rou.xml", text)]
+        trips = read_trips(files, town.net, town.graph, town.types, town.options, report)
+        for trip in trips.all:
+            trip.path = tuple(town.graph.number[name] for name in "abc")
+        write_routes(str(self.folder / "out.xml"), trips, town.graph)
+        read = {one.get("id"): one for one in ElementTree.parse(self.folder / "out.xml").iter("vehicle")}
+        given = {"departLane": "0", "departSpeed": "max", "arrivalPos": "9", "color": "red", "line": "12"}
+        self.assertEqual(read["v"].attrib, {"id": "v", "type": "bus", "depart": "7.00", **given})
+        self.assertEqual(read["t"].attrib, {"id": "t", "depart": "8.00", "departLane": "best", "departPos": "3"})
+        self.assertEqual(read["f.1"].attrib, {"id": "f.1", "depart": "25.00", "departLane": "best", "departSpeed": "5"})
+        made = {name: list(one.iter("stop")) for name, one in read.items()}
+        stops = {name: [(stop.get("lane"), stop.get("until")) for stop in those] for name, those in made.items()}
+        self.assertEqual(stops, {"v": [("b_0", "99")], "t": [], "f.0": [("c_0", "30")], "f.1": [("c_0", "45")]})
+        self.assertEqual(report.ignored["accel of vTypes"], 1)
 
 
 class Stepping(Search):

@@ -15,6 +15,7 @@ from collections.abc import Callable, Collection, Iterable, Iterator, Mapping
 from types import FrameType
 from typing import IO, Any, Literal, NoReturn, TypeVar, cast, overload
 from xml.etree.ElementTree import Element
+from xml.sax.saxutils import quoteattr
 
 from streetsim.base.halves import half_file, half_folder, is_half
 
@@ -197,6 +198,11 @@ def at_least_zero(convert: Callable[[str], Number]) -> Callable[[str], Number]:
 def above_zero(convert: Callable[[str], Number]) -> Callable[[str], Number]:
     """A conversion that takes numbers above 0 alone; ValueError for 0 and below."""
     return only(convert, lambda value: value > 0)
+
+
+def attributes_of(values: Mapping[str, str]) -> str:
+    """Attributes of an element as text, each with a blank before it."""
+    return "".join(f" {name}={quoteattr(value)}" for name, value in values.items())
 
 
 def filled(text: str) -> str:

@@ -25,6 +25,7 @@ Mix = tuple[list[str], list[float]]  # names and weights
 
 READ = {"id", "type", "depart", "route", "edges", "begin", "end"}
 READ |= {"number", "period", "probability", "vehsPerHour", "perHour", "repeat", "line"}
+ENDS = {"from", "to", "fromTaz", "toTaz", "via"}
 NOT_DRIVEN = {
     "trip": "a trip",
     "person": "a person",
@@ -50,6 +51,7 @@ class Vehicle:
     route: str = ""  # the name of its route, as SUMO has it; none where the route stands in the vehicle
     stops: tuple[Stop, ...] = ()
     line: str = ""  # of public transport
+    more: tuple[tuple[str, str], ...] = ()  # further attributes, as departSpeed, which have no effect here
 
 
 class Demand:
@@ -157,7 +159,8 @@ class Demand:
         edges = self.edges(path, element, inner) if inner is not None else None
         kind: Any = optional(path, element, "type", filled, None)  # None until `finish` where the file tells no type
         for name, depart in departs:
-            vehicle = Vehicle(name, depart, edges or (), kind, route, *self.riding(path, element, depart))
+            riding = self.riding(path, element, depart)
+            vehicle = Vehicle(name, depart, edges or (), kind, route, *riding, unread(element))
             self.vehicles.append(vehicle)
             if edges is None:
                 self.later.append((vehicle, told(path, element)))
@@ -224,6 +227,11 @@ class Demand:
         if after := len(self.vehicles) - len(before):
             self.report.notes.append(f"{after:,} vehicles that depart at the end, {end:,} s, or later are left out")
         return sorted(before, key=lambda vehicle: vehicle.depart)
+
+
+def unread(element: Element) -> tuple[tuple[str, str], ...]:
+    """The attributes of a vehicle, trip or flow that are not read, (name, value)."""
+    return tuple((name, value) for name, value in element.items() if name not in READ | ENDS)
 
 
 def enters(

@@ -7,7 +7,7 @@ from dataclasses import dataclass, field, replace
 from xml.etree.ElementTree import Element
 
 from streetsim.base.files import (
-    Fault, FilePath, attribute, filled, number, optional, seconds, told,
+    Fault, FilePath, attribute, attributes_of, filled, number, optional, seconds, told,
 )
 from streetsim.base.report import Report, some
 from streetsim.model.stops import Visit
@@ -39,6 +39,12 @@ class Stop:
     duration: int
     until: int | None
     why: str = ""  # it can not be made
+    told: tuple[tuple[str, str], ...] = ()  # its attributes in the file
+
+    def text(self) -> str:
+        """Its element, as a file of routes has it."""
+        until = {} if self.until is None else {"until": str(self.until)}
+        return f"<stop{attributes_of({**dict(self.told), **until})}/>"
 
     def later(self, shift: float) -> Stop:
         """The stop with its until shift seconds later; without until it stays as it is."""
@@ -122,8 +128,9 @@ def stop_of(path: FilePath, owner: Element, element: Element, net: SumoNet) -> S
     elif not name:
         place = place_of(path, element, net, where)
     return Stop(
-        where, name, place, max(1, round(duration or 0)), None if until is None else round(until), why
-    )
+        where, name, place, max(1, round(duration or 0)), None if until is None else round(until), why,
+        tuple(element.items()),
+    )  # fmt: skip
 
 
 def why_not(element: Element) -> str:
@@ -164,8 +171,9 @@ def place_of(path: FilePath, element: Element, net: SumoNet, where: str) -> BusS
 
 def edge_of(stop: Stop, net: SumoNet) -> str:
     """The name of the edge where a stop lies; empty where it has no place."""
-    place = net.bus_stops.get(stop.name) if stop.name else stop.place
-    return place.lane.rpartition("_")[0] if place else ""
+    place, told = net.bus_stops.get(stop.name) if stop.name else stop.place, dict(stop.told)
+    lane = place.lane if place else told.get("lane", "")
+    return lane.rpartition("_")[0] or told.get("edge", "")
 
 
 class Stops:
@@ -176,6 +184,7 @@ class Stops:
         self.net, self.types, self.report = net, types, report
         self.unmade: defaultdict[str, list[str]] = defaultdict(list)  # vehicle at stop, by reason
         self.visits: list[Visit] = []
+        self.kinds: set[str] = set()  # types of the vehicles that make them
 
     def on(self, name: str, edges: Sequence[str], stops: Iterable[Stop]) -> Found:
         """The stops of a vehicle that have a place on its route (edges), each on the edge of the stop before it or on a
@@ -224,6 +233,7 @@ class Stops:
             losses = self.losses(kind, network.links[link])
             visit = Visit(number, spot.at, called(stop), link, lane, *cells, stop.duration, stop.until, *losses)
             self.visits.append(visit)
+            self.kinds.add(kind)
 
     def losses(self, kind: str, link: Link) -> tuple[float, float]:
         """(seconds that SUMO's vehicle of a type loses as it brakes; seconds that it loses as it starts beyond one of
@@ -233,7 +243,8 @@ class Stops:
         return round(speed / 2 / decel, 2), max(0.0, round(speed / 2 / accel - (link.limit - 1) / 2, 2))
 
     def tell(self) -> None:
-        """Reports how many stops are made, and by reason those that are not."""
+        """Reports how many stops are made, by reason those that are not, and accelerations that had no effect."""
+        self.types.note_paces(self.kinds, self.report)
         for why, names in self.unmade.items():
             self.report.warn(f"{len(names):,} stops of vehicles are not made, {why}: {some(names)}", names, do_of(why))
         if self.visits:

@@ -1,6 +1,7 @@
 """Reads SUMO's vehicle types, and gives vehicles their sizes: how many cells each takes."""
 import random
 from collections import Counter, defaultdict
+from collections.abc import Collection
 from dataclasses import dataclass
 from xml.etree.ElementTree import Element
 
@@ -63,6 +64,7 @@ PACE_BY_CLASS = {  # where SUMO's defaults are other ones
     "rail_fast": (0.5, 1.3),
 }
 READ = {"id", "length", "minGap", "vClass", "probability", "probabilities", "vTypes"}
+PACES = {"accel", "decel"}  # which count for vehicles that stop, as buses do
 TAGS = ("vType", "vTypeDistribution")
 
 
@@ -102,6 +104,7 @@ class Types:
         self.metres["DEFAULT_BIKETYPE"] = sum(BY_CLASS["bicycle"])
         self.kinds = {DEFAULT: Kind()}  # by name; those that files tell, and the usual one
         self.pace = {DEFAULT: PACE}  # by name
+        self.paced: dict[str, set[str]] = {}  # by name, those of PACES that its type tells
         self.mixes: dict[str, tuple[list[str], list[float]]] = {}  # distribution: types and their weights
         self.draws = random.Random(f"types {seed}")
         self.named: set[str] = set()  # types and distributions of the files
@@ -127,8 +130,16 @@ class Types:
         starting, braking = PACE_BY_CLASS.get(vclass, PACE)
         starting = optional(path, element, "accel", above_zero(number), starting)
         self.pace[name] = starting, optional(path, element, "decel", above_zero(number), braking)
-        for name in set(element.keys()) - READ:
-            self.report.ignored[f"{name} of vTypes"] += 1
+        self.paced[name] = PACES & set(element.keys())
+        for other in set(element.keys()) - READ - PACES:
+            self.report.ignored[f"{other} of vTypes"] += 1
+
+    def note_paces(self, used: Collection[str], report: Report) -> None:
+        """Reports the accelerations of types that had no effect, as none of their vehicles stops; used: the types whose
+        vehicles do."""
+        for told in PACES:
+            unused = sum(told in paces for name, paces in self.paced.items() if name not in used)
+            report.ignored[f"{told} of vTypes"] = unused
 
     def new_name(self, path: FilePath, element: Element) -> str:
         """The name of a type or a distribution; Fault where another one of the files has it."""

@@ -1,6 +1,6 @@
 """Trips of SUMO's files: where each begins and ends, when, and the way that it has; and files of routes written of
 them."""
-from collections.abc import Iterable, Sequence
+from collections.abc import Iterable, Iterator, Sequence
 from dataclasses import dataclass
 from itertools import pairwise
 from typing import Any
@@ -8,9 +8,9 @@ from xml.etree import ElementTree
 from xml.sax.saxutils import quoteattr
 
 from streetsim.base import limits
-from streetsim.base.files import Fault, FilePath, elements, filled, optional, told, whole_file
+from streetsim.base.files import Fault, FilePath, attributes_of, elements, filled, optional, told, whole_file
 from streetsim.base.report import Report
-from streetsim.sumo.demand import NOT_DRIVEN, READ, Demand, Vehicle
+from streetsim.sumo.demand import ENDS, NOT_DRIVEN, READ, Demand, Vehicle, unread
 from streetsim.sumo.net import SumoNet
 from streetsim.sumo.network import Options
 from streetsim.sumo.stops import Stop, edge_of, stops_in
@@ -18,7 +18,7 @@ from streetsim.sumo.types import DEFAULT, TAGS, Types
 from streetsim.ways.graph import Graph
 from streetsim.ways.router import Path
 
-ENDS = {"from", "to", "fromTaz", "toTaz", "departLane", "departSpeed", "departPos", "arrivalPos", "arrivalSpeed"}
+ASIDE = {"departLane", "departSpeed", "departPos", "arrivalPos", "arrivalSpeed"}  # written again, and of no effect here
 PERSONS = ("person", "personFlow")
 DRIVEN = ("personTrip", "trip")  # of a person who may take a car; who rides does so in a vehicle that the files have
 BY_STOPS = (
@@ -43,6 +43,8 @@ class Trip:
     route: str = ""  # the name of the route that it was given
     stops: tuple[Stop, ...] = ()
     line: str = ""  # of public transport
+    more: tuple[tuple[str, str], ...] = ()  # further attributes that its file has, as departSpeed
+    calls: tuple[tuple[str, str], ...] = ()  # (edge or, where it is not known, an empty text; element) of each stop
 
 
 class TripDemand(Demand):
@@ -92,11 +94,12 @@ class TripDemand(Demand):
             super().add(path, element, departures)
             return
         ends = self.ends(path, element)
-        for name in set(element.keys()) - READ - ENDS:
+        for name in set(element.keys()) - READ - ENDS - ASIDE:
             self.report.ignored[f"{name} of {element.tag}s"] += 1
         kind: Any = optional(path, element, "type", filled, None)  # None until `finish` where the file tells no type
         for name, depart in departures:
-            self.vehicles.append(Vehicle(name, depart, ends, kind, "", *self.riding(path, element, depart)))
+            riding = self.riding(path, element, depart)
+            self.vehicles.append(Vehicle(name, depart, ends, kind, "", *riding, unread(element)))
             self.without.add(name)
 
     def ends(self, path: FilePath, element: ElementTree.Element) -> tuple[str, str]:
@@ -153,10 +156,13 @@ def read_trips(
         ends = graph.number[one.edges[0]], graph.number[one.edges[-1]]
         back = ends[0] == ends[1] and len(way) > 1
         trip = Trip(one.name, one.depart, *ends, one.type, way, one.depart, not back, one.route, one.stops, one.line)
+        trip.more = one.more
+        trip.calls = tuple((edge_of(stop, net), stop.text()) for stop in one.stops)
         found.append(trip)
     if not found:
         why = "".join(f"; {count:,} left out: {reason}" for reason, count in sorted(report.skipped.items()))
         raise Fault(f"{', '.join(paths)}: no trip that can drive{why}")
+    types.note_paces((), report)
     return Trips(found, demand.told_types)
 
 
@@ -200,14 +206,30 @@ def vehicles_of(trips: Iterable[Trip], graph: Graph) -> list[Vehicle]:
 
 
 def write_routes(path: str, trips: Trips, graph: Graph) -> None:
-    """Writes a file of routes, with the trips' types, as SUMO and streetsim-import take it."""
+    """Writes a file of routes, with the trips' types, as SUMO and streetsim-import take it. Trips keep the attributes
+    of their files, and those of their stops that lie on their ways, one after the other."""
     with whole_file(path) as file:
         file.write("<routes>\n" + "".join(f"    {one}\n" for one in trips.types))
         for trip in trips.all:
-            kind = f" type={quoteattr(trip.type)}" if trip.type != DEFAULT else ""
-            edges = quoteattr(" ".join(graph.names(trip.path)))
-            file.write(
-                f'    <vehicle id={quoteattr(trip.name)} depart="{trip.depart:.2f}"{kind} departLane="best">'
-                f"<route edges={edges}/></vehicle>\n"
-            )
+            edges = graph.names(trip.path)
+            inside = [f"<route edges={quoteattr(' '.join(edges))}/>", *calls_on(trip, edges)]
+            file.write(f"    <vehicle{attributes_of(attributes_in(trip))}>{''.join(inside)}</vehicle>\n")
         file.write("</routes>\n")
+
+
+def attributes_in(trip: Trip) -> dict[str, str]:
+    """The attributes of a trip in a file of routes; it departs on the best lane where its own file tells none."""
+    kind = {"type": trip.type} if trip.type != DEFAULT else {}
+    line = {"line": trip.line} if trip.line else {}
+    return {"id": trip.name, "depart": f"{trip.depart:.2f}", **kind, "departLane": "best", **line, **dict(trip.more)}
+
+
+def calls_on(trip: Trip, edges: Sequence[str]) -> Iterator[str]:
+    """The elements of a trip's stops that lie on a way, each on the edge of the one before it or further on; SUMO
+    refuses others."""
+    at = 0
+    for edge, text in trip.calls:
+        if edge in edges[at:]:
+            at = edges.index(edge, at)
+        if not edge or edge in edges[at:]:
+            yield text
