@@ -178,6 +178,25 @@ class Signals(Case):
             ],
         )
 
+    def test_lights_of_one_kind_are_told_in_one_line(self):
+        report, names = Report(), "ABCDEFG"
+        ends = [(name + at, name + then) for name in names for at, then in ("12", "23")]
+        edges = [(begin, begin, end, [lane(begin, 0)]) for begin, end in ends]
+        pairs = [(name + "1", 0, name + "2", 0, f'tl="{name}" linkIndex="0"') for name in names]
+        programs = "".join(
+            f'<tlLogic id="{name}" type="{"actuated" if name < "G" else "delay_based"}" programID="0" offset="0">'
+            '<phase duration="9" state="G"/><phase duration="9" state="r"/></tlLogic>' for name in names
+        )  # fmt: skip
+        convert(self.write("y.net.xml", net(edges, pairs, programs)), [], [], Options(), report)
+        but = ", but where streetsim-run drives it by detectors"
+        told = [line for line in report.lines() if "durations" in line]
+        self.assertEqual(told, [
+            f"warning: 6 lights are actuated: their listed durations are used{but}: A, B, C, D, E and 1 more",
+            "warning: light 'G' is delay_based: its listed durations are used",
+        ])  # fmt: skip
+        found = [of for _, what, of, _ in report.rows() if "durations" in what]
+        self.assertEqual(found, ["A B C D E F", "G"])
+
     def test_a_light_that_the_network_does_not_have(self):
         other = (
             '<additional><tlLogic id="M" type="static" programID="1" offset="0"><phase duration="9" '

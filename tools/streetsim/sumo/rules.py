@@ -147,7 +147,7 @@ def warn_of_unknown(net: SumoNet, report: Report) -> None:
     for light, program in net.programs.items():
         if unknown := set().union(*(state for _, state in program.phases)) - SHOWN_STATES:
             told = f"light {light!r}: states {' '.join(sorted(unknown))} are shown red"
-            report.warn(told, [light], "judge it by SUMO")
+            report.warn(told, [light], "judge by SUMO", kind="lights have states that are shown red")
     for names in rings_that_yield(net):
         told = f"a ring whose entries go first, which fills and locks as in SUMO: edges {some(names)}"
         report.warn(told, names, "netconvert --roundabouts.guess, or a <roundabout> of them, lets the ring go first")

@@ -132,9 +132,11 @@ def signals(
         known = sorted(light for light in lights if light in net.programs and net.programs[light].phases)
         junction = network.nodes[node]
         if lights and not known:
-            report.warn(f"junction {junction!r}: no program for its light {some(sorted(lights))}; always green")
+            told = f"junction {junction!r}: no program for its light {some(sorted(lights))}; always green"
+            report.warn(told, [junction], kind="junctions have no program for their light; always green")
         if len(known) > 1:
-            report.warn(f"junction {junction!r}: of its lights {', '.join(known)} the first alone is used")
+            told = f"junction {junction!r}: of its lights {', '.join(known)} the first alone is used"
+            report.warn(told, [junction], kind="junctions have several lights, of which the first alone is used")
         if known:
             found = movements_at.get(junction, {}) if network.options.permissive is None else {}
             own = lit_node(net, network, node, turns, known[0], found, report)
@@ -143,7 +145,9 @@ def signals(
     for light in sorted({light for light, _ in made}):
         if net.programs[light].kind != "static":
             but = ", but where streetsim-run drives it by detectors" if net.programs[light].kind in DRIVEN else ""
-            report.warn(f"light {light!r} is {net.programs[light].kind}: its listed durations are used{but}")
+            kind = f"lights are {net.programs[light].kind}: their listed durations are used{but}"
+            told = f"light {light!r} is {net.programs[light].kind}: its listed durations are used{but}"
+            report.warn(told, [light], kind=kind)
     return made
 
 
@@ -158,7 +162,9 @@ def signal_lines(own: LitNode, begin: int, last: int) -> list[Command]:
         return [signal(own)]
     except TooLong:
         pass
-    own.report.warn(f"light {own.light!r}: {cycle_told(own)}; its phases are lines, until {last:,} s", light=True)
+    kind = f"lights have a cycle that does not fit in one plan; their phases are lines, until {last:,} s"
+    told = f"light {own.light!r}: {cycle_told(own)}; its phases are lines, until {last:,} s"
+    own.report.warn(told, [own.light], light=True, kind=kind)
     lines = takewhile(lambda line: line[0] <= last, phase_lines(own, begin))
     return [{**command, "at": clock} if clock > begin else command for clock, command in lines]
 
@@ -200,12 +206,12 @@ def signal(own: LitNode) -> Command:
         if len(phases) <= limits.PHASES:
             break
     if len(phases) > limits.PHASES:
-        report.warn(f"light {light!r}: more than {limits.PHASES} phases, so permissive greens are green throughout")
+        more = f"more than {limits.PHASES} phases, so permissive greens are green throughout"
+        report.warn(f"light {light!r}: {more}", [light], kind=f"lights have {more}")
         phases = run_lengths(green_seconds(own, states, {}, 1, False))
     if len(phases) > limits.PHASES:
-        report.warn(
-            f"light {light!r}: still more than {limits.PHASES} phases; the shortest are joined to those before them"
-        )
+        more = f"still more than {limits.PHASES} phases; the shortest are joined to those before them"
+        report.warn(f"light {light!r}: {more}", [light], kind=f"lights have {more}")
         try:
             phases = joined(phases)
         except TooLong as fault:
@@ -218,7 +224,8 @@ def signal(own: LitNode) -> Command:
         }
     )
     if never:
-        report.warn(f"light {light!r}: a turn is never green on edges {some(never)}", never)
+        text = f"light {light!r}: a turn is never green on edges {some(never)}"
+        report.warn(text, never, kind="lights have a turn that is never green, on edges")
     cycle = sum(duration for duration, _ in phases)
     return {
         "cmd": "signal",

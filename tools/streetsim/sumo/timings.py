@@ -62,6 +62,7 @@ def warn_of_clashes(net: SumoNet, report: Report) -> None:
                 f"light {timing.light!r}: movements that conflict have main green together: {some(told, 3)}",
                 [timing.light],
                 "show one of each pair as g, or after the other",
+                kind="lights show main green together to movements that conflict",
             )
 
 
