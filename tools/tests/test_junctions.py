@@ -178,6 +178,20 @@ class Definitions(unittest.TestCase):
         self.assertIsNone(greens.begin_of(0, 0, 12))
         self.assertIsNone(greens.at(1, 0, 3)[0])
 
+    def test_plans_one_after_another(self):
+        """As of a light that detectors drive: red from 0 s, green from 4 s, red from 9 s and green from 12 s on. A plan
+        before whose clock nothing was sent is none."""
+        parts = [(0, []), (4, [[0, 0, 1]]), (9, []), (12, [[0, 0, 1]])]
+        plans = [[clock, {**SIGNAL, "offset": -clock % 600, "phases": [[600, green]]}] for clock, green in parts]
+        greens = Greens(map_from("", MAP), plans[1:])
+        self.assertEqual([greens.at(0, 0, step)[0] for step in (3, 4, 8, 9, 11, 12, 99)],
+                         [None, {1}, {1}, set(), set(), {1}, {1}])
+        self.assertEqual((greens.begin_of(0, 0, 8), greens.begin_of(0, 0, 20)), (None, 12))
+        # Of the queues those at the begins of greens count, 4 and 12 s, not one of each plan.
+        mapping = map_from("", MAP)
+        measures = Measures(mapping, approaches_of(mapping), plans, 0, [[1, *plan] for plan in PLANS], passages(FRAMES))
+        self.assertEqual(measures.queues((0, 0), 0, 10), [0.0, 12.5])
+
     def test_saturation_headways(self):
         """Ten vehicles pass from step 5 on: the first four in every third step, the others in every second."""
         frames = [(clock, [[0, 0, at_rest(10), []]]) for clock in range(1, 6)]

@@ -1,12 +1,14 @@
 """Which junctions, approaches and movements a map has, and what their signals show."""
+from bisect import bisect_right
 from collections import defaultdict
 from collections.abc import Collection, Iterable, Mapping, Sequence
 from dataclasses import dataclass, field
+from itertools import accumulate
 from math import atan2, degrees
 from typing import Any
 
 from streetsim.model.mapping import Map, Place, Shape
-from streetsim.model.runs import Command, Sent
+from streetsim.model.runs import Sent
 from streetsim.model.service import PRIORITY, ROUNDABOUT, SIGNALS
 
 STRAIGHT, BACK = 45, 150  # degrees: less is straight on, more is a turn back
@@ -150,25 +152,32 @@ class Greens:
         for clock, command in sorted(signals, key=lambda pair: pair[0]):
             if command["node"] in lit:
                 self.plans[command["node"]].append((clock, command))
-        # (node, place of the plan, link, lane): for each second of the cycle the links that have green.
-        self.shown: dict[tuple[int, int | None, int, int], list[frozenset[int]]] = {}
+        self.clocks = {node: [clock for clock, _ in own] for node, own in self.plans.items()}
+        # (node, place of the plan, link, lane): for each phase the second in which it ends, and the links that have
+        # green.
+        self.shown: dict[tuple[int, int, int, int], tuple[list[int], list[frozenset[int]]]] = {}
 
-    def plan_at(self, node: int, step: int) -> tuple[int | None, Command | None]:
-        """The place of the plan that holds in a step at a node, among the node's, and its command; none for both before
-        the first."""
-        held = [(place, command) for place, (clock, command) in enumerate(self.plans[node]) if clock <= step]
-        return held[-1] if held else (None, None)
+    def plan_at(self, node: int, step: int) -> int | None:
+        """The place of the plan that holds in a step at a node, among the node's; none before the first, and where
+        there is no light."""
+        place = bisect_right(self.clocks.get(node, ()), step) - 1
+        return None if place < 0 else place
+
+    def has_one_plan(self, link: int) -> bool:
+        """Whether the light at the end of a link has no more than one plan, so that `at` knows its cycles. A light that
+        detectors drive has one for each phase."""
+        return len(self.clocks.get(self.mapping.links[link].end, ())) <= 1
 
     def at(self, link: int, lane: int, step: int) -> tuple[frozenset[int] | None, Any]:
         """The links to which a lane has green in a step, none for all; and a value that is equal for all steps of one
         cycle, where there is no signal for those of one minute."""
         node = self.mapping.links[link].end
-        place, command = self.plan_at(node, step) if node in self.plans else (None, None)
-        if command is None:
+        place = self.plan_at(node, step)
+        if place is None:
             return None, step // CYCLE
-        seconds = self.seconds(node, place, command, link, lane)
-        cycle, second = divmod(step + command["offset"], len(seconds))
-        return seconds[second], (place, cycle)
+        ends, greens = self.phases(node, place, link, lane)
+        cycle, second = divmod(step + self.plans[node][place][1]["offset"], ends[-1])
+        return greens[bisect_right(ends, second)], (place, cycle)
 
     def begin_of(self, link: int, lane: int, step: int) -> int | None:
         """The step in which the green of a lane began that it has in a step; none where it has none then, or has had it
@@ -181,16 +190,17 @@ class Greens:
                 return back + 1 if back < step else None
         return None
 
-    def seconds(self, node: int, place: int | None, command: Command, link: int, lane: int) -> list[frozenset[int]]:
-        """For each second of a plan's cycle the links to which a lane has green; place: of the plan among those of the
-        node."""
+    def phases(self, node: int, place: int, link: int, lane: int) -> tuple[list[int], list[frozenset[int]]]:
+        """For each phase of a plan the second of the cycle in which it ends, and the links to which a lane has green;
+        place: of the plan among those of the node."""
         key = node, place, link, lane
         if key not in self.shown:
-            self.shown[key] = [
-                frozenset(following for source, at, following in greens if (source, at) == (link, lane))
-                for duration, greens in command["phases"]
-                for _ in range(duration)
+            told = self.plans[node][place][1]["phases"]
+            greens = [
+                frozenset(following for source, at, following in green if (source, at) == (link, lane))
+                for _, green in told
             ]
+            self.shown[key] = list(accumulate(duration for duration, _ in told)), greens
         return self.shown[key]
 
 

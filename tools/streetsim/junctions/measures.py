@@ -150,10 +150,14 @@ class Measures:
 
     def queues(self, place: Place, begin: int, end: int) -> list[float]:
         """The longest queue of a lane, in metres, in each cycle of its signal from one clock to another; without a
-        signal in each minute."""
+        signal in each minute. A cycle of a light with several plans, as of one that detectors drive, goes from one
+        begin of the lane's green to the next."""
         longest: defaultdict[Any, float] = defaultdict(float)
-        back = self.passages.logs[place].back
+        back, has_cycle = self.passages.logs[place].back, self.greens.has_one_plan(place[0])
+        was_green, begins = True, 0
         for step in range(begin, end):
-            _, cycle = self.greens.at(*place, step)
+            shown, cycle = self.greens.at(*place, step)
+            begins += bool(shown) and not was_green
+            was_green, cycle = bool(shown), cycle if has_cycle else begins
             longest[cycle] = max(longest[cycle], back[step - self.passages.start])
         return list(longest.values())
