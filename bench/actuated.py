@@ -93,8 +93,8 @@ def row(program, kind, made):
     folder = made.folder
     fixed = folder / "fixed.net.xml"
     text = made.net.read_text(encoding="utf-8")
-    for kind in ("actuated", "NEMA", "delay_based"):
-        text = text.replace(f'type="{kind}"', 'type="static"')
+    for driven in ("actuated", "NEMA", "delay_based"):
+        text = text.replace(f'type="{driven}"', 'type="static"')
     fixed.write_text(text, encoding="utf-8")
     there = [sumo(made, net, folder) for net in (fixed, made.net)]
     run = [folder / "run.jsonl", "--map", folder / "map.json"]
