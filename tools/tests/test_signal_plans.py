@@ -14,11 +14,14 @@ from unittest import mock
 from unittest.mock import Mock
 
 from support import MAP, NUMBERED, PROGRAM, TOOLS, Case, lane, needs_package, needs_simulator, needs_sumo, net
+from test_works import fan, flows
 from streetsim.base.files import Fault
 from streetsim.base.seeds import runs_needed, seeds_for, seeds_of, student
 from streetsim.model.mapping import map_from, read_map
 from streetsim.model.runs import Line, Run, read_run
 from streetsim.model.trust import of_missing
+from streetsim.run.settings import Settings
+from streetsim.sessions.giving import for_search, giving_session, outcome_giving_way, seconds_at_works, with_gaps
 from streetsim.sessions.prepared import Outcome, outcome, session_of, vehicle_seconds
 from streetsim.signals.formulas import tree, webster_cycle
 from streetsim.signals.found import doubts_of, verdict
@@ -271,6 +274,20 @@ class Values(Corridor):
         self.assertEqual((made.arrived, made.seconds), (1, 103))
         # Counts at 100 and 110 say that it arrived between: at 105.5 in the mean.
         self.assertEqual(vehicle_seconds(session, b"", 0), 105.5)
+
+    def test_vehicles_merge_before_works_in_a_search_too(self):
+        """Its runs give what the report's do; without merging somebody waits for a gap, and all take longer."""
+        paths = [self.write("x.net.xml", fan(2)), "--routes", self.write("x.rou.xml", flows(2, 850)), "--joint", "a"]
+        files = self.folder / "run.jsonl", self.folder / "map.json"
+        self.tool("import", *paths, "-o", files[0], "--map", files[1])
+        run, mapping = read_run(files[0]), read_map(files[1])
+        place = {"link": mapping.links_of["a"][0], "lane": 0, "first": 20, "last": 26}
+        works = [(clock, {"cmd": name, **place}) for clock, name in ((100, "close"), (500, "reopen"))]
+        run.timed += [(clock, Line(0, json.dumps(command), command)) for clock, command in works]
+        session = giving_session(PROGRAM, run, mapping, Settings(600), 0)
+        exact = outcome_giving_way(session, b"", 7).seconds
+        self.assertEqual(seconds_at_works(for_search(session, []), b"", 7), exact)
+        self.assertGreater(vehicle_seconds(with_gaps(session, []), b"", 7), 1.02 * exact)
 
     def test_refused_line_is_a_fault(self):
         # The load is the first call, the five signals of the run are the next.

@@ -13,7 +13,7 @@ from streetsim.model.sources import digest_of
 from streetsim.run.rounds import Yielding, gaps_of, with_lines
 from streetsim.run.settings import Settings
 from streetsim.sessions.open_end import outcome_of
-from streetsim.sessions.prepared import Giving, Outcome, Session, outcome, session_of
+from streetsim.sessions.prepared import Giving, Outcome, Session, outcome, session_of, vehicle_seconds
 from streetsim.works.closures import closures_of
 
 
@@ -64,6 +64,24 @@ def with_gaps(session: Session, lines: list) -> Session:
     assert giving is not None
     made = session_of(session.program, with_lines(giving.run, lines), giving.until, giving.without)
     return replace(made, digest=session.digest)
+
+
+def for_search(session: Session, lines: list) -> Session:
+    """The session as with_gaps makes it; where works lie in its run it keeps a giving without rounds, by which
+    seconds_at_works has vehicles merge."""
+    giving, made = session.giving, with_gaps(session, lines)
+    if giving is None or not (giving.merging and closures_of(giving.run, giving.until)):
+        return made
+    return replace(made, giving=replace(giving, run=with_lines(giving.run, lines), rounds=0))
+
+
+def seconds_at_works(session: Session, signals: bytes, seed: int) -> float:
+    """The seconds of all vehicles, as vehicle_seconds; before works they merge, which is reckoned from their arrivals.
+    The session is one that for_search made, or one without a giving."""
+    giving = session.giving
+    if giving is None or not closures_of(giving.run, giving.until):
+        return vehicle_seconds(session, signals, seed)
+    return float(open_outcome(session, [], signals, seed).seconds)
 
 
 def outcome_giving_way(session: Session, signals: bytes, seed: int) -> Outcome:

@@ -13,9 +13,9 @@ from streetsim.model.mapping import Map
 from streetsim.model.runs import Line, Run, read_with_map
 from streetsim.model.stops import why_unmade
 from streetsim.run.settings import Settings
-from streetsim.sessions.giving import gaps, giving_session, outcome_giving_way, with_gaps
+from streetsim.sessions.giving import for_search, gaps, giving_session, outcome_giving_way, seconds_at_works
 from streetsim.sessions.machines import Function, Machines
-from streetsim.sessions.prepared import Outcome, Session, vehicle_seconds
+from streetsim.sessions.prepared import Outcome, Session
 from streetsim.signals.light_lines import LightLines, read_plans
 from streetsim.signals.plans import Light, Plan, light_of, why_kept
 from streetsim.sumo.net import STATIC, SumoNet
@@ -162,7 +162,7 @@ class Runner:
     def means(self, plans: Iterable[Plan], seeds: Sequence[int]) -> Iterator[float]:
         """For each plan with each seed, in this order, the mean trip in seconds by the session of the search; where
         vehicles give way without a light, by the gaps that were found under the given plan."""
-        for seconds in self.ordered(vehicle_seconds, plans, seeds, self.town.giving, CAREFUL):
+        for seconds in self.ordered(seconds_at_works, plans, seeds, self.town.giving, CAREFUL):
             yield seconds / self.cars
 
     def outcomes(self, plan: Plan, seeds: Sequence[int]) -> list[Outcome]:
@@ -200,7 +200,7 @@ def sessions_of(town: Town, seeds: Sequence[int], runner: Runner) -> list[Sessio
         return sessions
     for seed, (lines, yielding) in zip(seeds, runner.gaps(seeds), strict=True):
         town.giving[seed] = len(sessions)
-        sessions.append(with_gaps(town.careful, lines))
+        sessions.append(for_search(town.careful, lines))
     told = f"{yielding.junctions:,} junctions without a light give way by {yielding.lines:,} signal lines"
     print(f"{told} under the given plan; for the plan found these are made anew", file=sys.stderr)
     return sessions
