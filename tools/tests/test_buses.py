@@ -310,6 +310,20 @@ class Runs(Case):
         self.assertEqual(arrivals, sorted(told))
 
     @needs_simulator
+    def test_a_stop_where_works_close_the_lane_is_told_by_name(self):
+        text = f'<vehicle id="v" type="bus" depart="20"><route edges="a b"/>{AT_FIRST}</vehicle>'
+        out, (_, said) = self.made(text, "--close", "a_0:140-200:0-390")
+        told = "1 stops of vehicles are not made, as their lane is closed there by road works, which end after"
+        self.assertIn(told, said)
+        self.assertIn(": v at first", said)
+        self.assertEqual([row["state"] for row in self.table(out, "stops")], ["not made"])
+        # Works behind the stop, on the other lane, or that end before it departs are not in its way.
+        for works in ("a_0:180-200:0-390", "a_1:110-140:0-390", "a_0:140-200:0-19"):
+            with self.subTest(works):
+                out, (_, said) = self.made(text, "--close", works)
+                self.assertEqual([row["state"] for row in self.table(out, "stops")], ["made"])
+
+    @needs_simulator
     def test_without_a_last_second_a_run_waits_for_a_bus_at_its_stop(self):
         text = self.ONE.replace('until="30"', 'until="3000"')
         out, (said, _) = self.made(text, "--until", 9000)

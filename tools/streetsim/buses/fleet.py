@@ -15,6 +15,7 @@ from streetsim.buses.stopping import APPROACH, Road, Stopping
 from streetsim.model.mapping import Map, Place
 from streetsim.model.runs import Command, Run
 from streetsim.model.stops import AHEAD, MISSED, STANDING, UNMADE, Visit
+from streetsim.works.closures import closures_of
 from streetsim.works.merging import Seen
 
 Ask = Callable[[Iterable[int]], list[Vehicle]]  # of vehicles of the run's file
@@ -109,6 +110,7 @@ class Fleet:
         self.plan, self.calls = plan, Calls()
         self.done: list[Done] = []
         self.closed: frozenset[Closed] = frozenset()  # by all
+        self.works = closures_of(run, limits.CLOCK) if plan.visits else []
         visits: defaultdict[int, list[Visit]] = defaultdict(list)
         for visit in plan.visits:
             visits[visit.vehicle].append(visit)
@@ -145,7 +147,7 @@ class Fleet:
         for bus in due:
             if not bus.visits and not bus.lights:
                 del self.buses[bus.owner]
-        yield from self.changes()
+        yield from self.changes(clock)
 
     def locate(self, clock: int, bus: Bus, reply: Vehicle) -> None:
         """Notes where a bus is, by the program's reply, and when it is to be looked at next."""
@@ -247,13 +249,20 @@ class Fleet:
         bus.visits.pop(0)
         self.done.append(done)
 
-    def changes(self) -> Iterator[Command]:
-        """The commands that close and open cells, so that just those are closed that buses need now."""
+    def changes(self, clock: int) -> Iterator[Command]:
+        """The commands at a clock that close and open cells, so that just those are closed that buses need now, or
+        works."""
         wanted = frozenset().union(*(bus.closed for bus in self.buses.values()))
-        for command, cells in (("reopen", self.closed - wanted), ("close", wanted - self.closed)):
+        shut = {one for one in self.closed - wanted if self.is_at_works(clock, *one)}
+        for command, cells in (("reopen", self.closed - wanted - shut), ("close", wanted - self.closed)):
             for link, lane, cell in sorted(cells):
                 yield {"cmd": command, "link": link, "lane": lane, "first": cell, "last": cell}
         self.closed = wanted
+
+    def is_at_works(self, clock: int, link: int, lane: int, cell: int) -> bool:
+        """Whether works have a cell closed at a clock."""
+        own = (one for one in self.works if (one.link, one.lane) == (link, lane) and one.first <= cell <= one.last)
+        return any(one.begin <= clock < one.end for one in own)
 
     def all(self) -> list[Done]:
         """What became of all stops, those that no bus has come to or could make among them; asked for at the end of a

@@ -4,14 +4,18 @@ from __future__ import annotations
 from collections import defaultdict
 from collections.abc import Iterator, Mapping
 from dataclasses import dataclass, field
+from functools import partial
 
+from streetsim.base import limits
 from streetsim.base.report import some
 from streetsim.model.mapping import Map
 from streetsim.model.runs import Run
 from streetsim.model.stops import Visit
+from streetsim.works.closures import Closure, closures_of
 
 SEEN, MOST_SEEN = 15, 60  # seconds before a stop line: where nothing else is asked, and that may be asked for
 OTHER_WAY = "as the run has another way for them than the map"
+AT_WORKS = "as their lane is closed there by road works, which end after the vehicle departs"
 
 
 @dataclass(frozen=True, slots=True)
@@ -51,11 +55,23 @@ def planned(run: Run, mapping: Map) -> Planned:
     kept: list[Visit] = []
     off: list[Visit] = []
     unmade: defaultdict[str, list[str]] = defaultdict(list)
+    closed = closures_of(run, limits.CLOCK) if mapping.visits else []
     for visit in mapping.visits:
         way = ways[visit.vehicle] if visit.vehicle < len(ways) else ()
-        if visit.at < len(way) and way[visit.at] == visit.link:
-            kept.append(visit)
+        if visit.at >= len(way) or way[visit.at] != visit.link:
+            why = OTHER_WAY
+        elif any(map(partial(meets, visit, run.enters[visit.vehicle].command["depart"]), closed)):
+            why = AT_WORKS
         else:
-            unmade[OTHER_WAY].append(f"{mapping.cars[visit.vehicle]} at {visit.stop}")
-            off += [visit] if way else []
+            kept.append(visit)
+            continue
+        unmade[why].append(f"{mapping.cars[visit.vehicle]} at {visit.stop}")
+        off += [visit] if way else []
     return Planned(tuple(kept), {why: tuple(names) for why, names in unmade.items()}, tuple(off))
+
+
+def meets(visit: Visit, depart: int, closed: Closure) -> bool:
+    """Whether a closed stretch has cells of a stop, or the cell beyond it, and is still closed when the vehicle
+    departs; depart: the clock at which it does."""
+    at_stop = (closed.link, closed.lane) == (visit.link, visit.lane)
+    return at_stop and closed.first <= visit.last + 1 and closed.last >= visit.first and closed.end > depart
