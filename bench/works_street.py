@@ -5,6 +5,7 @@ import random
 import xml.etree.ElementTree as ElementTree
 from collections import Counter
 from dataclasses import dataclass
+from functools import cache
 from pathlib import Path
 from statistics import fmean
 
@@ -82,12 +83,17 @@ def in_sumo(case: Case, works: Stretch | None, seed: int, label: str) -> Seen:
     return Seen(found)
 
 
+@cache
+def convert(case: Case) -> None:
+    """Imports a case, once in each call of the script."""
+    words = [case.net, *case.additional, "--routes", *case.routes, "-o", "run.jsonl", "--map", "run.map.json"]
+    run([TOP / "tools/streetsim-import", *words], case.folder)
+
+
 def here(case: Case, works: Stretch | None, seed: int, label: str, program: str, joint: str) -> Seen:
     """A run of streetsim; joint: the lane of works, which is joint without them too."""
-    stem, out = case.folder / "run", case.folder / f"here-{label}-{seed}"
-    if not stem.with_suffix(".jsonl").exists():
-        words = [case.net, *case.additional, "--routes", *case.routes, "-o", "run.jsonl", "--map", "run.map.json"]
-        run([TOP / "tools/streetsim-import", *words], case.folder)
+    out = case.folder / f"here-{label}-{seed}"
+    convert(case)
     words = ["run.jsonl", "--map", "run.map.json", "--until", case.until, "--every", 0, "--rescue", 0, "--out", out]
     words += ["--program", program]
     if works:
@@ -95,7 +101,7 @@ def here(case: Case, works: Stretch | None, seed: int, label: str, program: str,
     elif joint:
         words.append(f"--joint={joint}")
     words += ["--seeds", f"{seed}-{seed}"]
-    told = run(["nice", "-n", 10, TOP / "tools/streetsim-run", *words], case.folder)
+    told = run([TOP / "tools/streetsim-run", *words], case.folder)
     out = out / f"seed-{seed}"
     with open(out / "trips.csv", encoding="utf-8") as file:
         rows = list(csv.DictReader(file))

@@ -175,6 +175,12 @@ class Pages(Case):
         self.assertEqual(list(figures(["| A | b |", "|---|---|", "| c | 1.5 |", "| d | -3 % |", "| e | |"])), [2])
         self.assertEqual(list(figures(["| A | b |", "|---|---|", "| c | 5.5 s |", "| d | none |"])), [])
 
+    def test_what_tools_found_is_kept_apart_for_each_state_of_them(self):
+        places = {table.name: table.place(Path("/folder")).name for table in of_the_script()}
+        self.assertEqual(places["cross"], "cross")
+        self.assertRegex(places["signals"], "^signals-[0-9a-f]{16}$")
+        self.assertRegex(places["day"], "^day-[0-9a-f]{16}$")
+
     def test_words_that_do_nothing_are_refused(self):
         for words in (["--list", "--put"], ["PROGRAM"], ["--list", "--only", "none such"]):
             command = [sys.executable, str(TOP / "bench/tables"), *words]
