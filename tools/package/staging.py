@@ -8,7 +8,7 @@ from pathlib import Path
 import proved
 from package import asking, completion, manuals
 from package.pages import Pages
-from streetsim.base.places import SESSIONS, files_of
+from streetsim.base.places import SESSIONS, example_files
 
 COMPLETION = "share/bash-completion/completions/streetsim"
 WRAPPER = Path(__file__).with_name("streetsim")
@@ -39,7 +39,7 @@ def examples(tree: Path, prefix: Path) -> None:
     """The tools' examples, and the sessions of the program, without pictures."""
     goal = prefix / "share/streetsim/examples"
     for begin, to in ((tree / "tools/examples", goal), (tree / "examples", goal / SESSIONS)):
-        for path in files_of(begin):
+        for path in example_files(begin):
             put(path, to / path.relative_to(begin), path.stat().st_mode & 0o755 | 0o644)
 
 

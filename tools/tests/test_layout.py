@@ -1,10 +1,12 @@
-"""Lines of Python are short enough to stand beside each other on a screen."""
+"""Lines of Python are short enough to stand beside each other on a screen, and hints say what values are."""
+import re
 import unittest
 
 from support import TOOLS, Case
 
 TOP = TOOLS.parent
 WIDTH = 120
+MOST_ANY = 100  # lines
 SCRIPTS = ("build", "package", "streetsim", "test")
 
 
@@ -28,6 +30,13 @@ class Layout(Case):
     def test_lines(self):
         paths = [path for folder in ("tools", "check", "bench") for path in sorted((TOP / folder).rglob("*"))]
         self.assertEqual(list(long_lines([*paths, *(TOP / name for name in SCRIPTS)])), [])
+
+    def test_any_is_rare(self):
+        """What a value is stands in its hint: `Any` is for libraries without hints, and for JSON as it comes."""
+        modules = (path.read_text(encoding="utf-8") for path in (TOOLS / "streetsim").rglob("*.py"))
+        lines = [line.split("#")[0] for text in modules for line in text.splitlines()]
+        found = [line for line in lines if re.search(r"\bAny\b", line) and not re.match(r" *(from|import) ", line)]
+        self.assertLessEqual(len(found), MOST_ANY)
 
     def test_modules_of_tests_have_names_of_their_own(self):
         """./test loads those of tools/ and of check/ into one process."""

@@ -12,7 +12,7 @@ from streetsim.base.files import Fault
 from streetsim.model.mapping import MapLink, read_map
 from streetsim.routes.closing import Closing, common, knows, turn_off
 from streetsim.routes.diverting import within_gap
-from streetsim.routes.underway import Turning, Waiting, WaysRound, shut_edges, turning
+from streetsim.routes.underway import Turning, Waiting, WaysRound, impassable_edges, turning
 from streetsim.ways.costs import flat_costs
 from streetsim.ways.graph import Graph
 from streetsim.ways.trips import Trip
@@ -161,11 +161,11 @@ class UnderWay(Case):
 
     def test_an_edge_is_shut_where_all_its_lanes_are(self):
         link = self.map.links_of["one"][0]
-        self.assertEqual(shut_edges(self.map, ["one"], {(link, 0): [(3, 5)]}), ["one"])
-        self.assertEqual(shut_edges(self.map, ["one"], {}), [])
+        self.assertEqual(impassable_edges(self.map, ["one"], {(link, 0): [(3, 5)]}), ["one"])
+        self.assertEqual(impassable_edges(self.map, ["one"], {}), [])
         self.map.links[link] = replace(self.map.links[link], lanes=(0, 1))
         for second, shut in (((8, 9), []), ((6, 9), ["one"]), ((4, 4), ["one"])):
-            self.assertEqual(shut_edges(self.map, ["one"], {(link, 0): [(3, 5)], (link, 1): [second]}), shut)
+            self.assertEqual(impassable_edges(self.map, ["one"], {(link, 0): [(3, 5)], (link, 1): [second]}), shut)
 
 
 @needs_simulator

@@ -337,14 +337,14 @@ class Client:
         size = 0
         for line in lines:
             if size + len(line) > self.chunk and chunk:
-                yield from self.turn(chunk)
+                yield from self.send_chunk(chunk)
                 chunk, size = [], 0
             chunk.append(line)
             size += len(line)
         if chunk:
-            yield from self.turn(chunk)
+            yield from self.send_chunk(chunk)
 
-    def turn(self, chunk: list[bytes]) -> list[bytes]:
+    def send_chunk(self, chunk: list[bytes]) -> list[bytes]:
         """Sends lines that fit in the pipe and gives the replies, each with its end; ProgramEnded where fewer come."""
         try:
             self.input.write(b"".join(chunk))

@@ -19,7 +19,7 @@ def installed(name: str) -> Path | None:
     return path if path and path.exists() else None
 
 
-def files_of(example: Path) -> list[Path]:
+def example_files(example: Path) -> list[Path]:
     """The files of an example, sorted, which is a folder or one file itself; pictures and Python's caches are left
     out."""
     paths = sorted(example.rglob("*")) if example.is_dir() else [example]
@@ -30,6 +30,6 @@ def files_of(example: Path) -> list[Path]:
 def examples() -> dict[str, Path]:
     """{name of an example: its folder or file}."""
     folder = PREFIX / "share/streetsim/examples" if PREFIX else TOP / "tools/examples"
-    found = {path.name: path for path in sorted(folder.glob("*")) if files_of(path)}
+    found = {path.name: path for path in sorted(folder.glob("*")) if example_files(path)}
     sessions = TOP / "examples"
     return found | ({SESSIONS: sessions} if not PREFIX and sessions.is_dir() else {})

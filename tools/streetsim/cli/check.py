@@ -17,7 +17,7 @@ from streetsim.cli.report import text_again
 from streetsim.cli.run import main as run
 from streetsim.model.folder import LIGHTS
 from streetsim.model.sources import digest_of
-from streetsim.reports.elements import Difference, differences, numbers_in
+from streetsim.reports.elements import Mismatch, differences, numbers_in
 from streetsim.reports.pixels import without_pixels
 from streetsim.reports.seal import Seal, files_of, seal_of
 from streetsim.reports.sealing import COUNTS, NAMES, drawn_by, tools_sum
@@ -78,7 +78,7 @@ def check_page(words: argparse.Namespace) -> int:
     return tell(words.target, found, good, note)
 
 
-def tell(target: str, found: Sequence[Difference], good: str, note: str = "") -> int:
+def tell(target: str, found: Sequence[Mismatch], good: str, note: str = "") -> int:
     """Prints the one line of the result; gives the status. good: what to say where nothing differs; note: what to add
     in any case."""
     if not found:
@@ -141,6 +141,6 @@ def check_folder(words: argparse.Namespace, study: bool) -> int:
     with tempfile.TemporaryDirectory() as place, Slow(f"running again what made {words.target}"):
         with contextlib.redirect_stdout(io.StringIO()), contextlib.redirect_stderr(io.StringIO()):
             anew = (study_again if study else folder_again)(words, f"{place}/out")
-        found = [Difference(*one) for one in compared(words.target, anew, counts)]
+        found = [Mismatch(*one) for one in compared(words.target, anew, counts)]
     good = f"each of the {counts.numbers:,} numbers in {counts.files} files is that of a run"
     return tell(words.target, found, good)

@@ -4,7 +4,7 @@ import shutil
 from pathlib import Path
 
 from streetsim.base.files import Fault
-from streetsim.base.places import examples, files_of
+from streetsim.base.places import examples, example_files
 from streetsim.base.words import Parser
 
 
@@ -22,7 +22,7 @@ def parser() -> Parser:
 def goals(example: Path, folder: Path) -> dict[Path, Path]:
     """{file of an example: where it goes in a folder}; Fault where a file of that name is there already."""
     begin = example if example.is_dir() else example.parent
-    found = {path: folder / path.relative_to(begin) for path in files_of(example)}
+    found = {path: folder / path.relative_to(begin) for path in example_files(example)}
     for goal in found.values():
         if os.path.lexists(goal):
             raise Fault(f"{goal} is there; give another folder by --out")
@@ -52,7 +52,7 @@ def main(arguments: list[str]) -> int:
     words = parser().parse_args(arguments)
     known = examples()
     if words.name is None:
-        print(*(f"{name}: {counted(len(files_of(path)))}" for name, path in known.items()), sep="\n")
+        print(*(f"{name}: {counted(len(example_files(path)))}" for name, path in known.items()), sep="\n")
         return 0
     if words.name not in known:
         raise Fault(f"there is no example {words.name!r}, but {', '.join(known) or 'none'}")

@@ -4,10 +4,9 @@ from collections import Counter, defaultdict
 from collections.abc import Iterable, Iterator, Mapping, Sequence
 from dataclasses import dataclass, replace
 from itertools import pairwise
-from typing import Any
 
 from streetsim.base.files import Fault
-from streetsim.counts.science import needed
+from streetsim.counts.science import Array, needed
 from streetsim.counts.values import Zone
 from streetsim.sumo.net import SumoNet
 from streetsim.ways.costs import TURN_BACK
@@ -167,7 +166,7 @@ class Habit:
 HABITS = [Habit(waits, spread) for waits in (1.0, 0.5, 0.0) for spread in (0.1, 0.05, 0.3)]
 
 
-def shares_by(ways: Sequence[Way], habit: Habit) -> Any:
+def shares_by(ways: Sequence[Way], habit: Habit) -> Array:
     """The share of its pair's vehicles that each way has by a habit, as an array in the ways' order."""
     numpy, _ = needed()
     groups: dict[tuple[int, int, int], int] = {}
@@ -189,7 +188,7 @@ def ends_wanted(pairs: Iterable[Pair]) -> dict[int, list[int]]:
     return {source: sorted(sinks - {source}) for source, sinks in sorted(wanted.items())}
 
 
-def shortest(graph: Graph, costs: Any, wanted: Mapping[int, Sequence[int]]) -> Iterator[tuple[int, int, Path]]:
+def shortest(graph: Graph, costs: Array, wanted: Mapping[int, Sequence[int]]) -> Iterator[tuple[int, int, Path]]:
     """The shortest path, (origin, target, path), from each edge to those wanted for it, all by number; pairs without a
     path are left out. costs: seconds of each movement, as an array."""
     numpy, scipy = needed()
@@ -217,7 +216,7 @@ def traced(before: Sequence[int], origin: int, target: int) -> Path:
     return tuple(reversed(path)) if path[-1] == origin and len(path) > 1 else ()
 
 
-def seconds_of(graph: Graph, costs: Any, path: Path) -> float:
+def seconds_of(graph: Graph, costs: Array, path: Path) -> float:
     """The seconds of a path, the way over its last edge included; costs: of each movement."""
     return float(sum(costs[graph.movement_of[way]] for way in pairwise((*path, END))))
 

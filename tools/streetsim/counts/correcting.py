@@ -2,14 +2,13 @@
 is left."""
 from collections.abc import Iterator, Sequence
 from dataclasses import dataclass, field
-from typing import Any
 
 from streetsim.base.report import some
-from streetsim.counts.demanding import Asked, Basis, Fitted, Told, fit, stacked, vehicles_of
+from streetsim.counts.demanding import Asked, Basis, Fitted, Told, fit, stacked, trips_of_fit
 from streetsim.counts.fitting import counted_of
 from streetsim.counts.judging import Compared, Judged, judged, worst
 from streetsim.counts.running import Ran, delays, passed, ran
-from streetsim.counts.science import needed
+from streetsim.counts.science import Array, needed
 from streetsim.counts.values import Count
 from streetsim.model import trust
 from streetsim.routes.loading import Loaded
@@ -79,7 +78,7 @@ def attempts(
 def attempt(basis: Basis, asked: Asked, ground: Ground, number: int, fitted: Fitted, costs: Costs) -> Attempt:
     """Runs the vehicles of a fit, and judges by what passed; number: of the run, from 1; costs: the seconds of
     movements by which the fit was made."""
-    trips = vehicles_of(basis, asked, fitted)
+    trips = trips_of_fit(basis, asked, fitted)
     town = basis.town
     loaded = town.loaded(trips)
     done = ran(ground, loaded, costs, asked.seed)
@@ -93,7 +92,7 @@ def kind_of(trip: Trip, kinds: Sequence[str]) -> str:
     return trip.type if trip.type in kinds else ""
 
 
-def corrected(basis: Basis, one: Attempt, costs: Costs, counted: Any, before: Any) -> Any:
+def corrected(basis: Basis, one: Attempt, costs: Costs, counted: Array, before: Array) -> Array:
     """What the next fit is to meet, by count: the mean of what the last fit was to meet (before) and of what was
     counted, less half of what passed in the run beyond what would pass by the seconds that it showed; 0 at least. At
     full edges and next after them it is what was counted: more demand would only make the queue longer."""

@@ -3,7 +3,6 @@ from collections import Counter
 from collections.abc import Callable, Iterable, Mapping, Sequence
 from dataclasses import dataclass, replace
 from itertools import pairwise
-from typing import Any
 from xml.etree.ElementTree import Element
 
 from streetsim.base.files import Fault
@@ -15,7 +14,7 @@ from streetsim.counts.fitting import Expecting, Problem, counted_of, deviations
 from streetsim.counts.passing import Places, Slices, passing_matrix, slices_of
 from streetsim.counts.reading import read_counts
 from streetsim.counts.rounding import rounded
-from streetsim.counts.science import needed
+from streetsim.counts.science import Array, Sparse, needed
 from streetsim.counts.values import Cell, Count, Zone
 from streetsim.counts.zones import read_zones
 from streetsim.routes.loading import Town
@@ -62,7 +61,7 @@ class Basis:
     ways: list[Way]
     slices: Slices
     places: Places
-    given: Mapping[str, Any]
+    given: Mapping[str, Array]
     free: Sequence[float]
     thinned: tuple[int, int]  # pairs that were kept, of how many
 
@@ -78,10 +77,10 @@ class Fitted:
     column for each of these; expected: vehicles before anything was counted; vehicles: of the fit; whole: the same in
     whole vehicles."""
 
-    passing: Any
-    expected: Any
-    vehicles: Any
-    whole: Any
+    passing: Sparse
+    expected: Array
+    vehicles: Array
+    whole: Array
 
     def passed(self) -> list[float]:
         """How many of the whole vehicles would pass each count, by the seconds of the fit."""
@@ -237,13 +236,13 @@ def bounds_of(counts: Iterable[Count], cells: Iterable[Cell], departs: Sequence[
     return sorted(bounds)
 
 
-def by_cells(cells: Sequence[Cell], pairs: Sequence[Pair], ways: Sequence[Way], slices: Slices) -> dict[str, Any]:
+def by_cells(cells: Sequence[Cell], pairs: Sequence[Pair], ways: Sequence[Way], slices: Slices) -> dict[str, Array]:
     """{class: the vehicles of a matrix as an array by way and slice, ways first}: those of a cell over the slices of
     its period, evenly, and over the ways of its pair by their shares. Cells of pairs that have no place are left
     out."""
     numpy, _ = needed()
     place = {(pair.source, pair.target): at for at, pair in enumerate(pairs)}
-    of_pair: dict[str, Any] = {}
+    of_pair: dict[str, Array] = {}
     for cell in cells:
         rows = of_pair.setdefault(cell.kind, numpy.zeros((len(pairs), len(slices))))
         at = place.get((cell.source, cell.target))
@@ -255,7 +254,7 @@ def by_cells(cells: Sequence[Cell], pairs: Sequence[Pair], ways: Sequence[Way], 
     return {kind: (rows[pair] * shares).ravel() for kind, rows in of_pair.items()}
 
 
-def by_departures(departs: Sequence[tuple[float, int]], slices: Slices, ways: int) -> dict[str, Any]:
+def by_departures(departs: Sequence[tuple[float, int]], slices: Slices, ways: int) -> dict[str, Array]:
     """{"": an array of the vehicles of each way and slice, ways first}, of departures (second, place of the way);
     nothing where there are none. ways: how many there are."""
     if not departs:
@@ -268,7 +267,7 @@ def by_departures(departs: Sequence[tuple[float, int]], slices: Slices, ways: in
     return {"": found.ravel()}
 
 
-def stacked(basis: Basis, costs: Costs) -> Any:
+def stacked(basis: Basis, costs: Costs) -> Sparse:
     """The matrix (sparse) of all classes side by side: rows are counts, columns class, way and slice. A count of one
     class has shares in the columns of this alone, one without a class in all."""
     numpy, scipy = needed()
@@ -277,7 +276,7 @@ def stacked(basis: Basis, costs: Costs) -> Any:
     return scipy.sparse.hstack([scipy.sparse.diags(mask) @ base for mask in masks]).tocsr()
 
 
-def fit(basis: Basis, asked: Asked, costs: Costs, counted: Any = None) -> Fitted:
+def fit(basis: Basis, asked: Asked, costs: Costs, counted: Array = None) -> Fitted:
     """The vehicles that fit the counts best. costs: seconds of movements, by which it is known who passes when;
     counted: vehicles by count to be met, where what was counted is corrected by a run, else none."""
     numpy, scipy = needed()
@@ -295,7 +294,7 @@ def fit(basis: Basis, asked: Asked, costs: Costs, counted: Any = None) -> Fitted
     return Fitted(passing, expected, vehicles, rounded(vehicles, passing, asked.seed, asked.error))
 
 
-def expected_of(basis: Basis, asked: Asked, kind: str, base: Any, counted: Any) -> Any:
+def expected_of(basis: Basis, asked: Asked, kind: str, base: Sparse, counted: Array) -> Array:
     """The vehicles of a class that are expected of each way and slice, ways first, as an array: of a matrix or of
     ratios, else by the counts of the class. base: the matrix's columns of this class; counted: vehicles by count. All 0
     where the class has no count."""
@@ -315,7 +314,7 @@ def expected_of(basis: Basis, asked: Asked, kind: str, base: Any, counted: Any) 
     return expecting.without_matrix(base[rows], own)
 
 
-def vehicles_of(basis: Basis, asked: Asked, fitted: Fitted) -> list[Trip]:
+def trips_of_fit(basis: Basis, asked: Asked, fitted: Fitted) -> list[Trip]:
     """The trips of a fit, by departure; Fault where it has no vehicle."""
     trips = trips_of(fitted.whole, basis.kinds, basis.ways, basis.slices, asked.seed)
     if not trips:

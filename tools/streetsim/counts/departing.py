@@ -2,15 +2,15 @@
 import random
 from collections import defaultdict
 from collections.abc import Sequence
-from typing import Any
 
 from streetsim.counts.candidates import Way
 from streetsim.counts.passing import Slices
+from streetsim.counts.science import Array
 from streetsim.sumo.types import DEFAULT
 from streetsim.ways.trips import Trip
 
 
-def trips_of(whole: Any, kinds: Sequence[str], ways: Sequence[Way], slices: Slices, seed: int) -> list[Trip]:
+def trips_of(whole: Array, kinds: Sequence[str], ways: Sequence[Way], slices: Slices, seed: int) -> list[Trip]:
     """Trips by departure, with numbers as names. Those of a slice that begin on one edge are spread over all of it, one
     after another in random order, each at a random second of its part. whole: numbers of vehicles in one row, at the
     place (class * ways + way) * slices + slice; kinds: the classes, an empty text for the usual one; seed: of the

@@ -2,11 +2,10 @@
 bounds."""
 from collections.abc import Sequence
 from dataclasses import dataclass
-from typing import Any
 
 from streetsim.counts.candidates import HABITS, End, Pair, Way, shares_by
 from streetsim.counts.passing import Slices
-from streetsim.counts.science import needed
+from streetsim.counts.science import Array, Sparse, needed
 from streetsim.counts.values import Count
 
 ERROR = 0.05  # of a count, by which it is taken to be wrong
@@ -25,20 +24,20 @@ class Problem:
     (rows); expected: vehicles of each column before anything was counted; counted: vehicles of each row; deviation: how
     far off each of these is taken to be."""
 
-    passing: Any
-    expected: Any
-    counted: Any
-    deviation: Any
+    passing: Sparse
+    expected: Array
+    counted: Array
+    deviation: Array
 
 
-def deviations(counted: Any, error: float) -> Any:
+def deviations(counted: Array, error: float) -> Array:
     """How far off counts are taken to be, in vehicles, as an array; counted: an array of vehicles; error: share of a
     count."""
     numpy, _ = needed()
     return numpy.sqrt(CHANCE + (error * counted) ** 2)
 
 
-def solved(problem: Problem) -> Any:
+def solved(problem: Problem) -> Array:
     """The vehicles of each column, 0 at least, as an array, for which the sum of squares is least: of what the counts
     differ by over their deviations, and of what the vehicles differ by from those expected over the root of these."""
     numpy, scipy = needed()
@@ -48,7 +47,7 @@ def solved(problem: Problem) -> Any:
     across = scaled.T.tocsr()
     target = problem.counted / problem.deviation
 
-    def value(of: Any) -> tuple[float, Any]:
+    def value(of: Array) -> tuple[float, Array]:
         """(half the sum of squares, its slope), for vehicles over the root of those that are expected (of)."""
         apart, from_expected = scaled @ of - target, of - root
         return 0.5 * float(apart @ apart + from_expected @ from_expected), across @ apart + from_expected
@@ -60,7 +59,7 @@ def solved(problem: Problem) -> Any:
     return found.x * root
 
 
-def apart_in(problem: Problem, vehicles: Any) -> float:
+def apart_in(problem: Problem, vehicles: Array) -> float:
     """The sum of squares that `solved` makes least, for any vehicles of each column."""
     numpy, _ = needed()
     counts = (problem.passing @ vehicles - problem.counted) / problem.deviation
@@ -81,7 +80,7 @@ class Ends:
         self.weight = numpy.array([known[name].weight for name in numbers])
         self.kind = numpy.array([int(known[name].outside) for name in numbers])
 
-    def shares(self, vehicles: Any) -> Any:
+    def shares(self, vehicles: Array) -> Array:
         """For each way, as an array, the vehicles of its place: half of them as the ways have them, half as all places
         of its kind would by their weights. vehicles: of each way, as an array."""
         numpy, _ = needed()
@@ -105,7 +104,7 @@ class Expecting:
         kinds = (ends.kind[ends.of_way] for ends in (self.begins, self.ends))
         self.outside = 2.0 ** sum(kinds)  # doubles for each end of a way that lies outside
 
-    def without_matrix(self, passing: Any, counted: Any) -> Any:
+    def without_matrix(self, passing: Sparse, counted: Array) -> Array:
         """The vehicles of each way and slice, ways first, as an array, by counts alone: at first by the habit of
         drivers (whose shares are then kept in `share`), and by what ends outside have more, that fit the counts best;
         then half by what begins and ends at each place, and half by what the counts have shown of each way. passing,
@@ -124,27 +123,27 @@ class Expecting:
         base = solved(Problem(pooled_columns(passing, rates), base, counted, deviation))
         return numpy.outer(numpy.maximum(base, LEAST), rates).ravel()
 
-    def apart(self, passing: Any, counted: Any, share: Any) -> float:
+    def apart(self, passing: Sparse, counted: Array, share: Array) -> float:
         """How far counts and what is expected stay apart in a fit, by the sum of squares, so that the best of several
         can be taken; share: of each way."""
         base, rates = self.scaled(passing, counted, self.by_ends(share))
         problem = Problem(pooled_columns(passing, rates), base, counted, deviations(counted, self.error))
         return apart_in(problem, solved(problem))
 
-    def scaled(self, passing: Any, counted: Any, base: Any) -> tuple[Any, Any]:
+    def scaled(self, passing: Sparse, counted: Array, base: Array) -> tuple[Array, Array]:
         """(vehicles of each way over all slices, share, 0 to 1, that each slice has of them), arrays that fit all
         counts together best; base: any numbers in whose proportion ways have vehicles."""
         rates = self.rates(passing, counted, base)
         total = float(rates.sum())
         return base * total, rates / total
 
-    def by_ends(self, vehicles: Any) -> Any:
+    def by_ends(self, vehicles: Array) -> Array:
         """The vehicles of each way, as an array, as the product of how many begin and how many end at its places and of
         its share; their sum is that of `vehicles`, of each way."""
         made = self.begins.shares(vehicles) * self.ends.shares(vehicles) * self.share
         return made * (vehicles.sum() / max(made.sum(), LEAST))
 
-    def rates(self, passing: Any, counted: Any, base: Any) -> Any:
+    def rates(self, passing: Sparse, counted: Array, base: Array) -> Array:
         """By slice, as an array, how many vehicles it has for one vehicle of `base`, which has a number for each way.
         The slice that leads in, if there is one, has as many a second as the next."""
         numpy, scipy = needed()
@@ -162,7 +161,7 @@ class Expecting:
         return numpy.concatenate(([rates[0] * widths[0] / widths[1]], rates)) if self.slices.first else rates
 
 
-def pooled_columns(passing: Any, rates: Any) -> Any:
+def pooled_columns(passing: Sparse, rates: Array) -> Sparse:
     """The matrix with one column for each way, in place of one for each of its slices, by which ways are fitted while
     the share that each slice has (rates) stays."""
     numpy, scipy = needed()
@@ -171,13 +170,13 @@ def pooled_columns(passing: Any, rates: Any) -> Any:
     return (passing @ sums).tocsr()
 
 
-def counted_of(counts: Sequence[Count]) -> Any:
+def counted_of(counts: Sequence[Count]) -> Array:
     """The vehicles of counts as an array, in their order."""
     numpy, _ = needed()
     return numpy.array([count.vehicles for count in counts])
 
 
-def uncounted(passing: Any, counts: Sequence[Count]) -> list[Count]:
+def uncounted(passing: Sparse, counts: Sequence[Count]) -> list[Count]:
     """The counts above 0 that no way can fit, as nobody of any way passes there in that period."""
     numpy, _ = needed()
     sums = numpy.asarray(passing.sum(axis=1)).ravel()

@@ -1,11 +1,10 @@
 """Makes a demand from its basis to its files: fitted, run as often as asked for, written, and told."""
 import sys
-from collections.abc import Callable, Mapping
+from collections.abc import Callable
 from dataclasses import asdict, dataclass
-from typing import Any
 
 from streetsim.base import limits
-from streetsim.base.files import whole_folder
+from streetsim.base.files import Json, whole_folder
 from streetsim.counts import correcting, demanding
 from streetsim.counts.correcting import Attempt
 from streetsim.counts.demanding import Asked, Basis, Fitted
@@ -83,7 +82,7 @@ def made_of(basis: Basis, asked: Asked, fitted: Fitted, tried: list[Attempt]) ->
         best = correcting.best_of(tried)
         return Made(basis, best.fitted, tried, best.judged, best.trips)
     on_paper = judged(basis.counts, fitted.passed()) if basis.counts else None
-    return Made(basis, fitted, [], on_paper, demanding.vehicles_of(basis, asked, fitted))
+    return Made(basis, fitted, [], on_paper, demanding.trips_of_fit(basis, asked, fitted))
 
 
 def tell_inputs(basis: Basis, fitted: Fitted) -> None:
@@ -104,7 +103,7 @@ def tell_inputs(basis: Basis, fitted: Fitted) -> None:
         print(f"{kept:,} of {all_:,} pairs are drawn, for {len(basis.ways):,} ways (--most)", file=sys.stderr)
 
 
-def write(places: Outputs, made: Made, setting: Mapping[str, Any]) -> None:
+def write(places: Outputs, made: Made, setting: Json) -> None:
     """Writes the vehicles, the tables and pictures, and the run with its map where they are asked for; setting: what
     goes into setting.json."""
     basis = made.basis
@@ -125,7 +124,7 @@ def types_of(basis: Basis) -> list[str]:
     return [f'<vType id="{kind}" vClass="{kind}"/>' for kind in basis.kinds if kind]
 
 
-def setting_of(asked: Asked, made: Made, runs: int) -> dict[str, Any]:
+def setting_of(asked: Asked, made: Made, runs: int) -> Json:
     """What a demand was made of and came to, for setting.json; runs: how many were allowed."""
     return {
         **asdict(asked),

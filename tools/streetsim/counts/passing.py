@@ -4,11 +4,10 @@ from collections.abc import Iterable, Iterator, Sequence
 from dataclasses import dataclass
 from itertools import pairwise
 from math import ceil
-from typing import Any
 
 from streetsim.base.files import Fault
 from streetsim.counts.candidates import Way
-from streetsim.counts.science import needed
+from streetsim.counts.science import Sparse, needed
 from streetsim.counts.values import Count
 from streetsim.ways.costs import Costs, Table
 from streetsim.ways.graph import END, Graph
@@ -90,7 +89,7 @@ def clocks_of(graph: Graph, table: Table, path: Path, depart: float) -> list[flo
     return found
 
 
-def passing_matrix(graph: Graph, ways: Sequence[Way], slices: Slices, places: Places, costs: Costs) -> Any:
+def passing_matrix(graph: Graph, ways: Sequence[Way], slices: Slices, places: Places, costs: Costs) -> Sparse:
     """A sparse matrix with a row for each count and a column for each way and slice, ways first: the share of the
     vehicles that depart in the slice which pass the count's place in its period. Fault where there are more than
     5,000,000 columns."""

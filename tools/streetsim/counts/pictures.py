@@ -1,11 +1,11 @@
 """Pictures of a fit: what passed over what was counted, and a map of the differences."""
 from collections import defaultdict
 from collections.abc import Sequence
-from typing import Any
 
 from streetsim.pictures import drawing
 from streetsim.counts.judging import GOOD, HOUR, Compared, Judged
 from streetsim.model.mapping import MapLink
+from streetsim.pictures.drawing import Figure, Pyplot
 from streetsim.routes.drawing import differences, draw_flows
 
 POINTS = 60  # of the curve of GEH
@@ -23,7 +23,7 @@ def draw(folder: str, fit: Judged, links: Sequence[MapLink], what: str) -> None:
     drawing.save(map_of(pyplot, fit.hourly, links, what), f"{folder}/differences.png")
 
 
-def scatter(pyplot: Any, hourly: Sequence[Compared], what: str) -> Any:
+def scatter(pyplot: Pyplot, hourly: Sequence[Compared], what: str) -> Figure:
     """The picture of passed over counted, vehicles an hour: a point for each place and hour, and the curves on which
     GEH is 5. what: how vehicles passed."""
     figure, axes = pyplot.subplots(figsize=(5.6, 5.4))
@@ -55,7 +55,7 @@ def of_geh(counted: float, sign: int) -> float:
     return max(0.0, counted + (square + sign * root) / 4)
 
 
-def map_of(pyplot: Any, hourly: Sequence[Compared], links: Sequence[MapLink], what: str) -> Any:
+def map_of(pyplot: Pyplot, hourly: Sequence[Compared], links: Sequence[MapLink], what: str) -> Figure:
     """The map of edges by how many vehicles an hour more or fewer passed than were counted: of the edge itself, else of
     its turns together; of all vehicles, else of the classes together. what: how vehicles passed."""
     whole: defaultdict[str, float] = defaultdict(float)

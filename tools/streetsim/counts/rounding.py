@@ -1,14 +1,13 @@
 """Makes the vehicles of a fit whole, so that their sums stay those of the fit."""
-from typing import Any
 
 from streetsim.counts.fitting import deviations
-from streetsim.counts.science import needed
+from streetsim.counts.science import Array, Sparse, needed
 
 SWAPS = 20_000  # of a vehicle of one way and slice for one of another, at most
 LEAST_GAIN = 1e-9  # in the sum of squares, for which one is swapped
 
 
-def rounded(vehicles: Any, passing: Any, seed: int, error: float) -> Any:
+def rounded(vehicles: Array, passing: Sparse, seed: int, error: float) -> Array:
     """The vehicles of a fit in whole numbers, an array of integers: each is rounded up or down, so that the sum of any
     that follow each other is within one of what it was; then some are swapped so that what passes the counts is near
     the fit. passing: as `Problem` has it; seed: of the rounding; error: share of a count by which it is taken to be
@@ -21,7 +20,7 @@ def rounded(vehicles: Any, passing: Any, seed: int, error: float) -> Any:
     return improved(whole, vehicles, passing, error) if passing.shape[0] else whole.astype(int)
 
 
-def improved(whole: Any, vehicles: Any, passing: Any, error: float) -> Any:
+def improved(whole: Array, vehicles: Array, passing: Sparse, error: float) -> Array:
     """The rounded numbers, as integers, after swaps of one that was rounded up with one that was rounded down, as long
     as what passes the counts comes nearer to that of `vehicles`. whole: the rounded numbers, which it changes."""
     numpy, scipy = needed()

@@ -4,6 +4,8 @@ from typing import Any
 
 from streetsim.base.files import Fault
 
+Array = Any  # of NumPy
+Sparse = Any  # matrix of SciPy
 THREADS = ("OPENBLAS_NUM_THREADS", "OMP_NUM_THREADS", "MKL_NUM_THREADS")
 
 

@@ -116,7 +116,7 @@ class Traces:
             self.of[count.edges].append(at)
         self.next = turns_of(self.mapping)
         self.known: dict[tuple[int, int], list[int]] = {}
-        self.kinds = kinds_of(self.mapping)
+        self.kinds = vehicle_classes(self.mapping)
         self.most = max(len(count.edges) for count in counts)
         self.trails: dict[int, list[str]] = {}  # the last edges of each vehicle
         self.sums = [0.0] * len(counts)
@@ -264,7 +264,7 @@ def places_in(lanes: Iterable[Sequence[object]]) -> Iterator[tuple[int, int]]:
             yield car, link  # type: ignore[misc]
 
 
-def kinds_of(mapping: Map) -> dict[int, str]:
+def vehicle_classes(mapping: Map) -> dict[int, str]:
     """By number the vehicle class of each vehicle whose type the map keeps; an empty text where that type has none."""
     types = mapping.kinds.get("types", [])
     classes = [row[1] if len(row) > 1 else "" for row in types]

@@ -1,12 +1,11 @@
 """Writes the files of a fitted demand and of a comparison with counts."""
 import json
 from collections import Counter
-from collections.abc import Iterator, Mapping, Sequence
+from collections.abc import Iterator, Sequence
 from itertools import pairwise
-from typing import Any
 from xml.sax.saxutils import quoteattr
 
-from streetsim.base.files import whole_file
+from streetsim.base.files import Json, whole_file
 from streetsim.counts.candidates import Way
 from streetsim.counts.checking import Contradiction
 from streetsim.counts.correcting import Attempt
@@ -82,7 +81,7 @@ def run_rows(tried: Sequence[Attempt]) -> Iterator[tuple[object, ...]]:
         yield (one.number, len(one.trips), one.arrived, one.ran.rescues, *shares, told)
 
 
-def write_setting(folder: str, setting: Mapping[str, Any]) -> None:
+def write_setting(folder: str, setting: Json) -> None:
     """Writes setting.json of a demand to a folder."""
     with whole_file(f"{folder}/{NAME}") as file:
         json.dump(setting, file, indent=1)

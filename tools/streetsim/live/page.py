@@ -3,10 +3,9 @@ import base64
 import gzip
 import json
 from pathlib import Path
-from typing import Any
 
 from streetsim.actuated.lights import LISTED, driven_lights
-from streetsim.base.files import Fault, FilePath
+from streetsim.base.files import Fault, FilePath, Json
 from streetsim.live.facts import departures_and_ends, streets_and_areas
 from streetsim.model.mapping import Map
 from streetsim.model.names import Names
@@ -34,7 +33,7 @@ def own_lines(run: Run) -> list[bytes]:
     return [line.text.encode() + b"\n" for line in (run.load, *run.first, *run.enters)]
 
 
-def links_of(run: Run, mapping: Map, streets: dict[str, str]) -> list[dict[str, Any]]:
+def links_of(run: Run, mapping: Map, streets: dict[str, str]) -> list[Json]:
     """The links as the page reads them; streets: names by edge."""
     return [
         {
@@ -48,11 +47,11 @@ def links_of(run: Run, mapping: Map, streets: dict[str, str]) -> list[dict[str, 
     ]
 
 
-def nodes_of(run: Run, mapping: Map, areas: dict[str, list]) -> list[dict[str, Any]]:
+def nodes_of(run: Run, mapping: Map, areas: dict[str, list]) -> list[Json]:
     """The nodes as the page reads them, each with its light and how many signals that has (None: no light); areas:
     outlines by junction."""
     names = Names(mapping)
-    lights: dict[int, dict[str, Any]] = {node: {"name": name, "size": 0} for name, node in mapping.signals}
+    lights: dict[int, Json] = {node: {"name": name, "size": 0} for name, node in mapping.signals}
     for turn in mapping.turns:
         node = mapping.links[turn.link].end
         if node in lights and turn.light == lights[node]["name"]:
@@ -75,7 +74,7 @@ def giving_of(run: Run, mapping: Map) -> list[int]:
 def data_of(
     run: Run, mapping: Map, single: bool = False, map_path: FilePath = "", proved: bool = False, kept: bool = False,
     driven: bool = False,
-) -> dict[str, Any]:
+) -> Json:
     """What the page knows of a run beside the replies. single: it is one file, with its engine; map_path: to find the
     imported network, empty: not looked for; proved: its program is the one that ./build made; kept: the bridge keeps
     its session; driven: the bridge drives lights by detectors."""

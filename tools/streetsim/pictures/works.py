@@ -1,9 +1,8 @@
 """Draws queues before road works, over time and place."""
-from typing import Any
 
 from streetsim.model.folder import Folder
 from streetsim.model.names import Names
-from streetsim.pictures.drawing import Figure, Pyplot
+from streetsim.pictures.drawing import Axes, Figure, Lines, Pyplot
 from streetsim.results.works import Place, places_of
 
 MOST = 6  # places in one picture
@@ -23,7 +22,7 @@ def draw_works(pyplot: Pyplot, folder: Folder) -> Figure:
     return figure
 
 
-def draw_place(axes: Any, folder: Folder, place: Place) -> Any:
+def draw_place(axes: Axes, folder: Folder, place: Place) -> Lines:
     """Draws one place of works; gives the image, for a bar of colours."""
     every, room, names = folder.every, place.room, Names(folder.mapping)
     columns, rows = max(1, (place.end - place.begin) // every), int(room // BIN) + 1

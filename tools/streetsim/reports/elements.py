@@ -19,7 +19,7 @@ class Element:
 
 
 @dataclass(slots=True, frozen=True)
-class Difference:
+class Mismatch:
     """What a page says at a place, and what was found there anew."""
 
     place: str
@@ -129,25 +129,25 @@ def numbers_in(text: str) -> int:
     return len(NUMBER.findall(shown))
 
 
-def differences(said: str, found: str) -> list[Difference]:
+def differences(said: str, found: str) -> list[Mismatch]:
     """Where two pages differ, as found anew; empty where they are equal to the byte."""
     if said == found:
         return []
     first, second = elements_of(said), elements_of(found)
     told = list(pairs(first, second))
-    return told or [Difference("between the words", *apart(said, found))]
+    return told or [Mismatch("between the words", *apart(said, found))]
 
 
-def pairs(first: Sequence[Element], second: Sequence[Element]) -> Iterator[Difference]:
+def pairs(first: Sequence[Element], second: Sequence[Element]) -> Iterator[Mismatch]:
     """What differs of two lists of elements: one by one where they have equally many, else by the parts that were put
     in, taken out or changed."""
     if len(first) == len(second):
         for one, other in zip(first, second, strict=True):
             if one.text != other.text:
-                yield Difference(other.place, one.text, other.text)
+                yield Mismatch(other.place, one.text, other.text)
         return
     said, found = ([one.text for one in side] for side in (first, second))
     for kind, begin, end, start, stop in SequenceMatcher(None, said, found, autojunk=False).get_opcodes():
         if kind != "equal":
             place = (second[start:stop] or first[begin:end])[0].place
-            yield Difference(place, "".join(said[begin:end]), "".join(found[start:stop]))
+            yield Mismatch(place, "".join(said[begin:end]), "".join(found[start:stop]))

@@ -121,7 +121,7 @@ def trip_of(vehicle: Waiting) -> Trip:
     return Trip(vehicle.name, float(vehicle.depart), plan[0], plan[-1], "", plan, float(vehicle.depart))
 
 
-def shut_edges(
+def impassable_edges(
     mapping: Map, edges: Iterable[str], closed: Mapping[tuple[int, int], Sequence[tuple[int, int]]]
 ) -> list[str]:
     """The edges, among some, that nobody can pass, as all lanes of each of their links are closed at one place. closed:
@@ -135,7 +135,7 @@ def shut_edges(
 
 def is_shut(link: int, lanes: int, closed: Mapping[tuple[int, int], Sequence[tuple[int, int]]]) -> bool:
     """Whether nobody gets past the closed cells of a link of so many lanes: all lanes are closed side by side, or
-    without room to change lanes between. closed: as of shut_edges."""
+    without room to change lanes between. closed: as of impassable_edges."""
     places = [(0, 10**9)]
     for lane in range(lanes):
         places = [

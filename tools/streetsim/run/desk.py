@@ -85,7 +85,7 @@ class Desk:
         self.send(lines)
         self.records.sent += [(clock, line) for line in lines]
 
-    def at_works(self, clock: int) -> None:
+    def look_at_works(self, clock: int) -> None:
         """Looks at the works that are due at a clock, and sends the lines that have vehicles merge."""
         self.send_at(clock, list(map(own_line, self.works.look(clock, self.lanes, self.is_bound))))
 
@@ -116,7 +116,7 @@ class Desk:
         self.enter(last)
         self.records.clock = self.sim.advance(target - clock)
         self.records.calls += 1
-        self.at_works(target)
+        self.look_at_works(target)
         self.send_at(target, list(map(own_line, self.fleet.look(target, self.vehicles, self.lanes))))
         self.driver.call(target, self.fleet.calls.taken())
         self.send_at(target, list(map(own_line, self.driver.look(target, self.senses))))

@@ -22,9 +22,9 @@ class Summed(Client):
         super().__init__(*words, **more)
         self.sum = hashlib.sha256()
 
-    def turn(self, chunk: list[bytes]) -> list[bytes]:
+    def send_chunk(self, chunk: list[bytes]) -> list[bytes]:
         """Sends some lines and gives the replies, as Client does; adds the replies to the sum."""
-        replies = super().turn(chunk)
+        replies = super().send_chunk(chunk)
         for reply in replies:
             self.sum.update(reply)
         return replies

@@ -16,7 +16,7 @@ from streetsim.sumo.types import Types
 from streetsim.sumo.yielding import hourly_flows
 
 
-class Driven:
+class Flowing:
     """A vehicle of a run, as the import counts flows."""
 
     def __init__(self, command: Command, links: Sequence[MapLink]) -> None:
@@ -42,7 +42,7 @@ class LightLines:
     def __init__(self, net: SumoNet, run: Run, mapping: Map) -> None:
         """net: whose programs are replaced by those of plans, in a copy."""
         self.net, self.mapping = replace(net, programs=dict(net.programs)), mapping
-        self.flows = hourly_flows([Driven(line.command, mapping.links) for line in run.enters])
+        self.flows = hourly_flows([Flowing(line.command, mapping.links) for line in run.enters])
         self.limits_of = {link.edge: link.limit for link in mapping.links}
         self.connections = connections_of(net)
         self.nodes: defaultdict[str, list[int]] = defaultdict(list)

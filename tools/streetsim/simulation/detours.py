@@ -3,7 +3,7 @@ from collections.abc import Iterable
 from dataclasses import dataclass, field
 
 from streetsim.base.client import Vehicle
-from streetsim.routes.underway import Turning, Waiting, WaysRound, shut_edges, turning
+from streetsim.routes.underway import Turning, Waiting, WaysRound, impassable_edges, turning
 from streetsim.simulation.simulation import Simulation
 
 
@@ -24,7 +24,7 @@ class Detours:
         simulation, client = self.simulation, self.simulation.client
         simulation.let_go()
         closed = {place: client.lane(*place).closed for place in simulation.lanes_on(edge)}
-        shut = shut_edges(simulation.map, [edge], closed)
+        shut = impassable_edges(simulation.map, [edge], closed)
         if not shut:
             return []
         round_ = WaysRound(simulation.map, simulation.dawdle)

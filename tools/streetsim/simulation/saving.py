@@ -1,16 +1,15 @@
 """States of a session: the lines that brought it there, as a run repeats exactly, and what is known of it."""
 import json
 from hashlib import sha256
-from typing import Any
 
-from streetsim.base.files import open_text, whole_file
+from streetsim.base.files import Json, open_text, whole_file
 from streetsim.base.report import some
 from streetsim.simulation.errors import TraCIException
 from streetsim.simulation.fleet import Place
 from streetsim.simulation.session import Session
 
 FORMAT = "streetsim state 3"
-State = dict[str, Any]
+State = Json
 TALLIED = ("waiting", "waited", "lost", "travelled")
 
 

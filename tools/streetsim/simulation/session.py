@@ -200,7 +200,7 @@ class Session(Simulation):
             return
         place = self.follow().view.places.get(car)
         if place is None:
-            self.turn(car, links)
+            self.change_way(car, links)
         else:
             plans[name] = (*plans[name][: plans[name].index(place.link) + 1], *links[1:])
             self.pending[car] = place.link, links[1:]
@@ -216,12 +216,12 @@ class Session(Simulation):
             elif place.cell is None and car not in self.view.held:
                 del self.pending[car]
                 if links:
-                    self.turn(car, links, place)
+                    self.change_way(car, links, place)
                 else:
                     self.remove(self.fleet.names[car])
                     self.view.leaving.append(car)
 
-    def turn(self, car: int, links: Sequence[int], place: Place | None = None) -> None:
+    def change_way(self, car: int, links: Sequence[int], place: Place | None = None) -> None:
         """Takes out the vehicle of a number and enters it with another plan; place: the node where it is, None: it has
         not departed."""
         name = self.fleet.names[car]

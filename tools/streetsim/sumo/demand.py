@@ -253,7 +253,7 @@ def enters(
         command: Command = {
             "cmd": "enter",
             "plan": list(plan),
-            "lane": lane_of(plan, network, used, found),
+            "lane": entry_lane(plan, network, used, found),
             "depart": max(0, math.ceil(vehicle.depart)),
         }
         size = sizes.of(vehicle.type) if network.options.sizes else 1
@@ -265,7 +265,7 @@ def enters(
     return commands, driven
 
 
-def lane_of(plan: Sequence[int], network: Network, used: Counter[int], found: Found) -> int:
+def entry_lane(plan: Sequence[int], network: Network, used: Counter[int], found: Found) -> int:
     """The lane where a vehicle enters: that of its stop on the first link, else one of those that lead on, by turns.
     used: how many entered each link so far, which it counts on."""
     lanes = network.serves(plan[0], plan[1]) if len(plan) > 1 else range(len(network.links[plan[0]].lanes))

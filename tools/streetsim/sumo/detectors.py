@@ -36,7 +36,7 @@ def read_detector(path: FilePath, element: Element, report: Report) -> SumoDetec
     if element.get("lanes"):
         report.ignored[f"<{element.tag}> over several lanes"] += 1
         return None
-    begin, end = stretch(path, element, report) if kind == E2 else (attribute(path, element, "pos", number), None)
+    begin, end = area_metres(path, element, report) if kind == E2 else (attribute(path, element, "pos", number), None)
     friendly, goes_on = element.get("friendlyPos", "").lower() in TRUE, not element.get("endPos")
     names = [name for name in ("freq", "period") if element.get(name)]
     period = round(attribute(path, element, names[0], seconds)) if names else limits.PERIOD
@@ -48,7 +48,7 @@ def read_detector(path: FilePath, element: Element, report: Report) -> SumoDetec
     )
 
 
-def stretch(path: FilePath, element: Element, report: Report) -> tuple[float, float | None]:
+def area_metres(path: FilePath, element: Element, report: Report) -> tuple[float, float | None]:
     """The (begin, end) metres of a lane area, as SumoDetector has them: by its pos, endPos and length, of which SUMO
     needs two; without endPos and length it ends with the lane."""
     end = optional(path, element, "endPos", number, None)

@@ -105,7 +105,7 @@ def driven_over(vehicle: Vehicle, parts: dict[str, tuple[str, ...]]) -> Vehicle:
 def with_parts(net: SumoNet, slow: Slow, parts: Sequence[Part], report: Report) -> SumoNet:
     """The network with one edge in parts; the names of the parts must be free."""
     whole, last = net.edges[slow.edge], parts[-1].name
-    made = {part.name: edge_of(part, parts, whole, slow) for part in parts}
+    made = {part.name: part_edge(part, parts, whole, slow) for part in parts}
     edges: dict[str, Edge] = {}
     for name, edge in net.edges.items():
         edges |= made if name == slow.edge else {name: edge}
@@ -132,15 +132,15 @@ def with_parts(net: SumoNet, slow: Slow, parts: Sequence[Part], report: Report) 
     )
 
 
-def edge_of(part: Part, parts: Sequence[Part], whole: Edge, slow: Slow) -> Edge:
+def part_edge(part: Part, parts: Sequence[Part], whole: Edge, slow: Slow) -> Edge:
     """A part as an edge of its own; whole: the edge before it was cut."""
     begin = whole.begin if part == parts[0] else part.name
     end = whole.end if part == parts[-1] else parts[parts.index(part) + 1].name
-    lanes = [lane_of(lane, part, parts[-1].end, slow) for lane in whole.lanes]
+    lanes = [part_lane(lane, part, parts[-1].end, slow) for lane in whole.lanes]
     return Edge(part.name, begin, end, whole.priority, lanes, whole.street, part != parts[-1], part.slow)
 
 
-def lane_of(lane: Lane, part: Part, metres: float, slow: Slow) -> Lane:
+def part_lane(lane: Lane, part: Part, metres: float, slow: Slow) -> Lane:
     """The lane of a part, of a lane of the whole edge; metres: of the whole edge."""
     speed = min(lane.speed, slow.kmh / KMH) if part.slow else lane.speed
     begin, end = part.begin / metres, part.end / metres
