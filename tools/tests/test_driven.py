@@ -87,8 +87,42 @@ class Scripts(Case):
         self.assertEqual((light.getPhaseName("L"), light.getRedYellowGreenState("L")), ("4+8", "r"))
         with self.assertRaisesRegex(traci.TraCIException, "NEMA, whose rings choose its phases"):
             light.setPhase("L", 0)
-        with self.assertRaisesRegex(traci.TraCIException, "detectors drive L"):
-            traci.simulation.saveState(str(self.folder / "state.json"))
+
+    def test_a_state_that_is_saved_and_loaded(self):
+        cars = "".join(
+            f'<vehicle id="v{at}" depart="{at}"><route edges="a b"/></vehicle>' for at in (*range(0, 90, 3), 150, 190)
+        )
+        routes, path = self.write("y.rou.xml", f"<routes>{cars}</routes>"), str(self.folder / "state.json")
+
+        def trace():
+            """What the light and the vehicles do from now on."""
+            told = []
+            for _ in range(150):
+                traci.simulationStep()
+                told.append((self.told(), traci.simulation.getArrivedIDList(), traci.vehicle.getIDCount()))
+            return told
+
+        for net in (street(PHASES), ringed()):
+            with self.subTest(net[:0] + net[-80:]):
+                words = ["sumo", "-n", self.write("x.net.xml", net), "-r", routes, "-W"]
+                words += ["-a", self.write("x.add.xml", FIXED.replace("fixed", "other"))] if "NEMA" not in net else []
+                traci.start(words)
+                if "NEMA" not in net:
+                    traci.trafficlight.setProgram("L", "0")
+                traci.simulationStep(67)
+                traci.simulation.saveState(path)
+                first = trace()
+                traci.simulation.loadState(path)
+                self.assertEqual(trace(), first)
+                traci.close()
+                traci.start(words)
+                traci.simulation.loadState(path)
+                self.assertEqual(trace(), first)
+                traci.close()
+                traci.start([*words, "--lights", "listed"])
+                with self.assertRaisesRegex(traci.TraCIException, "state.json: a state of another --lights"):
+                    traci.simulation.loadState(path)
+                traci.close()
 
     def test_listed_seconds_by_a_word(self):
         self.start(street(PHASES), "--lights", "listed")

@@ -6,7 +6,6 @@ from __future__ import annotations
 from collections import deque
 from collections.abc import Callable, Collection, Iterable, Iterator, Sequence
 from dataclasses import dataclass, field
-from functools import partial
 from itertools import product
 from math import inf
 
@@ -39,7 +38,7 @@ class Controller:
 
     light: Light
     logic: Actuated | Nema
-    plans: Callable[[int], Iterator[Command]]  # of what is shown from a clock on
+    shown: Shown | ShownRings
     meters: range  # the places of its detectors among those of all lights, from 0
     shows: list[Command] = field(default_factory=list)  # the plans that were sent last
     wraps: float = inf  # the clock by which these would begin anew
@@ -69,6 +68,13 @@ class Controller:
         """The commands that show the phase that begins at a clock; none where this program is not in force."""
         self.shows, self.wraps = list(self.plans(now)), now + limits.PHASE_STEPS
         yield from self.shows if self.in_force else ()
+
+    def plans(self, now: int) -> Iterator[Command]:
+        """The commands that show from a clock on what the logic has come to."""
+        if isinstance(self.logic, Actuated) and isinstance(self.shown, Shown):
+            return self.shown.plans(self.logic, now)
+        assert isinstance(self.logic, Nema) and isinstance(self.shown, ShownRings)
+        return self.shown.plans(self.logic, now)
 
     def goes_on(self) -> Iterator[Command]:
         """The commands that keep a phase on that lasts longer than a plan can, 600 s; none where this program is not in
@@ -195,11 +201,8 @@ class Driver:
 def controller_of(light: Light, mapping: Map, meters: range) -> Controller:
     """What drives a light, as its type has it. meters: the places of its detectors among those of all lights, from
     0."""
-    if isinstance(light, Driven):
-        logic = light.logic()
-        return Controller(light, logic, partial(Shown(light, mapping).plans, logic), meters)
-    rings = light.logic()
-    return Controller(light, rings, partial(ShownRings(light, mapping).plans, rings), meters)
+    shown: Shown | ShownRings = Shown(light, mapping) if isinstance(light, Driven) else ShownRings(light, mapping)
+    return Controller(light, light.logic(), shown, meters)
 
 
 def gap_by(clock: int, read: Callable[[int], Rows], first: int) -> Callable[[int], float]:

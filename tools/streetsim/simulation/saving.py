@@ -1,26 +1,22 @@
 """States of a session: the lines that brought it there, as a run repeats exactly, and what is known of it."""
 import json
+from collections import deque
 from hashlib import sha256
 
+from streetsim.actuated.keeping import kept_driver, restore_driver
 from streetsim.base.files import Json, open_text, whole_file
-from streetsim.base.report import some
 from streetsim.simulation.errors import TraCIException
 from streetsim.simulation.fleet import Place
 from streetsim.simulation.session import Session
 
-FORMAT = "streetsim state 3"
+FORMAT = "streetsim state 4"
 State = Json
 TALLIED = ("waiting", "waited", "lost", "travelled")
 
 
 def save_state(session: Session, path: str) -> None:
     """Writes to a file what restores a session: the lines that brought it here, and what is known of its vehicles and
-    lights. TraCIException where detectors drive a light."""
-    if driven := [one.name for one in session.driving.driver.controllers if one.in_force]:
-        raise TraCIException(
-            f"simulation.saveState: detectors drive {some(driven)}, of which a state keeps nothing: start with "
-            "--lights listed, or set programs of seconds first"
-        )
+    lights, and of what drives these."""
     session.follow()
     session.let_go()
     fleet, types, view, lights = session.fleet, session.types, session.view, session.control.lights.items()
@@ -38,7 +34,8 @@ def save_state(session: Session, path: str) -> None:
         **{"wishes": session.wishes, "pending": [[car, *way] for car, way in session.pending.items()]},
         "loops": {name: loop.last for name, loop in session.loops.items()},
         "lights": {name: [one.phases, one.begin, one.program, one.names] for name, one in lights},
-        "timers": session.control.timers,
+        **{"timers": session.control.timers, "changes": list(session.control.changes)},
+        "driver": kept_driver(session.driving.driver),
         **{"forgotten": sorted(session.shown.forgotten), "coming": list(session.shown.coming)},
     }
     with whole_file(path) as file:
@@ -48,7 +45,9 @@ def save_state(session: Session, path: str) -> None:
 def files_of(session: Session) -> dict[str, str]:
     """What a session was made of: {what a state is of where this differs, in words: digest (SHA-256)}."""
     run, mapping = session.source, session.map
+    driven = [f"{one.name} {one.light.program}" for one in session.driving.driver.controllers]
     parts = {
+        "another --lights": driven,
         "another network, or of other words": [run.load.text],
         "other routes": [*(line.text for line in run.enters), *mapping.cars, json.dumps(mapping.kinds)],
         "other additional files": [line.text for line in (*run.first, *(line for _, line in run.timed))],
@@ -105,6 +104,10 @@ def restore_lights(session: Session, state: State) -> None:
         light = control.lights[name]
         light.phases, light.begin, light.program = [(seconds, state) for seconds, state in phases], begin, program
         light.names = list(names)
+    control.changes = deque((clock, name, program) for clock, name, program in state["changes"])
+    restore_driver(session.driving.driver, state["driver"])
+    for one in session.driving.driver.controllers:
+        shown.signals.update({command["node"]: command for command in one.shows if one.in_force})
     control.timers = [(clock, light, index) for clock, light, index in state["timers"]]
     shown.forgotten, shown.coming = frozenset(state["forgotten"]), {}
     for name, node in session.map.signals:

@@ -1,0 +1,126 @@
+"""The state of what drives lights, as JSON: written in one session, and put into another one of the same lights."""
+from __future__ import annotations
+
+from collections import deque
+from collections.abc import Iterable
+from math import inf
+
+from streetsim.actuated.driver import Controller, Driver
+from streetsim.actuated.logic import Actuated, Ended
+from streetsim.actuated.nema import Nema, Running
+from streetsim.actuated.showing import Shown
+from streetsim.actuated.showing_rings import ShownRings
+from streetsim.base.files import Json
+
+PLAIN = ("at", "since", "due", "told_to_end")  # of an actuated light's logic
+OF_RINGS = ("now", "due", "changes")
+OF_A_PHASE = ("stage", "since", "end", "lasts", "most", "resting", "ready", "called", "changing", "began")
+
+
+def kept_driver(driver: Driver) -> Json:
+    """The state of all that drives lights; what buses call is no part of it, as only runs have that."""
+    return {"first": driver.first, "switches": list(driver.switches), "lights": list(map(kept, driver.controllers))}
+
+
+def restore_driver(driver: Driver, state: Json) -> None:
+    """Puts a state into a driver of the same lights and programs, in the same order."""
+    driver.first = state["first"]
+    driver.switches = deque((clock, light, program) for clock, light, program in state["switches"])
+    for one, own in zip(driver.controllers, state["lights"], strict=True):
+        restore(one, own)
+
+
+def kept(one: Controller) -> Json:
+    """The state of one light's controller."""
+    ended = [list(row) for row in one.logic.ended]
+    own = kept_rings(one.logic) if isinstance(one.logic, Nema) else kept_phases(one.logic)
+    return {
+        **{"logic": own, "ended": ended, "shown": kept_shown(one.shown), "shows": one.shows, "in_force": one.in_force},
+        **{"wraps": written(one.wraps), "stopped": written(one.stopped)},
+        "spans": [[written(begin), written(end)] for begin, end in one.spans],
+    }
+
+
+def restore(one: Controller, state: Json) -> None:
+    """Puts a state into the controller of one light."""
+    one.logic.ended = [Ended(*row) for row in state["ended"]]
+    if isinstance(one.logic, Nema):
+        restore_rings(one.logic, state["logic"])
+    else:
+        restore_phases(one.logic, state["logic"])
+    restore_shown(one.shown, state["shown"])
+    one.shows, one.in_force = state["shows"], state["in_force"]
+    one.wraps, one.stopped = read(state["wraps"]), read(state["stopped"])
+    one.spans = [[read(begin), read(end)] for begin, end in state["spans"]]
+
+
+def written(clock: float) -> float | None:
+    """A clock as JSON has it: none where it never comes (inf)."""
+    return None if clock == inf else clock
+
+
+def read(clock: float | None) -> float:
+    """A clock that `written` gave."""
+    return inf if clock is None else clock
+
+
+def kept_phases(logic: Actuated) -> Json:
+    """The state of an actuated light's logic, without the phases that ended."""
+    return {**fields(logic, PLAIN), "detectors": list(logic.first.items())}
+
+
+def restore_phases(logic: Actuated, state: Json) -> None:
+    """Puts a state into an actuated light's logic."""
+    put(logic, state, PLAIN)
+    logic.first = {phase: detector for phase, detector in state["detectors"]}
+
+
+def kept_rings(logic: Nema) -> Json:
+    """The state of a NEMA light's logic, without the greens that ended."""
+    phases = [
+        {**fields(one, OF_A_PHASE), "chosen": one.chosen.phase.name if one.chosen else None} for one in logic.all
+    ]
+    return {**fields(logic, OF_RINGS), "phases": phases, "active": [one.phase.name for one in logic.active]}
+
+
+def restore_rings(logic: Nema, state: Json) -> None:
+    """Puts a state into a NEMA light's logic."""
+    put(logic, state, OF_RINGS)
+    for one, own in zip(logic.all, state["phases"], strict=True):
+        put(one, own, OF_A_PHASE)
+        one.chosen = named(logic.by_ring[one.ring], own["chosen"])
+    pairs = zip(logic.by_ring, state["active"], strict=True)
+    logic.active = [found for ring, name in pairs if (found := named(ring, name)) is not None]
+
+
+def named(ring: Iterable[Running], name: int | None) -> Running | None:
+    """The phase of a ring that has a number; none for none."""
+    return next((one for one in ring if one.phase.name == name), None)
+
+
+def kept_shown(shown: Shown | ShownRings) -> Json:
+    """The state of what a light shows: the phases' mean lengths, and of a NEMA light what each signal shows."""
+    means = list(shown.means.items()) if isinstance(shown, ShownRings) else shown.means
+    letters = {"letters": shown.letters} if isinstance(shown, ShownRings) else {}
+    return {"means": means, "known": shown.known, **letters}
+
+
+def restore_shown(shown: Shown | ShownRings, state: Json) -> None:
+    """Puts a state into what a light shows."""
+    shown.known = state["known"]
+    if isinstance(shown, ShownRings):
+        shown.means = {name: mean for name, mean in state["means"]}
+        shown.letters = [(letter, since) for letter, since in state["letters"]]
+    else:
+        shown.means = list(state["means"])
+
+
+def fields(of: object, names: Iterable[str]) -> Json:
+    """Some attributes of an object, by their names."""
+    return {name: getattr(of, name) for name in names}
+
+
+def put(into: object, state: Json, names: Iterable[str]) -> None:
+    """Sets some attributes of an object to the values of a state, by their names."""
+    for name in names:
+        setattr(into, name, state[name])
