@@ -276,6 +276,8 @@ class Crowding(unittest.TestCase):
         told, _ = self.told(mapped(link("a")), 2000, lanes)
         self.assertIn("come to works that leave 1 of 2 lanes", told[0])
         self.assertEqual(self.told(mapped(link("a")), 1500, lanes), ([], []))
+        short = [Closure(0, 0, 20, 30, 0, 860), Closure(0, 1, 20, 30, 858, 862)]
+        self.assertEqual(self.told(mapped(link("a")), 1500, short), ([], []), "of the last 2 s nothing is judged")
         together = [replace(one, begin=0, end=900) for one in lanes]
         self.assertEqual(self.told(mapped(link("a")), 2000, together), ([], []))
 

@@ -50,7 +50,7 @@ def files_of(session: Session) -> dict[str, str]:
         "another --lights": driven,
         "another network, or of other words": [run.load.text],
         "other routes": [*(line.text for line in run.enters), *mapping.cars, json.dumps(mapping.kinds)],
-        "other additional files": [line.text for line in (*run.first, *(line for _, line in run.timed))],
+        "other additional files, or of other words": [line.text for line in (*run.first, *(line for _, line in run.timed))],
     }
     return {text: sha256("\n".join(lines).encode()).hexdigest() for text, lines in parts.items()}
 

@@ -67,7 +67,9 @@ def area_metres(path: FilePath, element: Element, report: Report) -> tuple[float
 
 def tell_beyond(name: str | None, lane: str | None, report: Report) -> None:
     """Reports that a lane area goes on, in SUMO, on another lane, and here does not."""
-    report.warn(f"detector {name} reaches beyond {lane}, and sees what is on that lane alone")
+    told = f"detector {name} reaches beyond {lane}, and sees what is on that lane alone"
+    kind = "detectors reach beyond their lane, and see what is on that lane alone"
+    report.warn(told, [name or ""], kind=kind)
 
 
 def placed(detectors: Iterable[SumoDetector], mapping: Map, closed: Container[str], report: Report) -> list[Detector]:
@@ -85,7 +87,8 @@ def placed(detectors: Iterable[SumoDetector], mapping: Map, closed: Container[st
                 one.name, one.kind, link, lane, *cells(one, at, report), one.period, at.cell_metres
             )
         elif one.lane in closed:
-            report.warn(f"detector {one.name} lies on {one.lane}, which is left out")
+            told = f"detector {one.name} lies on {one.lane}, which is left out"
+            report.warn(told, [one.name], kind="detectors lie on lanes that are left out")
         else:
             raise Fault(f"{one.where}: the network has no lane {one.lane!r}")
     if sum(one.kind == E1 for one in found.values()) > limits.METERS:

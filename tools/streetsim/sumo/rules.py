@@ -150,7 +150,8 @@ def warn_of_unknown(net: SumoNet, report: Report) -> None:
             report.warn(told, [light], "judge by SUMO", kind="lights have states that are shown red")
     for names in rings_that_yield(net):
         told = f"a ring whose entries go first, which fills and locks as in SUMO: edges {some(names)}"
-        report.warn(told, names, "netconvert --roundabouts.guess, or a <roundabout> of them, lets the ring go first")
+        do = "netconvert --roundabouts.guess, or a <roundabout> of them, lets the ring go first"
+        report.warn(told, names, do, kind="rings have entries that go first, which fill and lock as in SUMO, on edges")
 
 
 def rings_that_yield(net: SumoNet) -> list[list[str]]:

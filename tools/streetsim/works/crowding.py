@@ -9,6 +9,7 @@ from streetsim.model.runs import Run
 from streetsim.works.closures import Closure
 
 PASSES = 1_600  # vehicles an hour of one open lane beside works
+SHORT = 300  # seconds: lanes that are closed together for less count only where none are for as long
 
 
 def crowded(run: Run, mapping: Map, closures: Sequence[Closure]) -> Iterator[str]:
@@ -35,11 +36,13 @@ def too_many(run: Run, mapping: Map, here: Sequence[Closure]) -> str:
     """The text on the works on one link (here: one closure at least) at their worst, by the lanes that are closed
     together; empty where these leave no lane, or the open ones let all vehicles pass."""
     link, worst = here[0].link, (0.0, 0.0, 0)
-    lanes = len(mapping.links[link].lanes)
-    for closed, times in closed_together(here).items():
+    lanes, together = len(mapping.links[link].lanes), closed_together(here)
+    lasting = {closed: sum(end - begin for begin, end in times) for closed, times in together.items()}
+    least = min(SHORT, max(lasting.values()))
+    for closed, times in together.items():
         count = sum(coming(run, mapping, (link,), *time) for time in times)
-        hourly, left = count * 3600 / sum(end - begin for begin, end in times), lanes - len(closed)
-        if left and hourly > PASSES * left:
+        hourly, left = count * 3600 / lasting[closed], lanes - len(closed)
+        if left and hourly > PASSES * left and lasting[closed] >= least:
             worst = max(worst, (hourly / left, hourly, left))
     _, hourly, left = worst
     if not left:
