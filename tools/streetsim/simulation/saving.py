@@ -45,12 +45,13 @@ def save_state(session: Session, path: str) -> None:
 def files_of(session: Session) -> dict[str, str]:
     """What a session was made of: {what a state is of where this differs, in words: digest (SHA-256)}."""
     run, mapping = session.source, session.map
+    timed = (line for _, line in run.timed)
     driven = [f"{one.name} {one.light.program}" for one in session.driving.driver.controllers]
     parts = {
         "another --lights": driven,
         "another network, or of other words": [run.load.text],
         "other routes": [*(line.text for line in run.enters), *mapping.cars, json.dumps(mapping.kinds)],
-        "other additional files, or of other words": [line.text for line in (*run.first, *(line for _, line in run.timed))],
+        "other additional files, or of other words": [line.text for line in (*run.first, *timed)],
     }
     return {text: sha256("\n".join(lines).encode()).hexdigest() for text, lines in parts.items()}
 
