@@ -505,6 +505,14 @@ class Vehicles(Started):
         self.start()
         traci.simulation.loadState(path)
         self.assertEqual(trace(), first)
+        traci.close()
+        self.start()
+        traci.simulation.loadState(path)
+        traci.simulationStep(200)  # all have arrived meanwhile
+        self.assertEqual((traci.simulation.getPendingVehicles(), traci.vehicle.getIDList()), ((), ()))
+        for name in ("v", "later"):
+            with self.assertRaisesRegex(traci.TraCIException, f"Vehicle '{name}' is not known."):
+                traci.vehicle.getRoadID(name)
         with self.assertRaisesRegex(traci.TraCIException, "not a state"):
             traci.simulation.loadState(self.write("x.json", "{}"))
         traci.close()

@@ -100,9 +100,9 @@ class Session(Simulation):
         self.note_loops()
 
     def look_again(self) -> None:
-        """Looks at all lanes after a state was loaded, when nothing is known of the step before; no second is
-        counted."""
-        seen, self.loaded = set(self.view.seen), []
+        """Looks at all lanes after a state was loaded, when nothing is known of the step before; no second is counted.
+        From now on each step is looked at."""
+        seen, self.loaded, self.followed = set(self.view.seen), [], True
         self.view.before = {}
         self.view.look()
         self.view.seen, self.view.departed = seen | set(self.view.places), []
