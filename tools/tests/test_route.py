@@ -32,7 +32,7 @@ from streetsim.ways.graph import END, Graph
 from streetsim.ways.minor import Minor
 from streetsim.ways.router import FAR, Found, Router, Wish, parts_of
 from streetsim.ways.seconds import reds
-from streetsim.ways.trips import Trip, read_trips, write_routes
+from streetsim.ways.trips import Trip, read_trips, vehicles_of, write_routes
 
 # From a to d by b or by c; from b to c as well. Nobody may go from c to d's twin e.
 GRAPH = Graph(
@@ -187,6 +187,7 @@ class Written(Case):
         stops = {name: [(stop.get("lane"), stop.get("until")) for stop in those] for name, those in made.items()}
         self.assertEqual(stops, {"v": [("b_0", "99")], "t": [], "f.0": [("c_0", "30")], "f.1": [("c_0", "45")]})
         self.assertEqual(report.ignored["accel of vTypes"], 1)
+        self.assertEqual([one.line for one in vehicles_of(trips.all, town.graph)], ["12", "", "", ""])
 
 
 class Stepping(Search):

@@ -202,7 +202,7 @@ def reason_against(vehicle: Vehicle, net: SumoNet, begin: int) -> str | None:
 
 def vehicles_of(trips: Iterable[Trip], graph: Graph) -> list[Vehicle]:
     """The trips, with their present ways, as vehicles of an import."""
-    return [Vehicle(trip.name, trip.depart, graph.names(trip.path), trip.type) for trip in trips]
+    return [Vehicle(trip.name, trip.depart, graph.names(trip.path), trip.type, line=trip.line) for trip in trips]
 
 
 def write_routes(path: str, trips: Trips, graph: Graph) -> None:
