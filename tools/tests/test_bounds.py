@@ -4,38 +4,39 @@ import unittest
 
 from support import PROGRAM, Case, needs_simulator
 from test_actuated import PHASES, street
+from test_nema import street as ringed
 from streetsim.actuated.lights import driven_lights
 from streetsim.model.mapping import read_map
 from streetsim.model.runs import read_run
 from streetsim.signals.bounds import Bounds, given_bounds, kept_with, key_of, search_bounds, with_bounds, write_bounds
 from streetsim.signals.search import Search
 
-OWN = Bounds(((0, 5, 40), (2, 5, 30)), 3.0)
+OWN = Bounds(((0, 5, 40), (2, 5, 30)), (3.0,))
 
 
 class Changing(unittest.TestCase):
     def test_a_gap_and_a_green(self):
-        self.assertEqual(OWN.with_gap(2.5), Bounds(OWN.greens, 2.5))
-        self.assertIsNone(OWN.with_gap(8.5))
-        self.assertEqual(OWN.with_green(1, 7, 35, 5), Bounds(((0, 5, 40), (2, 7, 35)), 3.0))
+        self.assertEqual(OWN.with_gap(0, 2.5), Bounds(OWN.greens, (2.5,)))
+        self.assertIsNone(OWN.with_gap(0, 8.5))
+        self.assertEqual(OWN.with_green(1, 7, 35, 5), Bounds(((0, 5, 40), (2, 7, 35)), (3.0,)))
         # No least below the lowest, and none as long as the most.
         self.assertIsNone(OWN.with_green(0, 4, 40, 5))
         self.assertIsNone(OWN.with_green(0, 40, 40, 5))
         # One that was lower before stays as it is allowed.
-        low = Bounds(((0, 3, 40),), 3.0)
-        self.assertEqual(low.with_green(0, 3, 50, 5), Bounds(((0, 3, 50),), 3.0))
+        low = Bounds(((0, 3, 40),), (3.0,))
+        self.assertEqual(low.with_green(0, 3, 50, 5), Bounds(((0, 3, 50),), (3.0,)))
 
     def test_the_search_finds_the_least_of_a_bowl(self):
         # The value is least at a gap of 2 s, a most of 55 s and a least of 9 s.
         def value(bounded):
             [own] = bounded.values()
             [(_, least, most)] = own.greens
-            return 100 + (own.gap - 2) ** 2 + abs(most - 55) + abs(least - 9)
+            return 100 + (own.gap_of(0) - 2) ** 2 + abs(most - 55) + abs(least - 9)
 
         search = Search(lambda plans: (value(one) for one in plans), 500, 1, key_of=key_of)
-        search_bounds(search, {"L": Bounds(((0, 5, 40),), 3.0)}, 5)
+        search_bounds(search, {"L": Bounds(((0, 5, 40),), (3.0,))}, 5)
         [own] = search.best[1].values()
-        self.assertEqual(own, Bounds(((0, 9, 56 if own.greens[0][2] == 56 else 55),), 2.0))
+        self.assertEqual(own, Bounds(((0, 9, 56 if own.greens[0][2] == 56 else 55),), (2.0,)))
         self.assertEqual(search.trials[0].step, "given")
 
 
@@ -55,17 +56,41 @@ class Runs(Case):
         _, run, path = self.imported()
         mapping = read_map(str(path))
         lights = driven_lights(read_run(str(run)), mapping)
-        self.assertEqual(given_bounds(lights, ()), {"L": Bounds(((0, 5, 40),), 4.0)})
+        self.assertEqual(given_bounds(lights, ()), {"L": Bounds(((0, 5, 40),), (4.0,))})
         self.assertEqual(given_bounds(lights, ("L",)), {})
-        [made] = with_bounds(lights, mapping, {"L": Bounds(((0, 8, 60),), 2.0)}).driven
+        [made] = with_bounds(lights, mapping, {"L": Bounds(((0, 8, 60),), (2.0,))}).driven
         self.assertEqual((made.phases[0].least, made.phases[0].most, made.gaps), (8, 60, (2.0,)))
         self.assertEqual(kept_with(mapping.programs[0], OWN)["parameters"], {"max-gap": "3"})
-        write_bounds(str(self.folder / "x.add.xml"), mapping, {"L": Bounds(((0, 8, 60),), 2.0)})
+        write_bounds(str(self.folder / "x.add.xml"), mapping, {"L": Bounds(((0, 8, 60),), (2.0,))})
         text = (self.folder / "x.add.xml").read_text(encoding="utf-8")
         self.assertIn('<tlLogic id="L" type="actuated" programID="streetsim" offset="0">', text)
         self.assertIn('<param key="max-gap" value="2"/>', text)
         self.assertIn('<phase duration="30" state="G" minDur="8" maxDur="60"/>', text)
         self.assertIn('<phase duration="3" state="y"/>', text)
+
+    def test_bounds_of_a_light_of_two_rings(self):
+        run, path = self.folder / "run.jsonl", self.folder / "map.json"
+        routes = '<routes><vehicle id="v" depart="0"><route edges="a b"/></vehicle></routes>'
+        paths = self.write("x.net.xml", ringed()), "--routes", self.write("x.rou.xml", routes)
+        self.tool("import", *paths, "-o", run, "--map", path)
+        mapping = read_map(str(path))
+        lights = driven_lights(read_run(str(run)), mapping)
+        given = Bounds(((2, 5, 40), (4, 5, 40), (6, 5, 40), (8, 5, 40)), (2.0,) * 4)
+        self.assertEqual(given_bounds(lights, ()), {"L": given})
+        found = Bounds(((2, 5, 40), (4, 7, 40), (6, 5, 30), (8, 5, 40)), (2.0, 2.0, 3.5, 2.0))
+        [made] = with_bounds(lights, mapping, {"L": found}).driven
+        phases = [(one.name, one.least, one.most, one.extension) for one in made.rings.phases]
+        self.assertEqual(phases, [(2, 5, 40, 2.0), (4, 7, 40, 2.0), (6, 5, 30, 3.5), (8, 5, 40, 2.0)])
+        write_bounds(str(self.folder / "x.add.xml"), mapping, {"L": found})
+        text = (self.folder / "x.add.xml").read_text(encoding="utf-8")
+        self.assertIn('<tlLogic id="L" type="NEMA" programID="streetsim" offset="0">', text)
+        more = 'name="6" vehext="3.5" yellow="3" red="2"'
+        self.assertIn(f'<phase duration="30" state="G" minDur="5" maxDur="30" {more}/>', text)
+        # What was written is read as these bounds.
+        again = self.folder / "again.json"
+        self.tool("import", paths[0], self.folder / "x.add.xml", *paths[1:], "-o", run, "--map", again)
+        read = read_map(str(again))
+        self.assertEqual(given_bounds(driven_lights(read_run(str(run)), read), ()), {"L": found})
 
     def test_the_command(self):
         # A vehicle each 4 s, and nobody crosses: the longer the green the better, so its most goes up.

@@ -56,7 +56,7 @@ def ground_of(reading: Reading, town: Town) -> Ground:
     if others := [one.name for one in lights.driven if one.name not in given]:
         print(f"not changed, as they have no bounds of this kind or --keep says so: {some(others)}", file=sys.stderr)
     if not given:
-        raise Fault(f"{reading.map}: detectors drive no light of type actuated whose bounds may be changed")
+        raise Fault(f"{reading.map}: detectors drive no light whose bounds may be changed")
     settings = Settings(reading.until, lights=lights)
     dawdle = min(1000, town.run.load.command["dawdle"] + reading.reserve)
     own = reading.program, town.run, town.mapping, settings, reading.rounds
@@ -170,8 +170,8 @@ def bound_rows(before: Bounded, after: Bounded) -> Iterator[Entry]:
     """The rows of lights.csv, as LIGHTS has the columns, one for each green that detectors extend: its bounds and the
     gap of its light, seconds, as given and as found."""
     for name, own in sorted(before.items()):
-        for (phase, least, most), (_, low, high) in zip(own.greens, after[name].greens, strict=True):
-            yield name, phase, least, low, most, high, f"{own.gap:g}", f"{after[name].gap:g}"
+        for at, ((phase, least, most), (_, low, high)) in enumerate(zip(own.greens, after[name].greens, strict=True)):
+            yield name, phase, least, low, most, high, f"{own.gap_of(at):g}", f"{after[name].gap_of(at):g}"
 
 
 def tell_bounds(found: Found, rows: Sequence[Compared], doubts: Sequence[str]) -> int:

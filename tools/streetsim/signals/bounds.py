@@ -10,6 +10,7 @@ from xml.sax.saxutils import quoteattr
 from streetsim.actuated.detectors import GAP
 from streetsim.actuated.kept import in_force
 from streetsim.actuated.lights import Driven, Lights, driven_of
+from streetsim.actuated.rings import DrivenRings, digits
 from streetsim.base import limits
 from streetsim.base.files import Json, whole_file
 from streetsim.model.mapping import Map
@@ -26,15 +27,21 @@ MAX_GAP = "max-gap"
 
 @dataclass(frozen=True, slots=True)
 class Bounds:
-    """The bounds of one light, seconds: (place of the phase, least, most) of each green that detectors extend, and the
-    gap that ends a green."""
+    """The bounds of one light, seconds: (phase, least, most) of each green that detectors extend, and the gaps that end
+    a green: one for all of them, or of a NEMA light one for each (its vehext). A phase is its place in the program, and
+    of a NEMA light its number in the ring."""
 
     greens: tuple[tuple[int, int, int], ...]  # phase, least, most
-    gap: float
+    gaps: tuple[float, ...]
 
-    def with_gap(self, gap: float) -> Bounds | None:
-        """These bounds with another gap, seconds; None where it is outside GAP_RANGE."""
-        return replace(self, gap=gap) if GAP_RANGE[0] <= gap <= GAP_RANGE[1] else None
+    def gap_of(self, at: int) -> float:
+        """The gap, seconds, that ends the green at a place of greens."""
+        return self.gaps[at if len(self.gaps) > 1 else 0]
+
+    def with_gap(self, at: int, gap: float) -> Bounds | None:
+        """These bounds with another gap, seconds, at a place of gaps; None where it is outside GAP_RANGE."""
+        gaps = (*self.gaps[:at], gap, *self.gaps[at + 1 :])
+        return replace(self, gaps=gaps) if GAP_RANGE[0] <= gap <= GAP_RANGE[1] else None
 
     def with_green(self, at: int, least: int, most: int, lowest: int) -> Bounds | None:
         """These bounds with another least and most, seconds, of the green at a place of greens. None where the least is
@@ -53,21 +60,41 @@ def given_bounds(lights: Lights, keep: Collection[str]) -> Bounded:
     have one program all day. Greens whose most is above 600 s are left out, and so is a light that has no other."""
     found, keep = {}, {*keep, *(light for _, light, _ in lights.switches)}
     for one in lights.driven:
-        if isinstance(one, Driven) and one.name not in keep:
-            own = ((at, phase.least, phase.most) for at, phase in enumerate(one.phases) if phase.is_extended)
-            greens = tuple((at, least, most) for at, least, most in own if most <= limits.PHASE_STEPS)
-            if greens:
-                found[one.name] = Bounds(greens, max(one.gaps, default=GAP))
+        if one.name not in keep:
+            own = of_phases(one) if isinstance(one, Driven) else of_rings(one)
+            if own.greens:
+                found[one.name] = own
     return found
+
+
+def of_phases(light: Driven) -> Bounds:
+    """The bounds of an actuated light, without greens whose most is above 600 s."""
+    own = ((at, phase.least, phase.most) for at, phase in enumerate(light.phases) if phase.is_extended)
+    greens = tuple((at, least, most) for at, least, most in own if most <= limits.PHASE_STEPS)
+    return Bounds(greens, (max(light.gaps, default=GAP),))
+
+
+def of_rings(light: DrivenRings) -> Bounds:
+    """The bounds of a NEMA light, without greens whose most is above 600 s."""
+    own = [one for one in light.rings.phases if one.least < one.most <= limits.PHASE_STEPS]
+    return Bounds(
+        tuple((one.name, round(one.least), round(one.most)) for one in own), tuple(one.extension for one in own)
+    )
 
 
 def kept_with(kept: Json, bounds: Bounds) -> Json:
     """A program as a map keeps it, with other bounds; the one given stays as it is."""
-    phases = [list(phase) for phase in kept["phases"]]
-    for at, least, most in bounds.greens:
-        phases[at][2:4] = [least, most]
+    phases, timing = ([list(one) for one in kept.get(key, ())] for key in ("phases", "timing"))
+    names = [digits(text) for text, *_ in timing]
+    for at, (phase, least, most) in enumerate(bounds.greens):
+        place = names.index((phase,)) if timing else phase
+        phases[place][2:4] = [least, most]
+        if timing:
+            timing[place][1] = bounds.gap_of(at)
+    if timing:
+        return {**kept, "phases": phases, "timing": timing}
     parameters = {name: value for name, value in kept["parameters"].items() if name.partition(":")[0] != MAX_GAP}
-    return {**kept, "phases": phases, "parameters": {**parameters, MAX_GAP: f"{bounds.gap:g}"}}
+    return {**kept, "phases": phases, "parameters": {**parameters, MAX_GAP: f"{bounds.gap_of(0):g}"}}
 
 
 def with_bounds(lights: Lights, mapping: Map, bounded: Mapping[str, Bounds]) -> Lights:
@@ -105,7 +132,8 @@ def search_bounds(search: Search, given: Bounded, lowest: int) -> None:
                 best = tried
         for gap, most, least in STEPS:
             for name in given:
-                best = climb(search, best, f"gap of {name}", change_of(name, gap_by(gap)))
+                for at in range(len(given[name].gaps)):
+                    best = climb(search, best, f"gap of {name}", change_of(name, gap_by(at, gap)))
                 for at in range(len(given[name].greens)):
                     best = climb(search, best, f"most of {name}", change_of(name, most_by(at, most, lowest)))
                     best = climb(search, best, f"least of {name}", change_of(name, least_by(at, least, lowest)))
@@ -117,7 +145,8 @@ def for_all(given: Bounded, lowest: int) -> Iterator[tuple[str, Bounded]]:
     """Bounds that are tried for all lights at once, (name of the step, bounds): each gap of GAPS, then all mosts
     shorter and longer. lowest: as of Bounds.with_green."""
     for gap in GAPS:
-        yield f"gaps of {gap:g} s", {name: replace(own, gap=gap) for name, own in given.items()}
+        all_ = {name: replace(own, gaps=tuple(gap for _ in own.gaps)) for name, own in given.items()}
+        yield f"gaps of {gap:g} s", all_
     for share in (SHORTER, LONGER):
         made = {}
         for name, own in given.items():
@@ -142,9 +171,9 @@ def change_of(name: str, change: Change) -> Callable[[Bounded, int], Bounded | N
     return changed
 
 
-def gap_by(seconds: float) -> Change:
-    """A change that makes the gap so many seconds longer (sign 1) or shorter (sign -1)."""
-    return lambda own, sign: own.with_gap(own.gap + sign * seconds)
+def gap_by(at: int, seconds: float) -> Change:
+    """A change that makes the gap at a place of gaps so many seconds longer (sign 1) or shorter (sign -1)."""
+    return lambda own, sign: own.with_gap(at, own.gaps[at] + sign * seconds)
 
 
 def most_by(at: int, seconds: int, lowest: int) -> Change:
@@ -177,12 +206,13 @@ def write_bounds(path: str, mapping: Map, bounded: Mapping[str, Bounds], program
         file.write("<additional>\n")
         for name, bounds in sorted(bounded.items()):
             own = kept_with(kept[name], bounds)
-            words = f'type="actuated" programID="{program}" offset="{own["offset"]:g}"'
+            words = f'type="{own["kind"]}" programID="{program}" offset="{own["offset"]:g}"'
             file.write(f"    <tlLogic id={quoteattr(name)} {words}>\n")
             for key, value in own["parameters"].items():
                 file.write(f"        <param key={quoteattr(key)} value={quoteattr(value)}/>\n")
-            for phase in own["phases"]:
-                file.write(f"        <phase {' '.join(phase_words(*phase))}/>\n")
+            for at, phase in enumerate(own["phases"]):
+                more = ring_words(*own["timing"][at]) if own.get("timing") else []
+                file.write(f"        <phase {' '.join([*phase_words(*phase), *more])}/>\n")
             file.write("    </tlLogic>\n")
         file.write("</additional>\n")
 
@@ -195,3 +225,9 @@ def phase_words(
     words = [f'duration="{seconds:g}" state="{state}"']
     words += [f'{name}="{value:g}"' for name, value in (("minDur", least), ("maxDur", most)) if value is not None]
     return words + ([f'next="{" ".join(map(str, following))}"'] if following else [])
+
+
+def ring_words(name: str, extension: float, yellow: float, red: float) -> list[str]:
+    """The further attributes of a <phase> of a NEMA light, of what a map keeps of it; times in seconds."""
+    times = (("vehext", extension), ("yellow", yellow), ("red", red))
+    return [f"name={quoteattr(name)}", *(f'{key}="{value:g}"' for key, value in times)]

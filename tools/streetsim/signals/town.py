@@ -6,7 +6,7 @@ from dataclasses import dataclass, field, replace
 from types import MappingProxyType
 from typing import Any, NamedTuple
 
-from streetsim.actuated.lights import ACTUATED
+from streetsim.actuated.lights import ACTUATED, NEMA
 from streetsim.base.files import Fault
 from streetsim.base.report import some
 from streetsim.model.mapping import Map
@@ -114,7 +114,7 @@ def searched_lights(reading: Reading, run: Run, mapping: Map, net: SumoNet) -> t
     reasons: dict[str, list[str]] = {}
     for name in names:
         program = net.programs[name]
-        if reading.fixed and program.kind == ACTUATED:
+        if reading.fixed and program.kind in (ACTUATED, NEMA):
             program = replace(program, kind=STATIC)
         if why := why_kept(name, program, asked, timed):
             reasons.setdefault(why, []).append(name)
