@@ -81,8 +81,8 @@ def add_search(made: argparse.ArgumentParser) -> None:
     made.add_argument(
         "--bounds",
         action="store_true",
-        help="find least, most and max-gap (vehext) of actuated and NEMA lights, which detectors then drive, in place of "
-        "plans of seconds; the best of those is found too, with the other words, and said beside it",
+        help="find least, most and max-gap (vehext) of actuated and NEMA lights, which detectors then drive, in place "
+        "of plans of seconds; the best of those is found too, with the other words, and said beside it",
     )
     made.add_argument("--cycle", metavar="S-S", help=f"cycles to try (default {CYCLES})")
     made.add_argument(
