@@ -161,7 +161,8 @@ def main():
     running.main([str(word) for word in arguments])
     here, there = spent(resource.RUSAGE_SELF) - here, spent(resource.RUSAGE_CHILDREN) - there
     print(f"{time.monotonic() - begin:.1f} s by the clock; what streetsim took has further runs in it")
-    print("| Vehicles | calls | processor, s: tools | streetsim | memory, MB: tools | streetsim |\n|---|---|---|---|---|---|")
+    print("| Vehicles | calls | processor, s: tools | streetsim | memory, MB: tools | streetsim |")
+    print(f"|{'---|' * 6}")
     memory = megabytes(resource.RUSAGE_SELF), megabytes(resource.RUSAGE_CHILDREN)
     cells = f"{Counted.calls:,} | {here:.1f} | {there:.1f} | {memory[0]:.0f} | {memory[1]:.0f}"
     print(f"| {words.vehicles:,} | {cells} |")
