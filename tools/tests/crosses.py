@@ -21,6 +21,10 @@ def cases():
         own = shared(share)
         for hourly in (300, 600):
             yield f"{share} % left against {hourly}", "cross1", {**own, ("e", "straight"): hourly}
+    for share in (20, 60):
+        own = shared(share)
+        against = {("e", way): hourly for (_, way), hourly in own.items()}
+        yield f"{share} % left on both sides", "cross1", own | against
     yield "turn lane, straight alone", "cross2", {("w", "straight"): FULL}
     for hourly in (300, 600):
         yield f"turn lane, 20 % left against {hourly}", "cross2", {**shared(20), ("e", "straight"): hourly}

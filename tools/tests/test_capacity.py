@@ -7,6 +7,7 @@ from streetsim.base.report import Report
 from streetsim.importing.convert import convert
 from streetsim.model.folder import read_folder
 from streetsim.results.compare import trips_of
+from streetsim.sumo.heads import Heads, passing_heads
 from streetsim.sumo.net import request_of
 from streetsim.sumo.network import Options
 from streetsim.sumo.yielding import (
@@ -23,9 +24,12 @@ from streetsim.sumo.yielding import (
     leaving,
     passing_here,
     seconds_for,
+    set_heads,
     set_lane,
+    settle,
     time_of,
     until_first,
+    wait_together,
 )
 
 # SUMO's vehicles a green by case and way, of the demand with seed 1; a tenth or 0.6 of a vehicle off is allowed.
@@ -38,6 +42,7 @@ SUMO = {
     "left against 800": {"left": 1.3},
     "10 % left against 600": {"straight": 11.6, "left": 1.3},
     "30 % left against 600": {"straight": 4.9, "left": 2.3},
+    "60 % left on both sides": {"straight": 4.8, "left": 6.9},
     "turn lane, straight alone": {"straight": 19.9},
     "turn lane, 20 % left against 300": {"straight": 21.4, "left": 8.8},
 }
@@ -96,8 +101,8 @@ class Formulas(unittest.TestCase):
         self.assertEqual([request_of(name) for name in ("", "x", ":c_1")], [None, None, None])
 
 
-class OneLane(unittest.TestCase):
-    """A cross of one lane an arm, 42 s of 90 green, each vehicle of a queue 2 s: lefts from the west wait."""
+class Lanes(unittest.TestCase):
+    """A cross of one lane an arm, 42 s of 90 green, each vehicle of a queue 2 s."""
 
     def movement(self, way, lane, flow, runs=()):
         green = (1 << 42) - 1
@@ -117,6 +122,10 @@ class OneLane(unittest.TestCase):
         for one in (west, left, east, other):
             set_lane(one, (west, left, east, other))
         return west, left, east, other
+
+
+class OneLane(Lanes):
+    """Such lanes, of which lefts from the west wait."""
 
     def test_wait_for_a_gap(self):
         # (e^1.0833 - 1) * 6 - 6.5 and (e^0.65 - 1) * 10 - 6.5 seconds.
@@ -159,6 +168,59 @@ class OneLane(unittest.TestCase):
         _, left, east, _ = self.lanes(80, 20, 1700, 0)
         self.assertEqual(lane_queue(left, east, 1.0), east.green)
         self.assertAlmostEqual(lane_there(left, 0, 42, 1.0), 4.0 * (1 - 0.8 ** 20.598) + 1, places=1)  # and one after
+
+
+class Heading(Lanes):
+    """Two such lanes that face each other, with left turns on both."""
+
+    def heads(self, *flows):
+        """The lanes, as of lanes, with what their heads know of each other."""
+        found = self.lanes(*flows)
+        for one in found:
+            set_heads(one)
+        return found
+
+    def test_chances_at_the_heads(self):
+        # A fifth of one lane turns left, a half of the other: both come together as left and straight on with chances
+        # of 0.2 * 0.5 and 0.5 * 0.8. One that waits is freed by a left turn alone.
+        _, left, _, other = self.heads(320, 80, 150, 150)
+        for own, waits, freed in ((left, (0.1, 0.4), (0.5, 0.2)), (other, (0.4, 0.1), (0.2, 0.5))):
+            for found, expected in zip((*own.heads.waits, *own.heads.freed), (*waits, *freed), strict=True):
+                self.assertAlmostEqual(found, expected)
+        self.assertEqual((left.opposite, other.opposite, left.heads.headway), (("e", 0), ("w", 0), 2.0))
+        self.assertEqual(left.heads.turned(), Heads(other.heads.waits, other.heads.freed, 2.0))
+
+    def test_nobody_faces_a_lane_without_left_turns(self):
+        _, left, east, _ = self.heads(320, 80, 300, 0)
+        self.assertEqual((left.heads, east.heads), (None, None))
+
+    def test_passing_at_the_heads(self):
+        # Nobody waits: one in 2 s. Half of the own lane waits for all of the other: of three 1/2 + 1/4 + 1/8 pass.
+        self.assertAlmostEqual(passing_heads(Heads((0.0, 0.0), (1.0, 1.0), 2.0), 41), 20.5)
+        self.assertAlmostEqual(passing_heads(Heads((0.5, 0.0), (0.0, 1.0), 2.0), 6), 0.875)
+        # Half of both turn left. In 2 s both go, 1/2, or the other one waits, 1/4. Of one that waited and is freed, in
+        # 5 s, 0.4 pass in 2 s and 0.8 in 4 s: where the own one waits 0.2 and 0.5 in all, where the other one does 0.7
+        # and 1.25. So in 4 s 1/2 * 1.75 + 1/4 * 0.2 + 1/4 * 1.7, and in 6 s 1/2 * 2.35 + 1/4 * 0.5 + 1/4 * 2.25.
+        halves = Heads((0.25, 0.25), (0.5, 0.5), 2.0)
+        for seconds, vehicles in ((0, 0), (2, 0.75), (4, 1.35), (6, 1.8625)):
+            self.assertAlmostEqual(passing_heads(halves, seconds), vehicles)
+
+    def test_neither_side_takes_all(self):
+        # 400 an hour, 60 % of them to the left: in SUMO both sides pass 11 a green of such, which are 440 an hour.
+        for west, east in ((400, 400), (400, 390), (390, 400)):
+            lanes = self.heads(0.4 * west, 0.6 * west, 0.4 * east, 0.6 * east)
+            settle(lanes)
+            for one, flow in zip(lanes, (west, west, east, east), strict=True):
+                self.assertGreater(sum(each.passing for each in one.sharing), 0.95 * flow)
+
+    def test_who_waits_together(self):
+        # By request: straight on and left from the west, and from the east. Both left turns give way to the straight
+        # ones, and by the bits one also to the other.
+        found = dict(enumerate(self.lanes(100, 100, 100, 100)))
+        yields = {1: [2, 3], 3: [0]}
+        self.assertTrue(wait_together(1, 3, found, yields))
+        self.assertFalse(wait_together(1, 2, found, yields))  # who goes straight on waits for nobody
+        self.assertFalse(wait_together(1, 3, found, {1: [3], 3: [0]}))  # for nobody else of the other's street
 
 
 class Shown(Case):

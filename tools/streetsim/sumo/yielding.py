@@ -17,6 +17,7 @@ from functools import cache
 from itertools import pairwise
 from typing import Any
 
+from streetsim.sumo.heads import Heads, passing_heads
 from streetsim.sumo.net import Connection
 
 Way = tuple[str, str]  # an edge and the next one
@@ -83,6 +84,8 @@ class Movement:
     lanes: int = 1  # of its edge
     share: float = 1.0  # of the vehicles on its lane that wait for gaps
     beside: float = 0.0  # seconds between vehicles of a queue of those on its lane that do not
+    heads: Heads | None = None  # its lane and the one that faces it, where some wait on both
+    opposite: tuple[str, int] | None = None  # the lane that faces it
 
     @property
     def waits(self) -> bool:
@@ -113,12 +116,58 @@ def movements_of(
         assert connection.request is not None
         found[connection.request] = movement_of(connection, states, flow, limits_of[connection.source])
     for request, movement in found.items():
-        movement.foes = [found[foe] for foe in sorted(yields.get(request, ())) if foe in found and found[foe].flow]
+        before = (foe for foe in sorted(yields.get(request, ())) if foe in found and found[foe].flow)
+        movement.foes = [found[foe] for foe in before if not wait_together(request, foe, found, yields)]
         runs = {**movement.runs, **movement.stops}
         movement.meets = {start: meetings(movement, start, length) for start, length in runs.items()}
     for movement in found.values():
         set_lane(movement, found.values())
+    for movement in found.values():
+        set_heads(movement)
     return found
+
+
+def wait_together(one: int, other: int, found: Mapping[int, Movement], yields: Mapping[int, Iterable[int]]) -> bool:
+    """Whether two requests are turns of permissive greens that face each other: each gives way to others of the other's
+    edge. Neither waits for the other, as both stand inside the junction and wait for those others."""
+    return all(
+        found[own].runs
+        and any(foe != its and foe in found and found[foe].way[0] == found[its].way[0] for foe in yields.get(own, ()))
+        for own, its in ((one, other), (other, one))
+    )
+
+
+def set_heads(movement: Movement) -> None:
+    """Sets the lane that faces a movement's, and how their heads wait for each other: where each is the only one of its
+    edge, and on both some wait for the other in a permissive green. What all know of their lanes must be set."""
+    lanes = {foe.lane: foe for one in movement.sharing for foe in one.foes if foe.green & one.green & ~one.sure}
+    facing = [foe for foe in lanes.values() if waiting_share(foe.sharing, movement.sharing)]
+    if movement.lanes == 1 and len(facing) == 1 and facing[0].lanes == 1:
+        movement.opposite = facing[0].lane
+        movement.heads = heads_of(movement.sharing, facing[0].sharing)
+
+
+def heads_of(own: Sequence[Movement], other: Sequence[Movement]) -> Heads | None:
+    """The heads of two lanes, by the movements of each; None where nobody of one waits for the other."""
+    sides = (own, other), (other, own)
+    first, second = (waiting_share(*side) for side in sides)
+    if not (first and second):
+        return None
+    whole = [sum(one.flow for one in side) for side in (own, other)]
+    own_waits, other_waits = (
+        sum(one.flow * foe.flow for one in side for foe in one.foes if foe in against) / (whole[0] * whole[1])
+        for side, against in sides
+    )
+    each = sum(one.flow * one.headway for one in (*own, *other)) / sum(whole)
+    return Heads((own_waits, other_waits), (1 - own_waits / first, 1 - other_waits / second), each)
+
+
+def waiting_share(own: Sequence[Movement], other: Sequence[Movement]) -> float:
+    """The share, 0 to 1, of the vehicles of a lane that wait for some of another one in a permissive green, by the
+    movements of both."""
+    whole = sum(one.flow for one in own)
+    waiting = sum(one.flow for one in own if one.waits and any(foe in other for foe in one.foes))
+    return waiting / whole if whole else 0.0
 
 
 def set_lane(movement: Movement, movements: Collection[Movement]) -> None:
@@ -277,7 +326,10 @@ def lane_there(movement: Movement, start: int, length: int, factor: float) -> fl
         each = time_of(movement, sum(foe.passing for foe in foes) * factor)
         passed += count / (movement.share * each + (1 - movement.share) * movement.beside)
         free += count
-    before = max(0.0, length - free - START) / movement.beside
+    queued = max(0.0, length - free - START)
+    if movement.heads:
+        return max(SNEAKERS, passing_heads(movement.heads, queued) + passed)
+    before = queued / movement.beside
     waiting = 1 - (1 - movement.share) ** before
     return until_first(before, movement.share) + max(passed, SNEAKERS * waiting)
 
@@ -285,11 +337,21 @@ def lane_there(movement: Movement, start: int, length: int, factor: float) -> fl
 def lane_queue(movement: Movement, foe: Movement, factor: float) -> int:
     """The seconds of the cycle, as bits, in which the queue of a foe's whole lane leaves, where traffic is factor times
     the usual: all on the lane, as those who wait hold up the others; where most on it do not go before movement, of
-    those who do alone."""
+    those who do alone. A lane that faces movement's is slower, as both hold each other up."""
+    if movement.heads and foe.lane == movement.opposite:
+        return facing_queue(foe, movement.heads, factor)
     first = [one for one in movement.foes if one.lane == foe.lane]
     most = 2 * sum(one.passing for one in first) >= sum(one.passing for one in foe.sharing)
     seconds = sum(one.passing * time_of(one, most_against(one)) for one in (foe.sharing if most else first))
     return leaving_seconds(foe, seconds * factor / 3600) & foe.green
+
+
+def facing_queue(foe: Movement, heads: Heads, factor: float) -> int:
+    """The seconds of the cycle, as bits, in which the queue of the lane of a foe leaves that faces another one with a
+    queue, where traffic is factor times the usual; heads: of these lanes, of which foe's is the other."""
+    green = foe.green.bit_count()
+    each = green / passing_heads(heads.turned(), green)
+    return leaving_seconds(foe, sum(one.flow for one in foe.sharing) * each * factor / 3600) & foe.green
 
 
 def most_against(movement: Movement) -> float:

@@ -1,0 +1,45 @@
+"""Two lanes that face each other at a light, on both of which some give way to the other in a permissive green: how
+many of each pass while both have queues.
+
+Who need not wait for the one at the head of the other lane goes. Who has to stands at the head of its lane, and holds
+up those behind it, until one comes to the other head that it need not wait for, as one who waits too: then both go, and
+both lanes start anew. Which vehicle comes next is drawn from the lane's flows.
+"""
+from __future__ import annotations
+
+from dataclasses import dataclass
+from functools import cache
+
+# Seconds from when one that waited goes until both lanes move again; chosen of 4.5, 5.0 and 5.5 at a lone cross.
+AGAIN = 5.0
+PART = 0.1  # of a second, in which is reckoned
+Pair = tuple[float, float]  # of the own lane and the other
+
+
+@dataclass(frozen=True, slots=True)
+class Heads:
+    """Two lanes that face each other, the own and the other: chances, each from 0 to 1."""
+
+    waits: Pair  # of two that come to the heads together: that the own one waits for the other, and the other for it
+    freed: Pair  # that the next of the other lane lets the own one go that waits, and the next of the own the other
+    headway: float  # seconds between vehicles of a queue, on either lane
+
+    def turned(self) -> Heads:
+        """The same, seen from the other lane."""
+        return Heads(self.waits[::-1], self.freed[::-1], self.headway)
+
+
+@cache
+def passing_heads(heads: Heads, seconds: float) -> float:
+    """How many vehicles of the own lane pass in so many seconds (0 or more) of a green, while both lanes have queues,
+    on average."""
+    (own, other), (freed, gone) = heads.waits, heads.freed
+    step, again = max(1, round(heads.headway / PART)), round(AGAIN / PART)
+    both, held, holding = [0.0], [0.0], [0.0]  # by the time left: two heads come; the own one waits; the other one
+    for left in range(1, round(seconds / PART) + 1):
+        before, anew = max(0, left - step), min(1.0, left / again) + both[max(0, left - again)]
+        one = min(1.0, left / step)  # that passes now
+        both.append((1 - own - other) * (one + both[before]) + own * held[before] + other * (one + holding[before]))
+        held.append(freed * anew + (1 - freed) * held[before])
+        holding.append(gone * anew + (1 - gone) * (one + holding[before]))
+    return both[-1]
