@@ -93,7 +93,7 @@ class Runs(Case):
         paths = self.write("x.net.xml", street(PHASES)), self.write("w.add.xml", self.DAY)
         routes, run, mapping = self.write("x.rou.xml", NOBODY), self.folder / "run.jsonl", self.folder / "map.json"
         self.tool("import", *paths, "--routes", routes, "-o", run, "--map", mapping)
-        self.said, _ = self.tool("run", run, "--map", mapping, "--until", 400, "--out", self.folder / "out", *words)
+        _, self.told = self.tool("run", run, "--map", mapping, "--until", 400, "--out", self.folder / "out", *words)
         path = self.folder / "out/phases.csv"
         if not path.exists():
             return []
@@ -104,6 +104,8 @@ class Runs(Case):
     def test_detectors_drive_a_light_while_its_program_is_in_force(self):
         # Unseen it has its listed 30, 3 and 20 s, and then 5, 3 and 20 s, as nobody comes: greens begin at 53, 81, 109,
         # .. s. From 100 s it shows what that has come to, and at 200 s its phase is cut.
+        rows = self.run_with("--until", 290)
+        self.assertNotIn("were not sent", self.told)  # a change that is still to come is no line that was left out
         rows = self.run_with()
         self.assertEqual(rows[:4], [(100, 2, 9, "listed"), (109, 0, 5, "gap"), (114, 1, 3, "listed"),
                                     (117, 2, 20, "listed")])

@@ -73,11 +73,19 @@ class Recorder(Desk):
             self.tell(clock, self.records.censuses[-1] if self.records.censuses else None)
         self.records.ends = self.found_ends()
         self.records.phases, self.records.stops = self.driver.rows(clock), self.fleet.all()
-        self.records.unsent = sum(line.number > 0 for _, line in self.run.timed[self.sent :])  # works may last longer
+        self.records.unsent = self.unsent()
         self.records.uncounted = len(self.places) - len(asking.measured)
         known = asking.measured if asking.samples or asking.every else ()
         self.records.edgedata.finish(known)
         return self.records
+
+    def unsent(self) -> int:
+        """How many lines of the file were not sent, as their clock did not come; without works, which may last longer,
+        and changes of lights by time of day, which an import tells for a day."""
+        changing = {light for _, light, _ in self.mapping.switches}
+        nodes = {node for light, node in self.mapping.signals if light in changing}
+        left = (line for _, line in self.run.timed[self.sent :] if line.number > 0)
+        return sum(line.command.get("node") not in nodes for line in left)
 
     def asking(self) -> Asking:
         """What the run asks and when."""
