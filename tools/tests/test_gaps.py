@@ -11,7 +11,7 @@ from streetsim.model.runs import Line
 from streetsim.model.waiting import Foe, Gap, Pace, Waiting, waiting_of
 from streetsim.run.crowded import crowded, uses
 from streetsim.run.gaps import (
-    PATIENCE, Counts, be_patient, followings, gap_lines, phases_of, red_seconds, slow_down, with_wishes,
+    PATIENCE, Counts, be_patient, followings, gap_lines, held_parts, phases_of, red_seconds, slow_down, with_wishes,
 )
 from streetsim.run.passings import Passings
 from streetsim.sumo.conflicts import CROSSING, JOINING, foes
@@ -81,10 +81,12 @@ class Reds(unittest.TestCase):
     def test_who_is_held_up_counts_as_it_wishes_to_pass(self):
         # Of 10 in the first 300 s 4 pass, the others later; who is a little late is not held up.
         wished = [30.0 * at for at in range(10)]
-        self.assertEqual(with_wishes([100.0, 150.0, 200.0, 250.0, 310.0, 350.0], wished), [*wished, 310.0, 350.0])
-        late = [one + 40 for one in wished]
-        self.assertEqual(with_wishes(late, wished), late)
-        self.assertEqual(with_wishes([5.0], [1.0, 2.0, 3.0]), [5.0])
+        passing = [100.0, 150.0, 200.0, 250.0, 310.0, 350.0]
+        self.assertEqual(held_parts(passing, wished), {0})
+        self.assertEqual(with_wishes(passing, wished, {0}), [*wished, 310.0, 350.0])
+        self.assertEqual(held_parts([one + 40 for one in wished], wished), set())
+        self.assertEqual(held_parts([5.0], [1.0, 2.0, 3.0]), set())
+        self.assertEqual(with_wishes([5.0], [1.0, 2.0, 3.0], set()), [5.0])
 
     def test_held_up_by_others_who_give_way(self):
         # Turn 3 gives way to turn 1, which gives way to turn 0 and of which one of twelve passes, at 290 s.
@@ -103,7 +105,7 @@ class Reds(unittest.TestCase):
             phases = [phase for _, line in gap_lines(Both, passing, 0, *more) for phase in line.command["phases"]]
             return sum(length for length, shown in phases if turn not in shown)
 
-        self.assertEqual(seconds_red((3, 0, 2)), 7)
+        self.assertEqual(seconds_red((3, 0, 2)), 9)  # 5.5 before it, 1 behind it and 2 as it gives way too
         self.assertGreaterEqual(seconds_red((3, 0, 2), wished), 11 * 6)  # the one at 0 s is before the begin
         self.assertEqual(seconds_red((1, 0, 2), wished), seconds_red((1, 0, 2)))
 
@@ -111,6 +113,14 @@ class Reds(unittest.TestCase):
         gap = Gap(5.5, 0.0, 3.5).later(1.0)
         red = red_seconds(Waiting(1, ((2, 0, 1),), (foe(gap),)), {(0, 0, 1): [30.0]}, 0, 60)
         self.assertEqual([at for at, closed in enumerate(red) if closed], list(range(24, 32)))
+
+    def test_who_gives_way_too_is_out_of_the_way_later(self):
+        """4 s are free before one who passes at 50 s, and 1 s behind it; 3 s if it gives way too and is not held up."""
+        key = (0, 0, 1)
+        waiting = Waiting(1, ((2, 0, 1),), (foe(Gap(4.0, 0.0, 3.5)),))
+        for held, last in (({}, 50), ({key: set()}, 52), ({key: {0}}, 50), ({key: {1}}, 52)):
+            red = red_seconds(waiting, {key: [50.0]}, 0, 80, None, held)
+            self.assertEqual([at for at in range(80) if red[at]], list(range(46, last + 1)))
 
     def test_how_far_a_lane_is_used(self):
         """Green 10 s of each minute lets some 5 pass, so 40 in a quarter of an hour take half of its time and more."""

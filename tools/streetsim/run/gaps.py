@@ -1,7 +1,7 @@
 """Signals that are green in the gaps between vehicles that go first, where there is no light."""
 from bisect import bisect_left, bisect_right
-from collections import defaultdict
-from collections.abc import Iterable, Iterator, Mapping, Sequence
+from collections import Counter, defaultdict
+from collections.abc import Collection, Iterable, Iterator, Mapping, Sequence
 from itertools import accumulate, groupby
 
 from streetsim.base import limits
@@ -13,6 +13,7 @@ State = tuple[int, ...]  # for each group whether it is red
 Group = tuple[Sequence[TurnKey], Sequence[int]]  # turns that give way, and for each second whether they are red
 Passed = Mapping[Place, Sequence[tuple[float, int]]]  # {(link, lane): [(second, next link)]}
 Times = Mapping[TurnKey, Sequence[float]]  # when vehicles pass, by turn
+Held = Mapping[TurnKey, Collection[float]]  # by turn that gives way: the parts of AROUND seconds in which it is held up
 AROUND = 300  # seconds before and after, in which those that go first are counted
 SHOWN, HIDDEN = 3, 2  # seconds in turn, where those that use a gap follow each other slowly
 # Seconds between two of them that may use one gap, and before and after them for what differs from run to run.
@@ -21,6 +22,7 @@ PATIENCE = 150  # seconds without a gap; then one goes
 TAIL = 30  # seconds after the last vehicle
 # Share of those who wish to pass in AROUND seconds, and how many, from which on they are held up.
 HELD_UP, FEWER = 0.2, 5
+LATER = 2.0  # seconds later one is out of the way who gives way too and is not held up
 
 
 def gap_lines(mapping: Map, passed: Passed, start: int, wished: Passed | None = None) -> list[tuple[int, Line]]:
@@ -35,8 +37,10 @@ def reds_of(mapping: Map, passed: Passed, start: int, wished: Passed | None = No
     nobody comes are left out. Arguments: as of gap_lines."""
     end = int(max((second for each in passed.values() for second, _ in each), default=start)) + TAIL
     times = by_turn(passed)
-    coming = times if wished is None else coming_of(mapping, times, by_turn(wished))
-    reds = ((one, red_seconds(one, times, start, end, coming)) for one in mapping.yields)
+    wishes = times if wished is None else by_turn(wished)
+    coming = coming_of(times, wishes, held_of(mapping.yields, times, wishes))
+    unstopped = held_of([one for one in mapping.yields if one.pace is None], times, wishes)
+    reds = ((one, red_seconds(one, times, start, end, coming, unstopped)) for one in mapping.yields)
     return [(one, red) for one, red in reds if red is not None]
 
 
@@ -61,33 +65,33 @@ def by_turn(passed: Passed) -> dict[TurnKey, list[float]]:
     return times
 
 
-def coming_of(mapping: Map, times: Times, wished: Times) -> Times:
+def held_of(yields: Iterable[Waiting], times: Times, wished: Times) -> Held:
+    """The parts of AROUND seconds in which those are held up who give way, by turn."""
+    waits = {turn for one in yields for turn in one.turns}
+    return {turn: held_parts(times.get(turn, ()), wished.get(turn, ())) for turn in waits}
+
+
+def held_parts(passing: Sequence[float], wishing: Sequence[float]) -> set[float]:
+    """The parts of AROUND seconds, by their numbers, in which so many fewer pass than wish to that they count as held
+    up."""
+    passed, wished = (Counter(second // AROUND for second in seconds) for seconds in (passing, wishing))
+    return {part for part, count in wished.items() if count - passed[part] >= max(FEWER, HELD_UP * count)}
+
+
+def coming_of(times: Times, wished: Times, held: Held) -> Times:
     """When those who go first come, by turn: as they passed (times). Turns that give way themselves count as they
     passed in wished for the time in which they are held up: the gaps that they take change from round to round, and
     others would take these for free."""
-    held = {turn for one in mapping.yields for turn in one.turns}
     return {
-        turn: with_wishes(seconds, wished.get(turn, ())) if turn in held else seconds for turn, seconds in times.items()
+        turn: with_wishes(seconds, wished.get(turn, ()), held[turn]) if turn in held else seconds
+        for turn, seconds in times.items()
     }
 
 
-def with_wishes(seconds: Sequence[float], wished: Sequence[float]) -> list[float]:
-    """When the vehicles of a turn pass (seconds), or, in those AROUND seconds in which far fewer pass than wish to,
-    when they wish to."""
-    found: defaultdict[float, tuple[list[float], list[float]]] = defaultdict(lambda: ([], []))
-    for at, each in enumerate((seconds, wished)):
-        for second in each:
-            found[second // AROUND][at].append(second)
-    return [
-        second
-        for passing, wishing in found.values()
-        for second in (wishing if are_held_up(passing, wishing) else passing)
-    ]
-
-
-def are_held_up(passing: Sequence[float], wishing: Sequence[float]) -> bool:
-    """Whether so many fewer pass than wish to in AROUND seconds that they count as held up."""
-    return len(wishing) - len(passing) >= max(FEWER, HELD_UP * len(wishing))
+def with_wishes(passing: Sequence[float], wishing: Sequence[float], held: Collection[float]) -> list[float]:
+    """When the vehicles of a turn pass, or, in the parts of AROUND seconds in which they are held up, wish to pass."""
+    as_they_pass = [second for second in passing if second // AROUND not in held]
+    return sorted([*as_they_pass, *(second for second in wishing if second // AROUND in held)])
 
 
 def node_lines(node: int, turns: Sequence[TurnKey], groups: Sequence[Group], start: int) -> Iterator[tuple[int, Line]]:
@@ -126,11 +130,13 @@ def phases_of(reds: Sequence[Sequence[int]]) -> list[tuple[int, State]]:
     return made
 
 
-def red_seconds(waiting: Waiting, times: Times, start: int, end: int, coming: Times | None = None) -> bytearray | None:
+def red_seconds(
+    waiting: Waiting, times: Times, start: int, end: int, coming: Times | None = None, held: Held | None = None
+) -> bytearray | None:
     """For the turns of one Waiting a byte for each second from start to end, 1 where they are red as somebody comes who
     goes first; None where nobody does. times: when vehicles pass, by turn; coming: when those who go first come, None:
-    when they pass."""
-    coming = times if coming is None else coming
+    when they pass; held: of those who give way too without a stop when they are held up, None: nobody does."""
+    coming, held = times if coming is None else coming, held or {}
     comes = [(second, foe) for foe in waiting.foes for second in coming.get((foe.link, foe.lane, foe.next), ())]
     comes.sort(key=lambda one: one[0])
     if not comes and waiting.pace is None:
@@ -139,9 +145,10 @@ def red_seconds(waiting: Waiting, times: Times, start: int, end: int, coming: Ti
     for second, foe in comes:
         if not foe.gap.seconds:  # all stop, and go in turn
             continue
-        length = foe.gap.before(*counts.around(second, foe)) + foe.gap.after + owed
+        after = foe.gap.after + seconds_later(foe, second, held)
+        length = foe.gap.before(*counts.around(second, foe)) + after + owed
         owed = length % 1
-        last = round(second + foe.gap.after) - start
+        last = round(second + after) - start
         close(red, last - int(length), last)
     if any(foe.slow for _, foe in comes):
         for sooner, later in followings(sorted(second for turn in waiting.turns for second in times.get(turn, ()))):
@@ -150,6 +157,13 @@ def red_seconds(waiting: Waiting, times: Times, start: int, end: int, coming: Ti
         keep_pace(red, waiting.pace, counts.every, near_passings(waiting, times, start, len(red)), start)
     be_patient(red)
     return red
+
+
+def seconds_later(foe: Foe, second: float, held: Held) -> float:
+    """How many seconds later one is out of the way who passes at a second, as it gives way too and its gap is of the
+    round before; none where it is held up, as it counts as it wishes to pass then."""
+    turn = foe.link, foe.lane, foe.next
+    return LATER if turn in held and second // AROUND not in held[turn] else 0.0
 
 
 def near_passings(waiting: Waiting, times: Times, start: int, length: int) -> bytearray:
