@@ -106,8 +106,8 @@ class Tables(Studies):
         for study, told in (
             (
                 self.text(more='color = "red"'),
-                "unknown key 'color'; known are base, lights, lost, map, merge, rounds, run, seeds, stops, until, "
-                "variant",
+                "unknown key 'color'; known are base, lights, lost, map, merge, priority, rounds, run, seeds, "
+                "seen, stops, until, variant",
             ),
             (
                 self.text(more='base = "old"'),
