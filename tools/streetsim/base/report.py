@@ -53,7 +53,8 @@ class Report:
         return sorted(told, key=lambda one: one.weight != HEAVY)
 
     def together(self, kind: str, texts: Sequence[str]) -> Warned:
-        """Warnings of one kind as one."""
+        """Warnings of one kind as one: how many they are, their kind and the first ids, with all ids; weight and what
+        to do are of the first. A warning alone stays as it is."""
         weight, names, do = self.more[texts[0]]
         if len(texts) == 1:
             return Warned(texts[0], weight, names, do)
@@ -61,8 +62,8 @@ class Report:
         return Warned(f"{len(texts):,} {kind}: {some(names)}", weight, names, do)
 
     def lines(self) -> Iterator[str]:
-        """All that is said, a line each, for the terminal; warnings with what to do, but without the ids that they are
-        of."""
+        """All that is said, a line each, for the terminal; warnings with what to do, but with ids only where several of
+        a kind are one."""
         yield from (f"skipped: {count} vehicles: {why}" for why, count in sorted(self.skipped.items()))
         for one in self.by_weight():
             yield f"warning: {one.text}{f' ({one.do})' if one.do else ''}"

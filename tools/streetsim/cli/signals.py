@@ -166,8 +166,9 @@ def main(arguments: list[str]) -> int:
 def bounds_found(
     words: argparse.Namespace, reading: Reading, town: Town, changed: Sequence[str], cycles: range
 ) -> int:
-    """Finds bounds of actuated lights, and the best plan of seconds to compare them with; writes and prints both, and
-    gives the status. changed, cycles: as `changes_of` gives them. Fault where --edges is given."""
+    """Finds bounds of actuated and NEMA lights, and the best plan of seconds to compare them with; writes and prints
+    both, and gives the exit status of write_found_bounds. changed, cycles: as `changes_of` gives them. Fault where
+    --edges is given."""
     if words.edges:
         raise Fault("--edges draws plans of seconds, and --bounds finds none")
     ground, check = ground_of(reading, town), check_seeds(words)

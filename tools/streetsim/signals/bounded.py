@@ -1,4 +1,5 @@
-"""What streetsim-signals --bounds does: it finds bounds of actuated lights, and the best plan of seconds beside it."""
+"""What streetsim-signals --bounds does: it finds bounds of actuated and NEMA lights, and the best plan of seconds
+beside it."""
 import sys
 import tempfile
 from collections.abc import Generator, Iterator, Sequence
@@ -168,7 +169,7 @@ def write_found_bounds(output: str, out: str, ground: Ground, found: Found) -> i
 
 def bound_rows(before: Bounded, after: Bounded) -> Iterator[Entry]:
     """The rows of lights.csv, as LIGHTS has the columns, one for each green that detectors extend: its bounds and the
-    gap of its light, seconds, as given and as found."""
+    gap that ends it, seconds, as given and as found."""
     for name, own in sorted(before.items()):
         for at, ((phase, least, most), (_, low, high)) in enumerate(zip(own.greens, after[name].greens, strict=True)):
             yield name, phase, least, low, most, high, f"{own.gap_of(at):g}", f"{after[name].gap_of(at):g}"

@@ -1,5 +1,6 @@
-"""Bounds and gaps of actuated lights, by which their detectors drive them, and a search for better ones: least and
-most seconds of the greens that detectors extend, and the gap that ends one. Offsets, order, yellow and all-red stay."""
+"""Bounds and gaps of actuated and NEMA lights, by which their detectors drive them, and a search for better ones: least
+and most seconds of the greens that detectors extend, and the gap that ends one. Offsets, order, yellow and all-red
+stay."""
 from __future__ import annotations
 
 from collections.abc import Callable, Collection, Iterator, Mapping, Sequence
@@ -56,8 +57,9 @@ Bounded = dict[str, Bounds]  # by light
 
 
 def given_bounds(lights: Lights, keep: Collection[str]) -> Bounded:
-    """The bounds of the lights that a search may change, by light: of the actuated ones that are not in keep and that
-    have one program all day. Greens whose most is above 600 s are left out, and so is a light that has no other."""
+    """The bounds of the lights that a search may change, by light: of the actuated and NEMA ones that are not in keep
+    and that have one program all day. Greens whose most is above 600 s are left out, and so is a light that has no
+    other."""
     found, keep = {}, {*keep, *(light for _, light, _ in lights.switches)}
     for one in lights.driven:
         if one.name not in keep:
@@ -75,7 +77,8 @@ def of_phases(light: Driven) -> Bounds:
 
 
 def of_rings(light: DrivenRings) -> Bounds:
-    """The bounds of a NEMA light, without greens whose most is above 600 s."""
+    """The bounds of a NEMA light, in whole seconds, its extensions (vehext) as gaps; without greens whose most is above
+    600 s."""
     own = [one for one in light.rings.phases if one.least < one.most <= limits.PHASE_STEPS]
     return Bounds(
         tuple((one.name, round(one.least), round(one.most)) for one in own), tuple(one.extension for one in own)
@@ -83,7 +86,8 @@ def of_rings(light: DrivenRings) -> Bounds:
 
 
 def kept_with(kept: Json, bounds: Bounds) -> Json:
-    """A program as a map keeps it, with other bounds; the one given stays as it is."""
+    """A program as a map keeps it, with other bounds; of a NEMA light the extensions (vehext) too. The one given stays
+    as it is."""
     phases, timing = ([list(one) for one in kept.get(key, ())] for key in ("phases", "timing"))
     names = [digits(text) for text, *_ in timing]
     for at, (phase, least, most) in enumerate(bounds.greens):
@@ -199,8 +203,8 @@ def least_by(at: int, seconds: int, lowest: int) -> Change:
 
 
 def write_bounds(path: str, mapping: Map, bounded: Mapping[str, Bounds], program: str = "streetsim") -> None:
-    """Writes the actuated programs of a map with other bounds, as SUMO and streetsim-import take them, whole or not at
-    all. program: the programID of each."""
+    """Writes the programs of some actuated and NEMA lights of a map with other bounds, as SUMO and streetsim-import
+    take them, whole or not at all. program: the programID of each."""
     kept = in_force(mapping.programs)
     with whole_file(path) as file:
         file.write("<additional>\n")

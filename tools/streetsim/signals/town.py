@@ -160,8 +160,9 @@ class Runner:
         self.workers, self.town, self.cars = workers, town, len(town.session.departs)
 
     def means(self, plans: Iterable[Plan], seeds: Sequence[int]) -> Iterator[float]:
-        """For each plan with each seed, in this order, the mean trip in seconds by the session of the search; where
-        vehicles give way without a light, by the gaps that were found under the given plan."""
+        """For each plan with each seed, in this order, the mean trip in seconds by the session of the search, with
+        merging before works; where vehicles give way without a light, by the gaps that were found under the given
+        plan."""
         for seconds in self.ordered(seconds_at_works, plans, seeds, self.town.giving, CAREFUL):
             yield seconds / self.cars
 

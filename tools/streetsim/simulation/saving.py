@@ -99,7 +99,8 @@ def restore_vehicles(session: Session, state: State) -> None:
 
 
 def restore_lights(session: Session, state: State) -> None:
-    """Puts into a session what a state knows of lights, and of phases that are still to be shown."""
+    """Puts into a session what a state knows of lights: their programs, changes of programs that are still to come,
+    what drives those with detectors, and phases that are still to be shown."""
     control, shown = session.control, session.shown
     for name, (phases, begin, program, names) in state["lights"].items():
         light = control.lights[name]
