@@ -19,7 +19,8 @@ from streetsim.sumo.types import Types
 
 def read_and_converted(sources: Sources, options: Options, report: Report, told: dict[str, str]) -> Made:
     """What `convert` makes of the sources. told: the options of SUMO's configuration, empty where none was given. The
-    routes that a configuration names may be trips without ways: then all get ways, and the sources change to say so."""
+    routes that a configuration names may be trips without ways: then all get ways, and the sources change to say so
+    (routes empty, trips in their place). Unrouted where trips without ways come from elsewhere."""
     tell_options(told, report)
     try:
         return convert(sources.net, sources.additional, sources.routes, options, report, sources.trips)

@@ -74,8 +74,8 @@ class Bridge(ThreadingHTTPServer):
             self.lock.notify_all()
 
     def join_lanes(self, names: Iterable[str]) -> None:
-        """Has the run imported anew with further lanes (names) joint; the page gets it when it is loaded again. Refusal
-        for a session that is kept."""
+        """Has the run imported anew with further lanes (names) joint, and ends what the engines run; the page gets it
+        when it is loaded again. Refusal for a session that is kept."""
         if self.join is None:
             raise Refusal(
                 HTTPStatus.NOT_FOUND,
@@ -93,7 +93,8 @@ class Bridge(ThreadingHTTPServer):
                 self.lock.notify_all()
 
     def is_owner(self, name: str, wait: float = 0) -> bool:
-        """Whether the page of this name is the one that is served, and stays so for so many seconds (wait)."""
+        """Whether the page of this name is the one that is served, and stays so for so many seconds (wait): it waits
+        so long, or until another one is served."""
         with self.lock:
             return not self.lock.wait_for(lambda: self.owner != name, wait) if name else False
 
@@ -124,8 +125,8 @@ class Handler(BaseHTTPRequestHandler):
         self.serve(self.post)
 
     def serve(self, answer: Callable[[list[str]], tuple[bytes, str] | None]) -> None:
-        """Sends what an answer gives, (body, type), for the path's words; None: it was sent already. A Refusal or Fault
-        is sent as JSON with its status."""
+        """Sends what an answer gives, (body, type), for the path's words; None: it was sent already. A
+        Refusal, Fault or ProgramEnded is sent as JSON with its status."""
         try:
             answered = answer(self.checked_path())
             if answered:

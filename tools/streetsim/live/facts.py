@@ -12,8 +12,8 @@ Area = list[list[float]]
 
 
 def streets_and_areas(mapping: Map, map_path: FilePath) -> tuple[dict[str, str], dict[str, Area]]:
-    """(names of streets by edge, outlines of junctions by name). Names are those of the map, and of the imported
-    network where its file is still there; outlines are of that file alone, and empty without it."""
+    """(names of streets by edge, outlines of junctions by name: points [x, y] in metres). Names are those of the map,
+    and of the imported network where its file is still there; outlines are of that file alone, and empty without it."""
     names: dict[str, str] = dict(mapping.names.get("edges", {}))
     areas: dict[str, Area] = {}
     if not mapping.sources:

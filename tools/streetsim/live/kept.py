@@ -55,7 +55,7 @@ class KeptEngine(Engine):
 
     def settle_crash(self) -> None:
         """Where the bridge ended while all was run anew, chooses the changes of before or after, by whether the new
-        session is in place."""
+        session is in place; what is left of FILE.new is deleted."""
         if self.next is not None and not self.making.exists():
             self.changes = self.next
         self.next = None
@@ -112,7 +112,8 @@ class KeptEngine(Engine):
         return replies + list(self.client.exchange(left))
 
     def alike(self, lines: list[bytes]) -> int:
-        """How many of the lines, from the first on, change nothing or are those that come next in the file."""
+        """How many of the lines, from the first on, change nothing or are those that come next in the file; `again`
+        counts the latter on."""
         for count, line in enumerate(lines):
             if self.again == len(self.kept):
                 return count

@@ -34,7 +34,8 @@ def own_lines(run: Run) -> list[bytes]:
 
 
 def links_of(run: Run, mapping: Map, streets: dict[str, str]) -> list[Json]:
-    """The links as the page reads them; streets: names by edge."""
+    """The links as the page reads them, a dict each: number, name (of its edge), street, lanes (how many), names (their
+    indexes in SUMO), cells, metres, limit (cells a step), begin and end (nodes), points. streets: names by edge."""
     return [
         {
             "number": number, "name": link.edge, "street": streets.get(link.edge, ""), "lanes": lanes,
@@ -48,8 +49,8 @@ def links_of(run: Run, mapping: Map, streets: dict[str, str]) -> list[Json]:
 
 
 def nodes_of(run: Run, mapping: Map, areas: dict[str, list]) -> list[Json]:
-    """The nodes as the page reads them, each with its light and how many signals that has (None: no light); areas:
-    outlines by junction."""
+    """The nodes as the page reads them, a dict each: number, name, x and y (metres), area (points), light: {name, size:
+    how many signals it has}, None without one. areas: outlines by junction."""
     names = Names(mapping)
     lights: dict[int, Json] = {node: {"name": name, "size": 0} for name, node in mapping.signals}
     for turn in mapping.turns:

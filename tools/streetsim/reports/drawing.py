@@ -21,7 +21,7 @@ def map_picture(
     signs: Mapping[str, float] | None = None,
     works: Sequence[Shape] = (),
 ) -> str:
-    """The streets of a map; approaches by the colour of their level of service, junctions as marks with theirs.
+    """The streets of a map, as SVG; approaches by the colour of their level of service, junctions as marks with theirs.
 
     approaches: {edge: (letter, text)}; junctions: {name: (letter, text, whether the page tells it in detail)}; signs:
     {junction: change of its delay in seconds}, of those that change; works: the shapes of what is closed.
@@ -65,8 +65,8 @@ def placing(mapping: Map) -> tuple[Callable[..., str], float]:
 
 
 def lines_picture(mapping: Map, values: Mapping[str, float]) -> str:
-    """The streets; edges with a value red above 0 and blue below, wider where it is farther from 0, others thin and
-    grey."""
+    """The streets, as SVG; edges with a value red above 0 and blue below, wider where it is farther from 0, others thin
+    and grey. values: by edge."""
     at, tall = placing(mapping)
     most = max([1.0, *(abs(value) for value in values.values())])
     parts = [f'<svg class="map" viewBox="0 0 {WIDE} {tall:.0f}" role="img" aria-label="Map of differences">']
@@ -90,7 +90,8 @@ def aside(shape: Shape) -> tuple[float, float]:
 
 
 def junction_mark(letter: str, text: str, across: str, down: str) -> str:
-    """A circle with a letter of the level of service, at pixels across and down; text: what it says when pointed at."""
+    """A circle (SVG) with a letter of the level of service, at pixels across and down; text: what it says when pointed
+    at."""
     colour = "#fff" if letter in LIGHT else "#000"
     circle = f'<circle cx="{across}" cy="{down}" r="11" fill="{COLOURS[letter]}" stroke="#000"/>'
     write = f'<text x="{across}" y="{down}" dy="4" text-anchor="middle" fill="{colour}" class="letter">{letter}</text>'
@@ -98,8 +99,8 @@ def junction_mark(letter: str, text: str, across: str, down: str) -> str:
 
 
 def change_mark(change: float, across: float, down: float) -> str:
-    """A triangle beside a junction at pixels across and down, up where it waits more and down where less; change: of
-    its delay, seconds."""
+    """A triangle (SVG) beside a junction at pixels across and down, up where it waits more and down where less;
+    change: of its delay, seconds."""
     x, y, tall = across + 14, down, 5 if change < 0 else -5
     points = f"{x:.1f},{y - tall:.1f} {x + 10:.1f},{y - tall:.1f} {x + 5:.1f},{y + tall:.1f}"
     fill = "#b00" if change > 0 else "#06c"
@@ -112,8 +113,8 @@ def anchor(name: str) -> str:
 
 
 def queue_picture(rows: Sequence[tuple[str, float, float, float, float]]) -> str:
-    """A bar for each approach: the room of the edge, the 95 % queue in it, the 50 % queue, and a line at the greatest.
-    rows, one at least: (name, 50 %, 95 %, greatest, room), in metres."""
+    """A bar (SVG) for each approach: the room of the edge, the 95 % queue in it, the 50 % queue, and a line at the
+    greatest. rows, one at least: (name, 50 %, 95 %, greatest, room), in metres."""
     most = max(max(greatest, room) for _, _, _, greatest, room in rows) or 1.0
     scale, parts = 480 / most, []
     for place, (name, half, usual, greatest, room) in enumerate(rows):

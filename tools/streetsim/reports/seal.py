@@ -90,8 +90,8 @@ def unpacked(text: str) -> bytes:
 
 
 def sealed(content: Json, files: Mapping[str, bytes], page: str) -> tuple[Seal, dict[str, bytes]]:
-    """The seal of a page (its path), and the files that are too large for it and go to the file beside it. content:
-    what it says but for the files; files: content by name."""
+    """(the seal of a page, the files that are too large for it and go to the file beside it, content by name). content:
+    what the seal says but for the files; files: content by name; page: its path."""
     texts = {name: packed(one) for name, one in files.items()}
     large = {name: files[name] for name, text in texts.items() if len(text) > LARGEST}
     content = {**content, "files": {name: sum_of(one) for name, one in files.items()}, "beside": sorted(large)}

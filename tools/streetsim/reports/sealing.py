@@ -20,9 +20,9 @@ PACKAGE = Path(__file__).parents[1]
 def seal_for(
     plans: Sequence[Runs], words: Sequence[str], page: str, others: Mapping[str, str]
 ) -> tuple[Seal, dict[str, bytes]]:
-    """The seal of a page of some plans, and the files that go to the one beside it. words: of streetsim-report that
-    were given; page: its path; others: further files, {name: path}. Fault where a plan's folder does not keep what made
-    it."""
+    """(the seal of a page of some plans, the files that go to the one beside it: content by name). words: of
+    streetsim-report that were given; page: its path; others: further files, {name: path}. Fault where a plan's folder
+    does not keep what made it, or a file cannot be read."""
     files: dict[str, bytes] = {}
     made = []
     for place, runs in enumerate(plans, 1):
@@ -37,7 +37,8 @@ def seal_for(
 
 
 def plan_of(runs: Runs, place: int) -> tuple[Json, dict[str, bytes]]:
-    """What the seal says of a plan, and its files by name; place: of the plan, from 1. Fault where its folder does not
+    """(what the seal says of a plan: name, run, map, words, again, seeds, several, program; its files, content by
+    name). place: of the plan, from 1. Fault where its folder does not
     keep what made it, or its seeds are of several runs."""
     folder, made = runs.first, runs.first.made
     lines = kept_lines(runs)
@@ -56,7 +57,8 @@ def plan_of(runs: Runs, place: int) -> tuple[Json, dict[str, bytes]]:
 
 
 def how(folder: Folder) -> Json:
-    """What a folder's setting says of how its run was made; equal for the seeds of one run."""
+    """What a folder's setting says of how its run was made (run, words, again, lines, program; None where it has none);
+    equal for the seeds of one run."""
     return {name: folder.made.get(name) for name in ("run", "words", "again", "lines", "program")}
 
 

@@ -157,7 +157,8 @@ def greens_table(timing: Timing, names: Names, before: Timing | None) -> str:
 
 
 def greens_told(signs: str) -> str:
-    """When a movement has green in a cycle."""
+    """When a movement has green, as text in seconds of the cycle, '0 to 20, 40 to 55', or 'never'; signs: its letter in
+    each second."""
     cycle, greens = len(signs), runs_of(signs, MAIN + PERMISSIVE)
     return ", ".join(f"{begin} to {(begin + seconds) % cycle or cycle}" for begin, seconds in greens) or "never"
 

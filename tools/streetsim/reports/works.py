@@ -54,7 +54,8 @@ def rows_of(folder: Folder) -> list[dict[str, str]]:
 
 
 def note_queues(folder: Folder, places: Sequence[Seen]) -> None:
-    """Adds the queue before each place of works at each poll of a run; 0 where none is listed."""
+    """Adds the queue before each place of works, in metres, at each poll of a run to its `queues`; 0 where none is
+    listed."""
     queues = {(row["edge"], row["lane"], int(row["time"])): float(row["metres"]) for row in before_works(folder)}
     for seen in places:
         edge, lane, *_ = seen.place

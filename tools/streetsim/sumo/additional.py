@@ -20,8 +20,9 @@ DEMAND = ("route", "routeDistribution", "vehicle", "flow", "trip", "person", "pe
 
 
 def read_additional(path: FilePath, net: SumoNet, types: Types, report: Report, demand: Demand | None = None) -> None:
-    """Reads an additional file: signal programs, detectors and bus stops go to a network, vehicle types to types, and
-    vehicles, flows and routes to a demand (None: they are a Fault). All other elements are passed over and reported."""
+    """Reads an additional file: signal programs, WAUTs, detectors and bus stops go to a network, vehicle types to
+    types, and vehicles, flows and routes to a demand (None: they are a Fault). Other elements are passed over and
+    reported. Fault too for a program of a light that the network does not have."""
     undone = defaultdict(list)
     for element in elements(path, ["additional", "add", "routes", "tlLogics"]):
         if element.tag == "tlLogic":

@@ -109,8 +109,9 @@ class Demand:
         self.mixes[name] = self.mix(path, element, element, name)
 
     def mix(self, path: FilePath, owner: Element, element: Element, name: str) -> Mix:
-        """The names and weights of the routes of a distribution; a route in it that has no name is called after the
-        distribution and its place, as in SUMO. owner: the element that faults name."""
+        """The names and weights of the routes of a distribution. Routes that stand in it are added to `routes`; one
+        without a name is called after the distribution and its place, as in SUMO. owner: the element that faults name.
+        Fault for an unknown route, or none at all."""
         names, weights = (element.get("routes") or "").split(), []
         shares = attribute(path, element, "probabilities", weights_of) if element.get("probabilities") else []
         weights += [shares[place] if place < len(shares) else 1.0 for place in range(len(names))]
@@ -209,7 +210,8 @@ class Demand:
 
     def finish(self, end: float | None = None) -> list[Vehicle]:
         """All vehicles that depart before an end in seconds (None: all), each with its route and its type, in order of
-        departure and then of the files. Fault where two have one name, or a route is named that no file has."""
+        departure and then of the files; how many are left out is noted. It draws, so it is called once. Fault where
+        two have one name, or a route is named that no file has."""
         for vehicle, where in self.later:
             vehicle.route = self.drawn(vehicle.route)
             if vehicle.route not in self.routes:
@@ -276,8 +278,9 @@ def entry_lane(plan: Sequence[int], network: Network, used: Counter[int], found:
 
 
 def kinds_of(driven: Sequence[Vehicle], types: Types) -> Json:
-    """What a map keeps of vehicles: the types that files tell, by vehicle its type, the name of its route and its line,
-    and a sum over where all begin and end, by which the map of another demand is known."""
+    """What a map keeps of vehicles: {"types": [[name, fields of its Kind]], "type": by vehicle its place in types,
+    "route" and "line": by vehicle their names, where one has any, "ends": a sum over where all begin and end, by which
+    the map of another demand is known}."""
     names = list(types.kinds)
     place = {name: at for at, name in enumerate(names)}
     return {

@@ -306,8 +306,8 @@ def read_roundabout(path: FilePath, element: Element, net: SumoNet, _classes: Co
 
 
 def read_program(path: FilePath, element: Element, net: SumoNet, _classes: Collection[str]) -> None:
-    """Sets a light's program; a later one replaces the one before. One without phases gives the present program another
-    offset alone."""
+    """Sets a light's program; a later one replaces the one before, which `earlier` keeps. One without phases gives the
+    present program another offset alone."""
     phases = [
         (attribute(path, phase, "duration", at_least_zero(seconds)), attribute(path, phase, "state"))
         for phase in element.iter("phase")

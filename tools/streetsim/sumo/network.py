@@ -298,6 +298,7 @@ def ordered(net: SumoNet) -> list[Edge]:
         major[connection.source] += connection.state == "M"
 
     def key(edge: Edge) -> tuple[bool, float, int, float]:
+        """By what edges are sorted: not of a roundabout, less its share of main connections, priority and speed."""
         return (
             edge.name not in net.roundabouts,
             -major[edge.name] / max(1, all_of[edge.name]),
@@ -309,8 +310,8 @@ def ordered(net: SumoNet) -> list[Edge]:
 
 
 def next_edges(net: SumoNet, flows: Flows) -> tuple[Targets, Targets]:
-    """The next edges that each lane leads to, and those of them to which a signal lets it go only when there is a gap.
-    Of a lane from which routes go anywhere, only the edges to which routes go."""
+    """(the next edges that each lane leads to, those of them to which a signal lets it go only when there is a gap), by
+    lane. Of a lane from which routes go anywhere, only the edges to which routes go."""
     used = {(connection.source, connection.source_lane) for connection in net.connections if taken(connection, flows)}
     following, waiting = defaultdict(set), defaultdict(set)
     for connection in net.connections:
@@ -395,7 +396,8 @@ def may_share(right: LaneKey, left: LaneKey, following: Targets, waiting: Target
 
 
 def names_of(net: SumoNet, edges: Iterable[Edge], nodes: Iterable[str]) -> Json:
-    """The names of streets and junctions that the network tells, as a map keeps them; empty where it tells none."""
+    """The names that the network tells, as a map keeps them, {"edges": streets by edge, "junctions": names by
+    junction}; each is left out where it is empty."""
     found = {"edges": {edge.name: edge.street for edge in edges if edge.street}}
     found["junctions"] = {name: net.called[name] for name in nodes if name in net.called}
     return {kind: names for kind, names in found.items() if names}

@@ -95,7 +95,7 @@ def light_of(turns: Iterable[Connection], net: SumoNet) -> str | None:
 
 
 def turns_at(network: Network) -> dict[int, list[AtLight]]:
-    """The turns at each node to which any lead."""
+    """By node, where any lead there, its turns: (link, lane, next link, turn)."""
     found: defaultdict[int, list[AtLight]] = defaultdict(list)
     for (link, lane, following), turn in network.turns.items():
         found[network.links[link].end].append((link, lane, following, turn))

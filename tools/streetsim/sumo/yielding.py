@@ -501,6 +501,7 @@ def hidden_middle(length: int, speed: float, limit: int) -> tuple[int, int]:
     half, vehicles = length // 2, leaving(length, speed)
 
     def off(pause: int) -> float:
+        """How many vehicles more or fewer than in SUMO pass here, where pause seconds in the middle are left out."""
         passing = passing_here(length, limit)
         if pause:
             passing = passing_here(half, limit) + passing_here(length - half - pause, limit)

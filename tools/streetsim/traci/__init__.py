@@ -42,8 +42,8 @@ def start(
     """Starts a run, by the words of SUMO's command line (the first, SUMO's name, is passed over): -c, or -n, -r and -a,
     --seed and --begin, the outputs --tripinfo-output, --summary-output, --fcd-output and --queue-output, and the words
     of streetsim-import (--classes, --dawdle, --joint, ..). Warnings of the import, and options of SUMO's that are not
-    done here, are told on standard error. Gives the version, as SUMO does; FatalTraCIError where the run cannot
-    start."""
+    done here, are told on standard error. Gives what getVersion gives, as SUMO does; FatalTraCIError where the run
+    cannot start, TraCIException where one is under way."""
     if _running:
         raise TraCIException("a run is under way: close() it first; there is one at a time")
     try:
@@ -62,7 +62,8 @@ def _now() -> Session:
 
 
 def simulationStep(step: float = 0) -> None:
-    """Makes one step (step 0), or all steps until the clock is at step seconds; none where it is there already."""
+    """Makes one step (step 0), or all steps until the clock is at step seconds (none where it is there already); then
+    calls the step listeners."""
     _now().step(step)
     _listeners.step(step)
 
@@ -158,4 +159,5 @@ for _domain in (vehicle, lane, edge, junction, inductionloop, lanearea):
 
 
 def __getattr__(name: str) -> Any:
+    """NotHere for a call or domain of SUMO's that is not here; it says what to do instead."""
     raise NotHere(f"traci.{name} is not here: {advice_on(f'{name}.')}")

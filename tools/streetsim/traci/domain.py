@@ -27,7 +27,7 @@ class Domain(Calls[Session]):
         self.parameters: dict[tuple[str, str], Any] = {}  # that scripts keep, by object and key
 
     def advice(self, called: str) -> str:
-        """What is said of a call of this domain that is not here."""
+        """What is said of a call of this domain that is not here; called: "domain.call"."""
         return advice_on(called)
 
     def check(self, name: str, names: Container[str]) -> None:
@@ -67,13 +67,13 @@ class Domain(Calls[Session]):
         self, name: str, varIDs: Sequence[int] | None = None, begin: object = None, end: object = None
     ) -> None:
         """Has variables of an object, by number, told from now on; None: those that SUMO tells by default. begin and
-        end have no effect."""
+        end have no effect. TraCIException for an unknown object, NotHere for a variable that cannot be told."""
         self.check(name, self.subjects())
         self.note(name, varIDs)
 
     def note(self, name: str, numbers: Sequence[int] | None) -> None:
-        """Subscribes to the variables of these numbers; None: those that SUMO tells by default. From now on the run is
-        looked at after each step."""
+        """Subscribes an object to the variables of these numbers; None: those that SUMO tells by default. From now on
+        the run is looked at after each step. NotHere for a variable that cannot be subscribed to."""
         variables = tuple(self.first if numbers is None else numbers)
         self.check_variables(variables)
         self.now().follow()
@@ -134,7 +134,8 @@ class Placed(Domain):
         end: object = None,
     ) -> None:
         """Has variables of all vehicles told, from now on, that are at most dist metres from the object. domain: must
-        be that of vehicles, else NotHere; begin and end have no effect."""
+        be that of vehicles, else NotHere; varIDs: numbers, None: edge and metres on the lane; begin and end have no
+        effect. TraCIException for an unknown object."""
         self.check(objectID, self.subjects())
         if domain != tc.CMD_GET_VEHICLE_VARIABLE:
             raise NotHere(f"{self.name}.subscribeContext: of domain {domain:#x} nothing is looked for, but of vehicles")
@@ -148,8 +149,8 @@ class Placed(Domain):
         self.around.pop(objectID, None)
 
     def getContextSubscriptionResults(self, objectID: str) -> dict[str, Values]:
-        """By vehicle near the object the values that were subscribed to; empty where the object is gone or has no
-        context subscription."""
+        """By vehicle near the object the values that were subscribed to, by the variables' numbers; empty where the
+        object is gone or has no context subscription."""
         if objectID not in self.around or objectID not in self.subjects():
             return {}
         metres, variables = self.around[objectID]

@@ -18,6 +18,7 @@ class Quiet:
         self.name, self.calls, self.told = name, calls, False
 
     def __getattr__(self, call: str) -> Callable[..., None]:
+        """A call that does nothing, where it is one of the domain's; NotHere for others."""
         if call.startswith("__"):
             raise AttributeError(call)
         if call not in self.calls:

@@ -24,7 +24,8 @@ class Places(Placed, PlaceCalls[Session]):
     first = (tc.LAST_STEP_VEHICLE_NUMBER,)
 
     def speeds(self, name: str) -> list[float]:
-        """Speeds, metres a second, of the vehicles there that are on cells, not in a junction."""
+        """Speeds, metres a second, of the vehicles there that are on cells, not in a junction; in the order of
+        `cars`."""
         places = self.now().follow().view.places
         return [places[car].speed * METRES for car in self.cars(name) if car in places]
 

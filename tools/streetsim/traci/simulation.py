@@ -171,7 +171,7 @@ class Simulation(Domain, SimulationCalls[Session]):
 
     def getDistanceRoad(self, edgeID1: str, pos1: float, edgeID2: str, pos2: float, isDriving: bool = False) -> float:
         """Metres between two places on edges; pos1, pos2: metres from their begins. In a straight line, or (isDriving)
-        on the shortest way, through its junctions."""
+        on the shortest way, through its junctions; TraCIException where there is none."""
         if not isDriving:
             return self.getDistance2D(*self.convert2D(edgeID1, pos1), *self.convert2D(edgeID2, pos2))
         if edgeID1 == edgeID2 and pos1 <= pos2:
@@ -181,8 +181,8 @@ class Simulation(Domain, SimulationCalls[Session]):
     def findRoute(
         self, fromEdge: str, toEdge: str, vType: str = "", depart: float = -1.0, routingMode: int = 0
     ) -> Stage:
-        """The way between two edges that is quickest by the present travel times, as a Stage; depart and routingMode
-        have no effect."""
+        """The way between two edges that is quickest by the present travel times, as a Stage (edges, seconds, metres);
+        TraCIException where there is none. depart and routingMode have no effect."""
         session = self.now()
         links, seconds = session.router().way(fromEdge, toEdge)
         edges = session.edges(links)
@@ -196,7 +196,8 @@ class Simulation(Domain, SimulationCalls[Session]):
         save_state(self.now(), fileName)
 
     def loadState(self, fileName: str) -> None:
-        """Brings the run to a state that was saved in a run of the same files; TraCIException for one of others."""
+        """Brings the run to a state that was saved in a run of the same files and words; TraCIException for another, or
+        while output files are being written."""
         load_state(self.now(), fileName)
 
     def writeMessage(self, msg: str) -> None:

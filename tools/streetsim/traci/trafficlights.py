@@ -125,12 +125,13 @@ class TrafficLight(Domain):
         light.names[index] = str(text)
 
     def setPhase(self, name: str, index: int) -> None:
-        """Shows the phase of an index of the program from now on, from its begin; the program goes on from there."""
+        """Shows the phase of an index of the program from now on, from its begin; the program goes on from there.
+        TraCIException for a wrong index."""
         self.now().control.go_to(name, index)
 
     def setPhaseDuration(self, name: str, seconds: float) -> None:
-        """Has the present phase end so many seconds from now (0 or more, rounded); the next ones last as in the
-        program."""
+        """Has the present phase end so many seconds from now (rounded); the next ones last as in the program.
+        TraCIException below 0."""
         control = self.now().control
         control.light(name)
         if not seconds >= 0:
@@ -138,12 +139,13 @@ class TrafficLight(Domain):
         control.end_phase(name, self.now().clock + round(seconds))
 
     def setRedYellowGreenState(self, name: str, state: str) -> None:
-        """Shows a state, SUMO's letter for each signal, until another call sets the light."""
+        """Shows a state, SUMO's letter for each signal, until another call sets the light; TraCIException for one of
+        another length or with other letters."""
         self.now().control.hold(name, state)
 
     def setLinkState(self, name: str, index: int, state: str) -> None:
         """Sets one signal, by its index, to a letter, and leaves the others as they are now, until another call sets
-        the light."""
+        the light. TraCIException for a wrong index or letter."""
         shown = self.getRedYellowGreenState(name)
         if not 0 <= index < len(shown):
             raise TraCIException(f"Traffic light '{name}' has no signal {index}")
@@ -166,7 +168,7 @@ class TrafficLight(Domain):
 
     def setProgramLogic(self, name: str, logic: Program) -> None:
         """Sets a whole program and runs it from the begin of its current phase; setProgram can choose it again by its
-        name. TraCIException without phases."""
+        name. TraCIException without phases, or for wrong states or a wrong current phase."""
         phases = [(float(phase.duration), phase.state) for phase in logic.phases]
         if not phases:
             raise TraCIException(f"Traffic light '{name}': a program without phases")

@@ -203,7 +203,8 @@ class Vehicle(VehicleCalls[Session], Placed):
         return True
 
     def getNextTLS(self, name: str) -> tuple[tuple[str, int, float, str], ...]:
-        """For each light ahead on its way (light, index of the signal, metres to the stop line, state)."""
+        """For each light ahead on its way (light, index of the signal, metres to the stop line, state), the nearest
+        first; empty before it departs."""
         place, session, found = self.place(name), self.now(), []
         if place is None:
             return ()
@@ -238,8 +239,8 @@ class Vehicle(VehicleCalls[Session], Placed):
 
     def getLeader(self, name: str, dist: float = 0.0) -> tuple[str, float] | None:
         """(vehicle, metres between the two, without the gap that standing vehicles keep) of the next one ahead on its
-        way, within the metres that it needs to brake, or within dist where that is more. None where there is nobody.
-        One in a junction counts as at its begin."""
+        way, within the metres that it needs to brake, or within dist where that is more. None where there is nobody,
+        or it is itself in a junction. One ahead in a junction counts as at its begin."""
         place = self.place(name)
         if place is None or place.cell is None:
             return None
@@ -255,7 +256,8 @@ class Vehicle(VehicleCalls[Session], Placed):
         return [(car, view.places[car]) for car in view.on_lane.get((place.link, place.lane), ())]
 
     def leader_behind(self, name: str, place: Place, reach: float) -> tuple[str, float] | None:
-        """The next vehicle ahead on the links after its own, within reach metres; None where there is nobody."""
+        """(vehicle, metres between the two) of the next one ahead on the links after its own, within reach metres; None
+        where there is nobody."""
         session, plan, lane = self.now(), self.now().fleet.plans[name], place.lane
         metres = session.map.links[place.link].metres - self.front(place)
         for link, following in pairwise(plan[plan.index(place.link) :]):
@@ -279,8 +281,8 @@ class Vehicle(VehicleCalls[Session], Placed):
         return max(0.0, metres + rear - front)
 
     def getFollower(self, name: str, dist: float = 0.0) -> tuple[str, float]:
-        """(vehicle, metres between the two) of the next one behind it on its lane; ("", -1) where there is nobody. dist
-        has no effect."""
+        """(vehicle, metres between the two, without the gap that standing vehicles keep) of the next one behind it on
+        its lane; ("", -1) where there is nobody, and in a junction. dist has no effect."""
         car, place = self.where(name)
         if car is None or place is None or place.cell is None:
             return "", -1.0
@@ -342,7 +344,7 @@ class Vehicle(VehicleCalls[Session], Placed):
     def setRoute(self, name: str, edgeList: Sequence[str]) -> None:
         """Sets another route; its first edge must be the one where the vehicle is or will depart. A vehicle on the road
         takes it from the next node on: there it is taken out and entered anew, with another number and other random
-        draws."""
+        draws. TraCIException where it begins elsewhere, or its edges have no connection."""
         other_way(self.now(), name, self.place(name), list(edgeList))
 
     def setRouteID(self, name: str, routeID: str) -> None:
@@ -358,15 +360,16 @@ class Vehicle(VehicleCalls[Session], Placed):
         session.types.route_of[name] = routeID
 
     def changeTarget(self, name: str, edgeID: str) -> None:
-        """Gives it the way to another edge that is quickest by the present travel times."""
+        """Sets its route to the way to another edge that is quickest by the present travel times, as setRoute does;
+        TraCIException where there is none."""
         session, place = self.now(), self.place(name)
         edges = self.getRoute(name)
         here = edges[0] if place is None else session.map.links[place.link].edge
         other_way(session, name, place, session.edges(session.router().way(here, edgeID)[0]))
 
     def rerouteTraveltime(self, name: str, currentTravelTimes: bool = True) -> None:
-        """Gives it the way to its target that is quickest by the present travel times, or those of
-        edge.adaptTraveltime; currentTravelTimes has no effect."""
+        """Sets its route to the way to its last edge that is quickest by the present travel times, or those of
+        edge.adaptTraveltime, as setRoute does; currentTravelTimes has no effect."""
         self.changeTarget(name, self.getRoute(name)[-1])
 
 

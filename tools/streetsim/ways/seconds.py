@@ -68,8 +68,8 @@ def reds(green: int, cycle: int) -> list[int]:
 
 
 def capacities(graph: Graph, mapping: Map, signals: Iterable[dict]) -> list[float]:
-    """Vehicles an hour that each movement lets pass: SATURATION for each lane, times its share of green; LEAST_CAPACITY
-    at least."""
+    """Vehicles an hour that each movement lets pass, a list by movement: at a signal SATURATION for each lane, times
+    its share of green, and LEAST_CAPACITY at least; without a signal SATURATION, whatever its lanes."""
     found: dict[tuple[int, int], float] = defaultdict(float)
     for command in signals:
         cycle = sum(duration for duration, _ in command["phases"])

@@ -23,9 +23,9 @@ Searching = Callable[[Sequence[Wish], Costs], Iterable[Found]]
 def first_ways(
     graph: Graph, trips: Sequence[Trip], free: Sequence[float], capacity: Sequence[float], seed: int, search: Searching
 ) -> list[Trip]:
-    """Gives each trip that has no way its first one; gives the trips for which there is none. trips: in order of
-    departure; free: seconds, and capacity: vehicles an hour, of each movement; seed: of the order in which trips
-    choose; search: finds paths for wishes."""
+    """Sets the path of each trip that has none; gives back the trips for which there is no way, their paths empty.
+    trips: in order of departure, one at least; free: seconds, and capacity: vehicles an hour, of each movement; seed:
+    of the order in which trips choose; search: finds paths for wishes."""
     wanting = [at for at, trip in enumerate(trips) if not trip.path]
     random.Random(f"start {seed}").shuffle(wanting)
     hours = max(LEAST_HOURS, (trips[-1].depart - trips[0].depart) / 3600)
@@ -48,8 +48,8 @@ def first_ways(
 
 
 def volumes(graph: Graph, trips: Iterable[Trip]) -> list[int]:
-    """How many trips have each movement on their ways. Pairs of edges that are no movement of the graph (changes
-    between lanes that an import adds) are passed over."""
+    """How many trips have each movement on their ways, a list by movement. Pairs of edges that are no movement of the
+    graph (changes between lanes that an import adds) are passed over."""
     found = [0] * len(graph.movements)
     for way in (way for trip in trips for way in pairwise(trip.path)):
         if way in graph.movement_of:

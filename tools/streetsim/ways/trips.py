@@ -225,8 +225,8 @@ def attributes_in(trip: Trip) -> dict[str, str]:
 
 
 def calls_on(trip: Trip, edges: Sequence[str]) -> Iterator[str]:
-    """The elements of a trip's stops that lie on a way, each on the edge of the one before it or further on; SUMO
-    refuses others."""
+    """The elements, XML texts, of a trip's stops that lie on a way (edges), each on the edge of the one before it or
+    further on; SUMO refuses others."""
     at = 0
     for edge, text in trip.calls:
         if edge in edges[at:]:

@@ -19,7 +19,7 @@ class Closure:
     beyond: float = 0.0  # metres for which it goes on, on the next part of the edge
 
     def metres(self, mapping: Map) -> tuple[float, float]:
-        """(first, last) metre of the closed stretch, from the begin of its link."""
+        """(begin, end) of the closed stretch, in metres from the begin of its link."""
         link = mapping.links[self.link]
         size = link.metres / link.cells
         return self.first * size, (self.last + 1) * size + self.beyond

@@ -63,7 +63,8 @@ class Merges:
         return [link for link, one in self.links.items() if one.due <= clock]
 
     def told(self, clock: int, link: int, lanes: tuple[Lane, Lane]) -> list[Command]:
-        """The commands to send before the next step, by the replies on both lanes of a link that is due."""
+        """The commands to send before the next step, by the replies on both lanes of a link that is due; sets when it
+        is due again."""
         one = self.links[link]
         changes = one.merging.told(clock, [side_of(lane) for lane in lanes])
         one.due = clock + one.merging.seconds()
