@@ -99,7 +99,7 @@ def per_hour(one: Compared) -> float:
 
 def differences_map(fit: Judged, mapping: Map) -> str:
     """A map of how many vehicles an hour more or fewer passed than were counted, of an edge, else of its turns
-    together, as HTML."""
+    together, as HTML. A place that is counted for all vehicles and for a class has both added."""
     hours = len({one.begin // HOUR for one in fit.hourly})
     whole: defaultdict[str, float] = defaultdict(float)
     turns: defaultdict[str, float] = defaultdict(float)

@@ -84,7 +84,7 @@ class Names:
         return f"to the {wind(begin, after)}"
 
     def shape(self, edge: str) -> Sequence[Sequence[float]]:
-        """The points (x, y), in metres, of the middle one of an edge's links."""
+        """The points (x, y), in metres, of the middle one of an edge's links; KeyError for an unknown edge."""
         links = self.mapping.links_of[edge]
         return self.mapping.links[links[len(links) // 2]].shape
 

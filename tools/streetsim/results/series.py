@@ -198,7 +198,7 @@ def longest_queues(folder: Folder, most: int) -> tuple[list[tuple[str, dict[int,
 
 def flows(folder: Folder, edges: Sequence[str]) -> list[tuple[float, float]]:
     """(vehicles a kilometre and lane, vehicles an hour and lane) of each row of counts.csv over a whole period with
-    traffic; edges: those wanted, all where it is empty."""
+    traffic; the first from the occupancy, as if each cell had 7.5 m. edges: those wanted, all where it is empty."""
     return [
         (float(row["occupancy_percent"]) / 100 / limits.CELL_METRES * 1000, float(row["vehicles_per_hour"]))
         for row in folder.counts()
@@ -210,8 +210,8 @@ def flows(folder: Folder, edges: Sequence[str]) -> list[tuple[float, float]]:
 
 def middle_flows(folder: Folder, edges: Sequence[str]) -> list[tuple[float, float]]:
     """(vehicles a kilometre, vehicles an hour) of the middle third of each lane by itself, of each whole period with
-    traffic there: means over its polls of the vehicles there and of their speeds, added up, over its length (Edie's
-    definitions). edges: those wanted, all where it is empty; Fault where nothing was polled."""
+    traffic there: means over its polls of the vehicles there and of their speeds, added up, over its length as if each
+    cell had 7.5 m (Edie's definitions). edges: those wanted, all where it is empty; Fault where nothing was polled."""
     links = folder.mapping.links
     polls: Counter[int] = Counter()
     seen: defaultdict[tuple[int, int, int], list[int]] = defaultdict(lambda: [0, 0])

@@ -128,7 +128,8 @@ def searched_lights(reading: Reading, run: Run, mapping: Map, net: SumoNet) -> t
 
 
 def lights_of(reading: Reading, mapping: Map, net: SumoNet) -> list[str]:
-    """The names of all lights of the map, sorted; Fault where one has no program in the plans."""
+    """The names of all lights of the map, sorted; Fault where one has no program in the plans, also where it is to be
+    kept."""
     names = sorted({light for light, _ in mapping.signals})
     lacking = [name for name in names if name not in net.programs or not net.programs[name].phases]
     if lacking:
