@@ -199,7 +199,8 @@ class Vehicle(Part, VehicleCalls[Scenario]):
         self.scenario.client.takeout(self.scenario.fleet.cars[name])
 
     def getIDList(self) -> tuple[str, ...]:
-        """The names of the vehicles on lanes or in junctions."""
+        """The names of the vehicles on lanes or in junctions; the scenario no longer asks for those that have arrived
+        or were taken."""
         scenario = self.scenario
         while scenario.later and scenario.later[0][0] < scenario.clock:
             _, car, name = heappop(scenario.later)

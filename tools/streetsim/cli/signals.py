@@ -221,8 +221,8 @@ def check_seeds(words: argparse.Namespace) -> range:
 
 
 def reading_of(words: argparse.Namespace, changed: Sequence[str]) -> Reading:
-    """What is to be read of a town; Fault where outputs have no place. The reserve is left out where offsets alone are
-    changed."""
+    """What is to be read of a town; Fault where an output has no place or is an input. The reserve is 0 where offsets
+    alone are changed and no bounds are to be found."""
     plans = files_of(words.plans)
     refuse_equal({"-o": words.output}, [words.run, words.map, *plans])
     folder = os.path.dirname(place_of(words.output))

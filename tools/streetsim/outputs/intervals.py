@@ -137,7 +137,7 @@ class Detectors(XmlFile):
         raise NotImplementedError
 
     def step(self, second: Second) -> None:
-        """Adds a second to all detectors; before it writes their intervals that have ended."""
+        """Adds a second to all detectors; first writes those intervals that have ended."""
         for one in self.detectors:
             if second.clock > self.begins[one.name] + one.period:
                 self.write(one)

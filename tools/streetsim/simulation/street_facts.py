@@ -145,7 +145,8 @@ def read_facts(net: str, additional: Sequence[str], routes: Sequence[str]) -> Fa
 
 
 def read_element(facts: Facts, path: str, element: Element) -> None:
-    """Adds to the facts what an element of a network or an additional file tells; other elements are passed over."""
+    """Adds to the facts what an element of a network or an additional file tells; other elements are passed over. Fault
+    where an attribute is absent or malformed."""
     if element.tag == "edge":
         facts.read_edge(path, element)
     elif element.tag == "connection":
