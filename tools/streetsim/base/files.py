@@ -314,7 +314,8 @@ def whole_folder(path: FilePath, last: str, at_wish: Iterable[str] = ()) -> Iter
 
 def move_files(source: str, target: FilePath, last: str, at_wish: Iterable[str] = ()) -> None:
     """Moves all files below the folder `source` to the same places below `target`; those of the name `last` go last of
-    all. In each folder that gets one, the older files of that name and of the names `at_wish` are removed first."""
+    all. In each folder that gets one, the older files of that name and of the names `at_wish` are removed first. Fault,
+    before any is moved, where anything but a regular file is at a place."""
     names = [
         os.path.relpath(os.path.join(folder, name), source) for folder, _, files in os.walk(source) for name in files
     ]

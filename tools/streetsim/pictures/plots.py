@@ -108,7 +108,7 @@ def draw_ring(pyplot: Pyplot, program: str | None, dawdles: Sequence[int], limit
 
 def draw_fundamental(pyplot: Pyplot, folder: Folder, edges: Sequence[str], at_stop_lines: bool) -> Figure:
     """Flow over density of some edges, or of all where none is named: at the stop lines by counts.csv, else in the
-    middle third of lanes by polls."""
+    middle third of lanes by polls. Fault for an unknown edge, or where nothing was polled."""
     folder.links_along(edges)  # which names an edge that the map does not have
     counts = (series.flows if at_stop_lines else series.middle_flows)(folder, edges)
     where = f"Counts of {folder.period} s at the stop lines"

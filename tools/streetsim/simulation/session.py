@@ -186,7 +186,8 @@ class Session(Simulation):
     # Other plans: a vehicle enters anew where its other way begins, and is the same one for all calls
 
     def plan(self, name: str) -> tuple[int, ...]:
-        """The numbers of the links of a vehicle's plan, also before it departs, with those that it has driven."""
+        """The numbers of the links of a vehicle's plan, also before it departs, with those that it has driven; KeyError
+        for an unknown vehicle."""
         if plan := self.fleet.plans.get(name) or self.wishes.get(name):
             return plan
         return tuple(self.source.enters[self.types.known[name]].command["plan"])
