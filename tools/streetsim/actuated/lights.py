@@ -99,8 +99,8 @@ LISTED = Lights()  # all go by their list
 
 
 def driven_lights(run: Run, mapping: Map) -> Lights:
-    """The lights that detectors drive in a run; the others with the reason. Those that most vehicles pass come first,
-    until the 1,024 detectors that a run may have, less those of the map, are used up."""
+    """The lights that detectors drive in a run; the others in `listed`, with the reason. Those that most vehicles pass
+    come first, until the 1,024 detectors that a run may have, less those of the map, are used up."""
     timed = {line.command["node"] for _, line in run.timed if line.command["cmd"] == "signal"}
     left, later = limits.METERS - len(mapping.detectors), programs_later(mapping)
     driven: list[Light] = []

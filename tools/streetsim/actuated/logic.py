@@ -140,7 +140,7 @@ class Actuated:
         self.due, self.told_to_end = clock, True
 
     def told(self, until: int) -> Iterator[tuple[Ended, str]]:
-        """The phases that began before the clock `until`, with their states; the one under way ends there, with an
+        """(phase, its state) of the phases that began before the clock `until`; the one under way ends there, with an
         empty reason."""
         under_way = [Ended(self.at, self.since, until - self.since, "")] if self.since < until else []
         for row in (*self.ended, *under_way):

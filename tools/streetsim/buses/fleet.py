@@ -47,7 +47,7 @@ class Dwell(NamedTuple):
 
     @property
     def seconds(self) -> int:
-        """How long it was at its stop."""
+        """The seconds for which it was at its stop, until its doors closed."""
         return self.left - self.arrived
 
 
@@ -80,6 +80,7 @@ class Calls:
     """Which phases vehicles with priority call at lights."""
 
     def __init__(self) -> None:
+        """Nobody calls yet."""
         self.by_light: defaultdict[str, dict[int, frozenset[int]]] = defaultdict(dict)  # phases by vehicle
         self.changed: set[str] = set()  # lights
 

@@ -37,7 +37,8 @@ class Priority:
 
 def prioritised(run: Run, mapping: Map, names: Sequence[str], seen: int, driven: Lights) -> Priority:
     """The lights that wait for vehicles of the classes and lines in names, which a light sees (seen) so many seconds
-    before the stop line. driven: the lights that detectors drive. Fault where a name has no vehicle."""
+    before the stop line; those that cannot wait are told with the reason. driven: the lights that detectors drive.
+    Fault where a name has no vehicle."""
     owners = named(run, mapping, names)
     timed = {line.command["node"] for _, line in run.timed if line.command["cmd"] == "signal"}
     changed = {light for light, node in mapping.signals if node in timed}
@@ -66,7 +67,7 @@ def prioritised(run: Run, mapping: Map, names: Sequence[str], seen: int, driven:
 def waiting(
     run: Run, mapping: Map, names: Sequence[str], seen: int | None, lights: Lights, buses: Planned
 ) -> tuple[Lights, Planned]:
-    """The lights and the buses of a run with priority for the classes and lines in names. lights: those that detectors
+    """(the lights, the buses) of a run with priority for the classes and lines in names. lights: those that detectors
     drive; buses: the stops that are made; seen: seconds before the stop line, None: SEEN. Fault where a name has no
     vehicle."""
     seen = SEEN if seen is None else seen

@@ -60,9 +60,9 @@ def convert(
     report: Report,
     trips: Sequence[str] = (),
 ) -> Made:
-    """The network, its lights, the commands of the run and the names of its vehicles, of files of SUMO. trips: files
-    whose vehicles get ways; where there are some, those of `routes` are read with them. What is left out or otherwise
-    than in SUMO is said in the report."""
+    """(the network, its lights with their nodes, the commands of the run, the names of its vehicles), of files of SUMO;
+    additional, routes, trips: paths. trips: files whose vehicles get ways; where there are some, those of `routes` are
+    read with them. What is left out or otherwise than in SUMO is said in the report."""
     net = read_net(net_path, options.classes, report)
     types = Types(options.seed, report)
     demand = None if trips else Demand(net, types, options.seed, report)

@@ -75,7 +75,7 @@ def real_nodes(mapping: Map) -> set[int]:
 
 
 def rings_of(mapping: Map) -> dict[int, int]:
-    """The nodes of roundabouts, each with the least number of a node of its roundabout."""
+    """By node of a roundabout the least number of a node of the same roundabout."""
     least: dict[int, int] = {}
     edges = [link for link in mapping.links if link.edge in mapping.rings]
     for link in edges:
@@ -169,8 +169,8 @@ class Greens:
         return len(self.clocks.get(self.mapping.links[link].end, ())) <= 1
 
     def at(self, link: int, lane: int, step: int) -> tuple[frozenset[int] | None, Any]:
-        """The links to which a lane has green in a step, none for all; and a value that is equal for all steps of one
-        cycle, where there is no signal for those of one minute."""
+        """(the links to which a lane has green in a step, none for all; a value that is equal for all steps of one
+        cycle, where there is no signal for those of one minute)."""
         node = self.mapping.links[link].end
         place = self.plan_at(node, step)
         if place is None:
@@ -191,7 +191,7 @@ class Greens:
         return None
 
     def phases(self, node: int, place: int, link: int, lane: int) -> tuple[list[int], list[frozenset[int]]]:
-        """For each phase of a plan the second of the cycle in which it ends, and the links to which a lane has green;
+        """(by phase of a plan the second of the cycle in which it ends, by phase the links to which a lane has green);
         place: of the plan among those of the node."""
         key = node, place, link, lane
         if key not in self.shown:

@@ -18,7 +18,7 @@ MOST_LOOKS = 8_000_000  # at a lane in every second of a run; where there would 
 
 def write_junctions(made: Recorded, interval: int) -> tuple[list[str], list[str]]:
     """Writes movements.csv, approaches.csv and junctions.csv into the folder of a run, with rows of `interval` seconds.
-    Gives sentences for the terminal on how they were made, and doubts: why they are not to be trusted; both may be
+    Gives (sentences for the terminal on how they were made; doubts: why they are not to be trusted); both may be
     empty."""
     run, start, until = made.run, made.run.start(), made.settings.until
     approaches = approaches_of(made.mapping)
@@ -62,7 +62,8 @@ def arrivals_of(records: Records) -> list[int | None]:
 
 
 def of_queues(approaches: Sequence[str]) -> tuple[list[str], list[str]]:
-    """A sentence for the terminal, and a doubt, on approaches beyond which queues went on; both empty for none."""
+    """(a sentence for the terminal, a doubt), each in a list, on approaches beyond which queues went on; both empty for
+    none."""
     if not approaches:
         return [], []
     small, found = "delays, letters and queues are too small", some(approaches)

@@ -35,8 +35,8 @@ class Tables:
                 self.junctions.append((interval.begin, interval.end, junction, control, *told(lost, interval), *last))
 
     def add_approach(self, interval: Interval, approach: Approach) -> tuple[Totals, float, float] | None:
-        """Adds the rows of an approach and of its movements; gives what its vehicles lost, metres of its longest queue,
-        and the greatest v/c of its movements; none where nobody used it."""
+        """Adds the rows of an approach and of its movements; gives (what its vehicles lost, metres of its longest
+        queue, the greatest v/c of its movements); none where nobody used it."""
         parts, ratios = [], []
         for target, name in sorted(approach.movements.items()):
             if (approach.edge, target) in interval.lost:
@@ -83,7 +83,8 @@ class Tables:
 
 
 def told(lost: Totals, interval: Interval) -> tuple:
-    """The columns LOST of a row, as texts; empty where a value is not known."""
+    """The columns LOST of a row: vehicles, vehicles an hour, seconds of control delay, its error, seconds of standing,
+    stops a vehicle; empty where a value is not known."""
     hourly = lost.vehicles * 3600 / (interval.end - interval.begin)
     error = "" if lost.error is None else f"{lost.error:.1f}"
     stops = "" if lost.stops is None else f"{lost.stops:.2f}"
@@ -91,8 +92,9 @@ def told(lost: Totals, interval: Interval) -> tuple:
 
 
 def worst(lanes: Collection[Sequence[float]], metres: float) -> tuple:
-    """The columns QUEUED of a row, in metres, of the lane whose queues have the greatest 95 % value; lanes: metres of
-    the queues of each; metres: the approach's length, for the column of the room."""
+    """The columns QUEUED of a row, texts of metres (50 %, 95 %, greatest, room), of the lane whose queues have the
+    greatest 95 % value; lanes: metres of the queues of each; metres: the approach's length, for the column of the
+    room."""
     queues = max(lanes, key=lambda lane: percentile(lane, 0.95), default=[])
     values = percentile(queues, 0.5), percentile(queues, 0.95), max(queues, default=0.0), metres
     return tuple(f"{value:.1f}" for value in values)

@@ -153,7 +153,7 @@ class Sampled:
 
     def finish(self) -> Self:
         """Adds what those passed who have arrived since they were seen last, and stops that vehicles made; called once,
-        after the last look."""
+        after the last look. Gives itself."""
         for car, arrival in enumerate(self.ends.arrivals):
             if arrival is not None:
                 before, since = self.last.get(car, (0, self.departs[car]))

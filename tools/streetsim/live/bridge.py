@@ -152,14 +152,15 @@ class Handler(BaseHTTPRequestHandler):
         return words
 
     def get(self, words: list[str]) -> tuple[bytes, str]:
-        """The page and its type; Refusal for any other path."""
+        """(the page, its type); Refusal for any other path."""
         if words != [""]:
             raise Refusal(HTTPStatus.NOT_FOUND, "there is one page, at the address that streetsim-live printed")
         return self.server.page, "text/html; charset=utf-8"
 
     def post(self, words: list[str]) -> tuple[bytes, str] | None:
-        """Does what the page's words, its name, a verb and perhaps an engine's number, ask; gives (body, type), None
-        where all was sent already."""
+        """Does what the page's words ask: its name, a verb and perhaps an engine's number; gives (body, type), None
+        where all was sent already. Refusal for other words, and where the page must be the one that is served and is
+        not."""
         body = self.body()
         name, verb, *which = [*words, "", ""][: max(2, len(words))]
         if verb not in VERBS or not name or which not in ([], ["0"], ["1"]):
@@ -186,7 +187,8 @@ class Handler(BaseHTTPRequestHandler):
         return b"", "text/plain"
 
     def keeping(self, verb: str, engine: Engine, body: bytes) -> tuple[bytes, str]:
-        """(body, type) of what a page asks of a session that is kept; Refusal where this one is not."""
+        """(body, type) of what a page asks of a session that is kept; verb: known, know or settle. Refusal where this
+        session is not kept."""
         if not isinstance(engine, KeptEngine):
             raise Refusal(HTTPStatus.NOT_FOUND, "this session is not kept")
         if verb == "known":

@@ -26,13 +26,13 @@ class Joining:
     program: str | None = None  # which makes the rounds
 
     def made(self) -> tuple[Run, Map, list[str]]:
-        """The run and its map with the lanes of names joint, and the texts to tell; Fault where that cannot be done."""
+        """(the run with the lanes of names joint, its map, the texts to tell); Fault where that cannot be done."""
         run, mapping, told = with_works(self.run, self.mapping, self.map_path, [], Asking(self.names))
         return run, replace(mapping, sources=self.mapping.sources), told
 
     def giving_way(self, run: Run, mapping: Map, told: list[str]) -> tuple[Run, Map, list[str]]:
-        """The run with signal lines by which vehicles give way without a light, its map, and the texts to tell. Where
-        nobody has to give way, the map's yields are empty."""
+        """(the run with signal lines by which vehicles give way without a light, its map, the texts to tell); told: the
+        texts so far. Where nobody has to give way, the map's yields are empty."""
         if not self.rounds or not mapping.yields:
             return run, mapping, told
         lights = driven_lights(run, mapping) if self.driven else LISTED
@@ -42,15 +42,15 @@ class Joining:
         return run, mapping, [*told, yielding.told()]
 
     def page(self, engine: bytes | None = None) -> tuple[bytes, list[bytes], list[str]]:
-        """The page, the run's own lines, and the texts to tell. engine: the program for browsers, with which the page
-        is one file; None: it asks the bridge."""
+        """(the page, the run's own lines, the texts to tell). engine: the program for browsers, with which the page is
+        one file; None: it asks the bridge."""
         run, mapping, told = self.giving_way(*self.made())
         page = page_of(run, mapping, engine, self.map_path, self.proved, self.kept, self.driven)
         return page, own_lines(run), told
 
     def join(self, names: Iterable[str]) -> tuple[bytes, list[bytes]]:
-        """The page and the run's own lines with further lanes or edges (names) joint; after a Fault all is as
-        before."""
+        """(the page, the run's own lines) with further lanes or edges (names) joint, which then stay so; after a Fault
+        all is as before."""
         more = replace(self, names=tuple(dict.fromkeys([*self.names, *names])))
         page, lines, _ = more.page()
         self.names = more.names

@@ -190,7 +190,7 @@ def is_locked(path: Path) -> bool:
 
 
 def whole_lines(path: Path) -> bytes:
-    """The bytes of a file up to its last LF; empty where there is no file."""
+    """The bytes of a file up to its last LF; empty where there is no file, Fault where it cannot be read."""
     try:
         text = path.read_bytes()
     except FileNotFoundError:
@@ -201,7 +201,7 @@ def whole_lines(path: Path) -> bytes:
 
 
 def lines_of_file(path: Path) -> list[bytes]:
-    """The commands in a kept file, each with its LF; empty where there is no file."""
+    """The commands in a kept file, each with its LF; empty where there is no file, Fault where it cannot be read."""
     return [line for line in whole_lines(path).splitlines(keepends=True) if line.strip()]
 
 

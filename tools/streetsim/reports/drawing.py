@@ -82,7 +82,7 @@ def lines_picture(mapping: Map, values: Mapping[str, float]) -> str:
 
 
 def aside(shape: Shape) -> tuple[float, float]:
-    """By how many pixels, across and down the page, a line is moved to its right, so that the directions of a street
+    """(pixels across, pixels down the page) by which a line is moved to its right, so that the directions of a street
     lie side by side."""
     (x, y), (end_x, end_y) = shape[0], shape[-1]
     size = hypot(end_x - x, end_y - y) or 1.0

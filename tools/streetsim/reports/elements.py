@@ -33,7 +33,8 @@ class Mismatch:
 
 
 def apart(said: str, found: str) -> tuple[str, str]:
-    """Two texts; where one is longer than 60 letters, of both the 60 or so around their first difference."""
+    """(said, found): two texts; where one is longer than 60 letters, of both the 60 or so around their first
+    difference."""
     if len(said) <= LONG and len(found) <= LONG:
         return said, found
     at = next((at for at, (one, other) in enumerate(zip(said, found)) if one != other), min(len(said), len(found)))
@@ -61,7 +62,7 @@ class Reader(HTMLParser):
         return ", ".join(filter(None, [*heads, self.row, column])) or "the page's head"
 
     def handle_starttag(self, tag: str, attributes: list[tuple[str, str | None]]) -> None:
-        """Adds the begin of an element."""
+        """Adds the begin of an element; attributes: (name, value)."""
         self.begin("row" if tag == "th" and ("scope", "row") in attributes else tag)
         told = "".join(f' {name}="{value}"' for name, value in attributes)
         self.found.append(Element(f"<{tag}{told}>", self.place))

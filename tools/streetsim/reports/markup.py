@@ -27,7 +27,7 @@ def table(head: Sequence[str], rows: Iterable[Sequence[str]], names: int = 1) ->
     """A table as HTML; the first `names` columns are names, the others numbers. Cells and head are HTML already."""
 
     def line(tag: str, cells: Sequence[str]) -> str:
-        """A row with cells of a tag, th or td."""
+        """A row, as HTML, with cells of a tag, th or td."""
         kinds = [' class="name"' if place < names else "" for place in range(len(cells))]
         return (
             "<tr>" + "".join(f"<{tag}{kind}>{cell}</{tag}>" for kind, cell in zip(kinds, cells, strict=True)) + "</tr>"

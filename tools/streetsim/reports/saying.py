@@ -15,7 +15,8 @@ def several(count: int, one: str, many: str = "") -> str:
 
 
 def less_or_more(change: float, unit: str = "s") -> str:
-    """A change with its size and direction: '17.9 s less'; 0 is 'more'."""
+    """A change with its size and direction, one decimal: '17.9 s less'; 0 is 'more'. unit: what stands behind the
+    number."""
     return f"{abs(change):.1f} {unit} {'less' if change < 0 else 'more'}"
 
 

@@ -149,7 +149,7 @@ def queues_picture(seen: Seen) -> str:
     across, down = (WIDE - LEFT - 10) / max(1, times[-1] - times[0]), (HIGH - 40) / most
 
     def line(values: Sequence[float], style: str) -> str:
-        """A line through one value of metres for each clock."""
+        """A line (SVG) through one value of metres for each clock; style: its attributes."""
         points = " ".join(
             f"{LEFT + (time - times[0]) * across:.1f},{HIGH - 25 - value * down:.1f}"
             for time, value in zip(times, values, strict=True)

@@ -100,7 +100,8 @@ class Desk:
 
     def advance(self, clock: int, target: int) -> int:
         """Advances the run from clock to target, or to the clock before it at which a line is due or lanes are looked
-        at; gives that clock. Vehicles that depart until then are sent first."""
+        at; gives that clock. Vehicles that depart until then are sent first; there works, buses and lights are looked
+        at, and what follows is sent."""
         at = clock - self.start
         period = (at // self.settings.period + 1) * self.settings.period + self.start
         sample = self.samples.after(clock)
@@ -128,7 +129,8 @@ class Desk:
         self.entered = last
 
     def lanes(self, wanted: Iterable[Place]) -> dict[Place, Lane]:
-        """What stands on some lanes, (link, lane); lanes where nothing is are left out. Fault where one is refused."""
+        """By (link, lane) what stands on some lanes; lanes where nothing is are left out. Fault where one is
+        refused."""
         wanted, found = list(wanted), {}
         for place, text in zip(wanted, self.exchange(self.lines[place] for place in wanted), strict=True):
             if text != EMPTY:

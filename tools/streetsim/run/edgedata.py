@@ -118,7 +118,7 @@ def entered_on(data: Edgedata, links: Sequence[int], begin: int, end: int, left:
 def seen_on(
     data: Edgedata, mapping: Map, places: Sequence[Place], begin: int
 ) -> tuple[float | None, float | None, float | None]:
-    """Vehicles a kilometre, km/h and seconds of travel of an edge in the period that begins at a clock, by the mean
+    """(vehicles a kilometre, km/h, seconds of travel) of an edge in the period that begins at a clock, by the mean
     speed of all who were seen; None for each that is not known. places: all lanes of the edge."""
     period = (begin - data.start) // data.period
     if not all(period in data.known.get(place, ()) for place in places):

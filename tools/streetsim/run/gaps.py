@@ -101,7 +101,7 @@ def node_lines(node: int, turns: Sequence[TurnKey], groups: Sequence[Group], sta
     always = [turn for turn in turns if turn not in waits]
 
     def green(state: State) -> tuple[list[TurnKey], str]:
-        """The turns that are green, and as they stand in a line."""
+        """(the turns that are green in a state, the same as they stand in a line)."""
         shown = [turn for (each, _), hidden in zip(groups, state, strict=True) if not hidden for turn in each]
         turns = sorted([*always, *shown])
         return turns, ",".join(f"[{link},{lane},{following}]" for link, lane, following in turns)
@@ -202,11 +202,11 @@ class Counts:
                 times.append(second)
 
     def lists_of(self, foe: Foe) -> tuple[list[float], list[float], list[float]]:
-        """The seconds at which vehicles come on the lane of a foe, on its street, and on all."""
+        """(on the lane of a foe, on its street, on all): the seconds at which vehicles come."""
         return self.by_lane[foe.link, foe.lane], self.by_street[foe.street], self.every
 
     def around(self, second: float, foe: Foe) -> tuple[float, ...]:
-        """Vehicles an hour around a second: on the lane of a foe, on its street, and on all."""
+        """(on the lane of a foe, on its street, on all): vehicles an hour around a second."""
         return tuple(hourly_around(times, second) for times in self.lists_of(foe))
 
 

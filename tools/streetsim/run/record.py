@@ -190,8 +190,8 @@ class Recorder(Desk):
             self.take_and_enter(clock, key[0])
 
     def take_and_enter(self, clock: int, car: int) -> None:
-        """Takes a car out and enters its vehicle anew on the next link of its plan; nothing where it is on its last
-        link."""
+        """Takes a car out and enters its vehicle anew on the next link of its plan, with another number, and notes
+        that; nothing where it is on its last link."""
         vehicle = self.sim.vehicle(car)
         rest = list(vehicle.plan[1:])
         self.records.calls += 1
@@ -246,7 +246,8 @@ class Repeater(Desk):
         return self.records
 
     def repeat(self, clock: int, car: int, command: Command) -> None:
-        """Takes a car out and enters its vehicle anew by a command, as the first run did at this clock."""
+        """Takes a car out and enters its vehicle anew by a command, as the first run did at this clock; Fault where
+        that is refused."""
         vehicle = self.sim.vehicle(car)
         if vehicle.state == "cell":
             self.records.edgedata.take(clock, vehicle.place[0])
@@ -256,7 +257,7 @@ class Repeater(Desk):
 
 
 def standing(cells: Iterable[Sequence[int]], length: int) -> tuple[int, int]:
-    """How many vehicles stand without a gap from the stop line on, and the cells that they cover; cells: of a lane's
+    """(how many vehicles stand without a gap from the stop line on, the cells that they cover); cells: of a lane's
     reply, the greatest cell first; length: the lane's cells."""
     count = covered = 0
     for _, cell, speed, *size in cells:

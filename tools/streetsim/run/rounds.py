@@ -95,8 +95,8 @@ class Round(Recorder):
 def giving_way(
     run: Run, mapping: Map, settings: Settings, rounds: int, start: Start, tell: Tell
 ) -> tuple[Run, Yielding]:
-    """The run with signal lines by which its vehicles give way without a light, found in so many rounds, and how many
-    they are. start: starts the program; tell: gets the clock and the last census."""
+    """(the run with signal lines by which its vehicles give way without a light, found in so many rounds; at how many
+    junctions, by how many lines). start: starts the program; tell: gets the clock and the last census."""
     lines, yielding = gaps_of(run, mapping, settings, rounds, start, tell)
     return with_lines(run, lines), yielding
 
@@ -104,8 +104,8 @@ def giving_way(
 def gaps_of(
     run: Run, mapping: Map, settings: Settings, rounds: int, start: Start, tell: Tell
 ) -> tuple[list[tuple[int, Line]], Yielding]:
-    """The signal lines, (clock, line), by which the vehicles of a run give way without a light, and how many they are;
-    an empty list where rounds is 0 or nobody in the map gives way. start, tell: as of giving_way."""
+    """(the signal lines, (clock, line), by which the vehicles of a run give way without a light; at how many junctions,
+    by how many lines); no lines where rounds is 0 or nobody in the map gives way. start, tell: as of giving_way."""
     if not rounds or not mapping.yields:
         return [], Yielding()
     places = places_of(mapping)
@@ -131,9 +131,9 @@ def gaps_of(
 def giving_way_to_scripts(
     run: Run, mapping: Map, rounds: int, program: str | None = None, workers: int = 1, lights: Lights = LISTED
 ) -> tuple[Run, Yielding]:
-    """The run of a script with signal lines by which the vehicles of its file give way without a light, and how many
-    they are. As its end is not known, rounds end when all have arrived, or an hour after the last departure; nobody is
-    rescued. program: None: the usual one; workers: its threads."""
+    """(the run of a script with signal lines by which the vehicles of its file give way without a light; at how many
+    junctions, by how many lines). As its end is not known, rounds end when all have arrived, or an hour after the last
+    departure; nobody is rescued. program: None: the usual one; workers: its threads."""
     settings = Settings(script_end(run), rescue=0, lights=lights)
     return giving_way(run, mapping, settings, rounds, partial(serving, program, run.path, workers), lambda *_: None)
 

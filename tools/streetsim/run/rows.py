@@ -15,8 +15,9 @@ from streetsim.run.records import Records
 
 
 def counts(records: Records, mapping: Map) -> Iterator[Entry]:
-    """The rows of counts.csv, for each period and lane that has a detector: vehicles, vehicles an hour, km/h (empty
-    where nobody passed) and the percentage of time in which its cell is covered."""
+    """The rows of counts.csv, (begin, end, edge, link, SUMO's index of the lane, vehicles, vehicles an hour, km/h,
+    percentage of time in which its cell is covered), for each period and lane that has a detector; km/h is empty where
+    nobody passed."""
     for (link, lane), rows in sorted(records.counts.items()):
         for row in rows.values():
             yield (
@@ -33,16 +34,17 @@ def counts(records: Records, mapping: Map) -> Iterator[Entry]:
 
 
 def edges(records: Records, mapping: Map) -> Iterator[Entry]:
-    """The rows of edges.csv, for each period and edge of which all lanes have a detector, as in SUMO's edgeData; empty
-    texts for what is not known."""
+    """The rows of edges.csv, as edge_rows has their columns, with texts of two decimals, for each period and edge of
+    which all lanes have a detector, as in SUMO's edgeData; empty texts for what is not known."""
     for begin, end, edge, entered, left, *seen in edge_rows(records.counts, records.edgedata, mapping):
         texts = ("" if value is None else f"{value:.2f}" for value in seen)
         yield begin, end, edge, "" if entered is None else entered, left, *texts
 
 
 def trips(records: Records, run: Run, mapping: Map) -> Iterator[Entry]:
-    """The rows of trips.csv, one for each vehicle of the run file, as in SUMO's tripinfo. A trip lasts from the wished
-    departure to arrival; its numbers are empty where it has not arrived."""
+    """The rows of trips.csv, (name, wished departure, arrival, seconds, seconds alone, seconds lost, how many links its
+    plan has, rescues, state), one for each vehicle of the run file, as in SUMO's tripinfo. A trip lasts from the wished
+    departure to arrival; arrival, seconds and seconds lost are empty where it has not arrived."""
     alone, stood = Alone(mapping, run.load.command["dawdle"] / 1000), dwelt(records)
     for place, (name, line, end) in enumerate(zip(names(run, mapping), run.enters, records.ends, strict=True)):
         plan, depart = line.command["plan"], line.command["depart"]
@@ -64,8 +66,8 @@ def dwelt(records: Records) -> Counter[int]:
 
 
 def stops(records: Records, run: Run, mapping: Map) -> Iterator[Entry]:
-    """The rows of stops.csv: each stop of each vehicle, vehicle by vehicle; clocks and seconds are empty where they did
-    not come about."""
+    """The rows of stops.csv, (vehicle, line, stop, edge, lane, arrived, left, seconds, until, seconds late, state):
+    each stop of each vehicle, vehicle by vehicle; clocks and seconds are empty where they did not come about."""
     vehicles, lines = names(run, mapping), lines_of(mapping.kinds, len(run.enters))
     for one in sorted(records.stops, key=lambda one: (one.visit.vehicle, one.visit.at)):
         visit, link = one.visit, mapping.links[one.visit.link]
@@ -88,15 +90,16 @@ def names(run: Run, mapping: Map) -> list[str]:
 
 
 def queues(records: Records, mapping: Map) -> Iterator[Entry]:
-    """The rows of queues.csv, for each poll and lane where vehicles stand at the stop line or before works: how many,
-    and the metres that they cover."""
+    """The rows of queues.csv, (clock, edge, SUMO's index of the lane, vehicles, metres that they cover, before what),
+    for each poll and lane where vehicles stand at the stop line or before works."""
     for clock, link, lane, count, metres, before in records.queues:
         at = mapping.links[link]
         yield clock, at.edge, at.lanes[lane], count, round(metres, 1), before
 
 
 def summary(records: Records) -> Iterator[Entry]:
-    """The rows of summary.csv, one for each census."""
+    """The rows of summary.csv, (clock, admitted, waiting to enter, on cells, in junctions, arrived, taken out), one for
+    each census."""
     for census in records.censuses:
         yield census.clock, census.admitted, census.waiting, census.cells, census.buffers, census.arrived, census.taken
 

@@ -68,6 +68,7 @@ def watch(made: Recorded, clocks: Sequence[int], lanes: Sequence[Place]) -> Iter
     what it sees to a file, which is removed when it is read."""
 
     def look(part: tuple[int, Sequence[int]], _tell: object) -> str:
+        """Makes the further run of one part, (its place, clocks); gives the path of the file with its frames."""
         place, clocks = part
         path = f"{made.folder}/watched-{place}.jsonl"
         with made.serving() as sim, open_text(path, "w") as file:

@@ -50,7 +50,7 @@ class Works:
             yield from self.merges.told(clock, link, (seen[link, 0], seen[link, 1]))
 
     def seen(self, links: Iterable[int], lanes: Look) -> dict[Place, Lane]:
-        """What stands on all lanes of some links, empty lanes among them."""
+        """By (link, lane) what stands on all lanes of some links, empty lanes among them."""
         places = [(link, lane) for link in sorted(links) for lane in range(len(self.mapping.links[link].lanes))]
         found = lanes(places) if places else {}
         return {place: found.get(place, NOTHING) for place in places}

@@ -44,9 +44,9 @@ def is_driven(of: Settings | Giving) -> bool:
 
 
 def gaps(session: Session, signals: bytes, seed: int) -> tuple[list, Yielding]:
-    """The signal lines, (clock, line), by which vehicles of a session give way without a light, and how many they are;
-    found by runs with a seed and some signals of its lights, as lines in bytes. None of them where the session has no
-    giving."""
+    """(the signal lines, (clock, line), by which vehicles of a session give way without a light; at how many junctions,
+    by how many lines), found by runs with a seed and some signals of its lights, as lines in bytes. None of them where
+    the session has no giving."""
     giving = session.giving
     if giving is None:
         return [], Yielding()

@@ -50,6 +50,7 @@ class Workers:
     result is fetched; the futures used here do not."""
 
     def __init__(self, client: Cluster) -> None:
+        """client: of the cluster."""
         self.client = client
 
     def submit(self, function: Function, *arguments: Any) -> Any:

@@ -19,6 +19,7 @@ class Summed(Client):
     """A client that keeps the SHA-256 of all replies."""
 
     def __init__(self, *words: Any, **more: Any) -> None:
+        """As Client takes them."""
         super().__init__(*words, **more)
         self.sum = hashlib.sha256()
 
@@ -35,6 +36,7 @@ class Counted(Recorder):
     own, and nobody is rescued."""
 
     def __init__(self, sim: Client, run: Run, mapping: Map, settings: Settings) -> None:
+        """sim: the program, with nothing loaded; settings: its end, and what is driven or made in it."""
         super().__init__(sim, run, mapping, settings, None, lambda *_: None)
 
     def record(self) -> Records:

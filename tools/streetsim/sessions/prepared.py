@@ -134,7 +134,8 @@ def replies(session: Session, signals: bytes, seed: int, tail: bytes) -> bytes:
 
 def vehicle_seconds(session: Session, signals: bytes, seed: int) -> float:
     """The seconds from wished departure to arrival, or to the end, summed over the vehicles of a run with some signals
-    (lines in bytes) and a seed; reckoned from counts each OFTEN seconds, arrivals spread evenly between them."""
+    (lines in bytes) and a seed; reckoned from counts each OFTEN seconds, arrivals spread evenly between them. Fault as
+    of replies."""
     text = replies(session, signals, seed, session.counting)
     arrived = [0, *map(int, ARRIVED.findall(text))]
     if len(arrived) != len(session.clocks):
@@ -148,7 +149,8 @@ def vehicle_seconds(session: Session, signals: bytes, seed: int) -> float:
 
 
 def outcome(session: Session, signals: bytes, seed: int) -> Outcome:
-    """What a run with some signals (lines in bytes) and a seed gave, by asking for each vehicle at its end."""
+    """What a run with some signals (lines in bytes) and a seed gave, by asking for each vehicle at its end. Fault as of
+    replies."""
     text = replies(session, signals, seed, session.asking)
     count, until = len(session.departs), session.clocks[-1]
     last = [json.loads(line) for line in text.splitlines()[-count:]] if count else []

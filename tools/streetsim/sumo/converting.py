@@ -27,7 +27,7 @@ Made = tuple[Network, list[tuple[str, int]], list[Command], list[str]]
 
 
 def run_and_map(made: Made, report: Report) -> tuple[list[str], Map]:
-    """The lines of a run as texts, and its map, of what converted made; Fault where a limit of the simulator is
+    """(the lines of a run as texts, its map), of what converted made; Fault where a limit of the simulator is
     passed."""
     network, lights, commands, names = made
     mapping = map_of(network, lights, names, report)
@@ -39,7 +39,7 @@ def run_and_map(made: Made, report: Report) -> tuple[list[str], Map]:
 
 
 def converted(net: SumoNet, types: Types, vehicles: Sequence[Vehicle], options: Options, report: Report) -> Made:
-    """The network, the lights with their nodes, the commands and the vehicles' names of a run; vehicles: in order of
+    """(the network, the lights with their nodes, the commands, the vehicles' names) of a run; vehicles: in order of
     departure. What is left out or made otherwise than in SUMO is reported."""
     if options.slow:
         net, vehicles = slowed(net, vehicles, options.slow, report)

@@ -239,7 +239,7 @@ def unread(element: Element) -> tuple[tuple[str, str], ...]:
 def enters(
     vehicles: Iterable[Vehicle], net: SumoNet, network: Network, types: Types, report: Report
 ) -> tuple[list[Command], list[Vehicle]]:
-    """The enter commands, and the vehicles that they are of, in one order. Vehicles that cannot drive, and stops that
+    """(the enter commands, the vehicles that they are of), in one order. Vehicles that cannot drive, and stops that
     cannot be made, are left out and reported by reason; the network gets the stops that can (network.visits)."""
     sizes, stops = Sizes(types), Stops(net, types, report)
     commands: list[Command] = []

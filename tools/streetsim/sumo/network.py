@@ -355,8 +355,8 @@ def closing_lanes(net: SumoNet, names: Iterable[str]) -> dict[str, set[int]]:
 def bundles_of(
     edges: Sequence[Edge], following: Targets, waiting: Targets, closing: Mapping[str, Collection[int]], report: Report
 ) -> dict[str, list[list[Lane]]]:
-    """The lanes of each edge in groups of one or two, which become links, from the right. Where turn lanes as links of
-    their own would make too many links, they are joined with the lanes beside them, which is reported."""
+    """By edge its lanes in groups of one or two, which become links, from the right. Where turn lanes as links of their
+    own would make too many links, they are joined with the lanes beside them, which is reported."""
     bundles = {edge.name: parallel(edge, following, waiting, closing.get(edge.name, ())) for edge in edges}
     if sum(map(len, bundles.values())) <= limits.LINKS:
         return bundles
@@ -425,9 +425,9 @@ def link_of(
 
 
 def limit_and_cells(lane: Lane, dawdle: float, in_ring: bool, free_limits: range = FREE_LIMITS) -> tuple[int, int]:
-    """The limit of a lane in cells a step, one of free_limits, and its number of cells. dawdle: the chance, 0 to 1, to
-    go on by a cell less. Where no limit is near its speed it has so many cells that one vehicle alone takes as long as
-    in SUMO; in a ring it keeps its length, and the seconds are made up for at its junctions."""
+    """(limit of a lane in cells a step, one of free_limits; its number of cells). dawdle: the chance, 0 to 1, to go on
+    by a cell less. Where no limit is near its speed it has so many cells that one vehicle alone takes as long as in
+    SUMO; in a ring it keeps its length, and the seconds are made up for at its junctions."""
     wished = lane.speed / limits.CELL_METRES + dawdle
     limit = min(free_limits, key=lambda cells: abs(cells - wished))
     free = (limit - dawdle) * limits.CELL_METRES

@@ -96,7 +96,7 @@ def way_of(one: Connection, net: SumoNet) -> list[Any]:
 
 
 def lanes_before(net: SumoNet) -> dict[tuple[str, int], list[Connection]]:
-    """The connections that lead to each lane, (edge, index)."""
+    """By lane, (edge, index), the connections that lead to it."""
     found = defaultdict(list)
     for one in net.connections:
         found[one.target, one.target_lane].append(one)

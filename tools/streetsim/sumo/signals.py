@@ -125,7 +125,7 @@ def signals(
 ) -> list[tuple[str, Command]]:
     """The signal commands, (light, command): one for each node with a light, or one for each phase of a program that
     does not fit in one plan. movements_at: as movements gives them; ends: by light the last clock at which it shows
-    this program, where it changes by time of day."""
+    this program, where it changes by time of day. What is shown otherwise than in SUMO is reported."""
     made = []
     for node, turns in sorted(turns_at(network).items()):
         lights = {turn.light for *_, turn in turns if turn.light}

@@ -67,7 +67,7 @@ def parts_of(slow: Slow, metres: float) -> list[Part]:
 def slowed(
     net: SumoNet, vehicles: Sequence[Vehicle], texts: Iterable[str], report: Report
 ) -> tuple[SumoNet, list[Vehicle]]:
-    """The network with edges in parts, and the vehicles with these parts in their routes. texts: limits,
+    """(the network with edges in parts, the vehicles with these parts in their routes). texts: limits,
     EDGE:METRES-METRES:KMH, one for an edge at most; Fault where one cannot be had."""
     made, parts = net, dict[str, list[Part]]()
     for slow in map(slow_of, texts):

@@ -267,8 +267,8 @@ def called(stop: Stop) -> str:
 
 
 def cells_of(link: Link, spot: Spot) -> tuple[int, int] | None:
-    """The first and the last cell in which the front of a vehicle stands at a stop: one cell always lies beyond it,
-    which is closed meanwhile. None where the link has fewer than two cells."""
+    """(first, last) cell in which the front of a vehicle stands at a stop: one cell always lies beyond it, which is
+    closed meanwhile. None where the link has fewer than two cells."""
     size = link.metres / link.cells
     if link.cells < 2:
         return None

@@ -118,7 +118,8 @@ class Types:
             self.read_mix(path, element)
 
     def read_type(self, path: FilePath, element: Element) -> None:
-        """Adds a type; what it does not tell is as SUMO's defaults for its class."""
+        """Adds a type; what it does not tell is as SUMO's defaults for its class. Fault where another one has its name,
+        or SUMO has no such class."""
         vclass = class_of(path, element)
         length, gap = BY_CLASS.get(vclass, USUAL)
         length = optional(path, element, "length", above_zero(number), length)

@@ -23,6 +23,7 @@ class Listeners:
     """The listeners of a run, by number."""
 
     def __init__(self) -> None:
+        """None yet; numbers begin with 1."""
         self.made = 0
         self.here: dict[int, StepListener] = {}
 

@@ -18,7 +18,8 @@ class Quiet:
         self.name, self.calls, self.told = name, calls, False
 
     def __getattr__(self, call: str) -> Callable[..., None]:
-        """A call that does nothing, where it is one of the domain's; NotHere for others."""
+        """A call that does nothing, where it is one of the domain's; NotHere for others, AttributeError for a name that
+        begins with two underscores."""
         if call.startswith("__"):
             raise AttributeError(call)
         if call not in self.calls:

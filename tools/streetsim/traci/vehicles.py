@@ -89,11 +89,12 @@ class Vehicle(VehicleCalls[Session], Placed):
     # Where it is
 
     def getSpeedWithoutTraCI(self, name: str) -> float:
-        """As getSpeed: no call changes speeds."""
+        """As getSpeed, metres a second: no call changes speeds."""
         return self.getSpeed(name)
 
     def getAcceleration(self, name: str) -> float:
-        """Metres a second squared in the last step, by speeds in whole cells of 7.5 m; 0 in its first step."""
+        """Metres a second squared in the last step, by speeds in whole cells of 7.5 m; 0 in its first step, SUMO's
+        "nowhere" before it departs."""
         place = self.place(name)
         if place is None:
             return NOWHERE
@@ -101,7 +102,8 @@ class Vehicle(VehicleCalls[Session], Placed):
         return (place.speed - before.speed) * METRES if before is not None else 0.0
 
     def getPosition(self, name: str) -> tuple[float, float]:
-        """The point (x, y), in metres, of its front; in a junction the junction's point."""
+        """The point (x, y), in metres, of its front; in a junction the junction's point; SUMO's "nowhere" for both
+        before it departs."""
         place, mapping = self.place(name), self.now().map
         if place is None:
             return NOWHERE, NOWHERE
@@ -112,7 +114,8 @@ class Vehicle(VehicleCalls[Session], Placed):
         return along(link.shape, (place.front + 1) / link.cells)
 
     def getAngle(self, name: str) -> float:
-        """Degrees clockwise from north; in a junction those at the end of the street from which it came."""
+        """Degrees clockwise from north; in a junction those at the end of the street from which it came; SUMO's
+        "nowhere" before it departs."""
         place = self.place(name)
         if place is None:
             return NOWHERE
@@ -120,7 +123,8 @@ class Vehicle(VehicleCalls[Session], Placed):
         return heading(link.shape, (place.cell + 1) / link.cells if place.cell is not None else 1.0)
 
     def getDistance(self, name: str) -> float:
-        """Metres driven since it departed, those on SUMO's lanes inside junctions among them."""
+        """Metres driven since it departed, those on SUMO's lanes inside junctions among them; SUMO's "nowhere" before
+        it departs."""
         place = self.place(name)
         if place is None:
             return NOWHERE

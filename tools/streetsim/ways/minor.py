@@ -36,6 +36,6 @@ class Minor:
 
 
 def number_of(graph: Graph, way: tuple[str, str]) -> int:
-    """The number of the movement from an edge to a next one, of their names."""
+    """The number of a movement in the graph; way: (edge, next edge), by their names."""
     edge, following = way
     return graph.movement_of[graph.number[edge], graph.number[following]]

@@ -134,7 +134,7 @@ class Router:
         return next((end for begin, end in self.shut.get(what, ()) if begin <= clock < end), clock)
 
     def entered(self, way: Way, clock: float) -> float:
-        """The clock at which one comes to the second of two edges, who without works would reach it at a clock."""
+        """The clock at which one comes to the second edge of a way, who without works would reach it at a clock."""
         return max(self.opened(way[1], clock), self.opened(way, clock))
 
     def met(self, path: Path, clock: float) -> int | None:
@@ -156,7 +156,7 @@ class Router:
         return self.clocks(wish.path, wish.clock)[-1] - wish.clock if wish.path else FAR
 
     def found(self, wish: Wish) -> Found:
-        """The best path of a trip with its seconds, and the seconds of the trip's own path."""
+        """The best path of a trip with its seconds, and the seconds of the trip's own path (FAR: it has none)."""
         path, least = self.search(wish.origin, wish.target, wish.clock)
         return Found(wish.trip, path, least, self.own(wish))
 

@@ -54,7 +54,7 @@ def greens(graph: Graph, mapping: Map, command: dict) -> Iterator[tuple[tuple[in
 
 
 def edges_of(graph: Graph, mapping: Map, link: int, following: int) -> tuple[int, int]:
-    """The numbers of the edges of two links."""
+    """(edge of a link, edge of the next link), by their numbers in the graph."""
     return graph.number[mapping.links[link].edge], graph.number[mapping.links[following].edge]
 
 

@@ -63,8 +63,8 @@ def no_way(graph: Graph, trip: Trip) -> Fault:
 
 
 def delayed(graph: Graph, free: Sequence[float], loads: Sequence[float]) -> list[float]:
-    """The seconds of each movement under its load (volume by capacity): its seconds without traffic, plus its own
-    delay, or plus the mean delay of the used movements of its edge where that is more."""
+    """The seconds of each movement, a list, under its load (volume by capacity): its seconds without traffic (free),
+    plus its own delay, or plus the mean delay of the used movements of its edge where that is more."""
     delays = [min(MOST_DELAY, STEEPNESS * seconds * load**POWER) for seconds, load in zip(free, loads, strict=True)]
     of_edge = defaultdict(list)
     for (edge, _), delay, load in zip(graph.movements, delays, loads, strict=True):

@@ -52,6 +52,7 @@ class TripDemand(Demand):
     begins and ends."""
 
     def __init__(self, net: SumoNet, types: Types, seed: int, report: Report) -> None:
+        """As Demand takes them; seed: of the draws of flows and of routes from distributions."""
         super().__init__(net, types, seed, report)
         self.without: set[str] = set()  # vehicles without a route
         self.told_types: list[str] = []  # vehicle types as they stand in the files
@@ -103,8 +104,8 @@ class TripDemand(Demand):
             self.without.add(name)
 
     def ends(self, path: FilePath, element: ElementTree.Element) -> tuple[str, str]:
-        """The edges where a trip begins and ends; Fault where it does not name them (or, without them, stops), names a
-        via, or the network does not have them."""
+        """(edge where a trip begins, edge where it ends); Fault where it does not name them (or, without them, stops),
+        names a via, or the network does not have them."""
         if element.get("via"):
             raise Fault(f"{told(path, element)}: via is not routed here; compute this route with duarouter")
         ends = [element.get("from", ""), element.get("to", "")]
@@ -122,8 +123,8 @@ class TripDemand(Demand):
         return ends[0], ends[1]
 
     def by_stops(self, path: FilePath, element: ElementTree.Element, ends: Sequence[str]) -> tuple[str, str]:
-        """The edges where a trip from stop to stop begins and ends: those of its first and last stop, in place of an
-        empty text in ends. Fault where these are one edge, or not kept."""
+        """(edge where a trip from stop to stop begins, edge where it ends): those of its first and last stop, in place
+        of an empty text in ends. Fault where these are one edge, or not kept."""
         edges = [edge_of(stop, self.net) for stop in stops_in(path, element, self.net)]
         found = ends[0] or edges[0], ends[1] or edges[-1]
         if found[0] == found[1] or not all(name in self.net.edges for name in found):
@@ -142,8 +143,8 @@ class Trips:
 def read_trips(
     paths: Iterable[str], net: SumoNet, graph: Graph, types: Types, options: Options, report: Report
 ) -> Trips:
-    """The trips of files, in order of departure. Those that cannot drive are left out and reported by reason; Fault
-    where none is left."""
+    """The trips of files (their paths), in order of departure, and the types that these files tell. Those that cannot
+    drive are left out and reported by reason; Fault where none is left."""
     demand = TripDemand(net, types, options.seed, report)
     for path in paths:
         demand.read(path)
@@ -218,7 +219,8 @@ def write_routes(path: str, trips: Trips, graph: Graph) -> None:
 
 
 def attributes_in(trip: Trip) -> dict[str, str]:
-    """The attributes of a trip in a file of routes; it departs on the best lane where its own file tells none."""
+    """The attributes, {name: text}, of a trip in a file of routes; it departs on the best lane where its own file tells
+    none."""
     kind = {"type": trip.type} if trip.type != DEFAULT else {}
     line = {"line": trip.line} if trip.line else {}
     return {"id": trip.name, "depart": f"{trip.depart:.2f}", **kind, "departLane": "best", **line, **dict(trip.more)}

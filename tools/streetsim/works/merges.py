@@ -29,8 +29,8 @@ class Merges:
         self.links: dict[int, Closed] = {}
 
     def before(self, command: Command) -> list[Command]:
-        """The commands to send ahead of a command of others, so that no closure of merging is in its way; empty for
-        commands that close and reopen nothing here."""
+        """The commands to send ahead of a command of others, so that no closure of merging is in its way; merging on
+        its link then begins anew. Empty for commands that close and reopen nothing here."""
         closed = self.links.get(command["link"]) if command["cmd"] in CLOSING else None
         return [change.on(command["link"]) for change in closed.merging.end()] if closed else []
 

@@ -66,7 +66,7 @@ class Change:
     last: int
 
     def on(self, link: int) -> dict[str, str | int]:
-        """The close or reopen command, for a link."""
+        """The command for a link, {"cmd", "link", "lane", "first", "last"}: close or reopen."""
         return {"cmd": self.command, "link": link, "lane": self.lane, "first": self.first, "last": self.last}
 
 

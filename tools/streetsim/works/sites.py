@@ -46,8 +46,8 @@ class Asking:
 def with_works(
     run: Run, mapping: Map, map_path: FilePath, works: list[Works], asking: Asking = Asking()
 ) -> tuple[Run, Map, list[str]]:
-    """The run and its map with works, and the texts to tell. They are imported anew where lanes must be joint or edges
-    cut; Fault where that cannot be done."""
+    """(the run with works, its map, the texts to tell). They are imported anew where lanes must be joint or edges cut;
+    map_path: from which the imported files are found. Fault where that cannot be done."""
     told: list[str] = []
     if asking.limit and works:
         slow = limits_of(works, mapping, asking.limit)
@@ -71,8 +71,8 @@ def with_works(
 
 
 def closed(run: Run, mapping: Map, works: list[Works], how: str, searched: bool = False) -> tuple[Run, Map, list[str]]:
-    """The run with works on a map whose lanes are joint where they must be, the same map, and the texts on those who
-    lose their only lane. how: of movements.LOST; searched: whether ways round are searched for them."""
+    """(the run with works on a map whose lanes are joint where they must be, the same map, the texts on those who lose
+    their only lane). how: of movements.LOST; searched: whether ways round are searched for them."""
     sites = sites_of(works, mapping)
     closures = closures_at(sites)
     lost = lost_movements(run, mapping, closures)
@@ -97,7 +97,7 @@ def lines_of(sites: Sequence[Site]) -> list[tuple[int, Line]]:
 
 
 def line_of(name: str, site: Site) -> Line:
-    """The close or reopen of a place of works."""
+    """The line of a place of works; name: close or reopen."""
     command = {"cmd": name, "link": site.link, "lane": site.lane, "first": site.cells[0], "last": site.cells[1]}
     return Line(0, json.dumps(command), command)
 
@@ -207,7 +207,8 @@ def named_in_parts(mapping: Map, anew: Map) -> Json:
 
 @contextmanager
 def imported_for(what: str, why: str) -> Iterator[None]:
-    """Has a Fault of an import name what it was for. why: a text with a place for the fault; empty: the usual words."""
+    """A context in which a Fault of an import is raised anew with what it was for (what). why: a text with a place for
+    the fault; empty: the usual words."""
     try:
         yield
     except Fault as fault:
