@@ -31,7 +31,7 @@ ANGLES = {  # of the arms, in degrees from the east
 # By title: shape, vehicles an hour from each arm, and of four arms the shares that turn left from these, and right.
 SOME = [(520, 0.2, 0.2), (430, 0.4, 0.4), (400, 0.6, 0.6), (430, 0.1, 0.5)]
 ROWS = {
-    f"crosses, {level:.0%} of 400 to 520 an hour from both sides": [
+    f"crosses, {level * 100:.0f} % of 400 to 520 an hour from both sides": [
         ("equal", dict(w=level * most, e=level * most, n=200, s=200), dict(w=one, e=other, n=one, s=other), 0.15)
         for most, one, other in SOME
     ]
