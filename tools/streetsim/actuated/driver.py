@@ -104,7 +104,8 @@ class Controller:
                 yield first, self.name, row.phase, state, last - first, why
 
     def due(self) -> int:
-        """The next clock at which it has something to look at or to send."""
+        """The next clock at which it has something to look at or to send; the greatest clock where a plan of the run's
+        own holds."""
         return int(min(self.logic.due, self.wraps)) if self.stopped == inf else limits.CLOCK
 
 

@@ -73,7 +73,7 @@ class Lights:
 
     @cached_property
     def meters(self) -> int:
-        """How many detectors the driven lights need."""
+        """How many detectors the driven lights need, with their programs that come into force later."""
         return sum(len(one.cells) for one in (*self.driven, *self.idle))
 
     @cached_property

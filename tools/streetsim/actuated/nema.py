@@ -118,7 +118,7 @@ class Nema:
         return now + 1
 
     def greens(self) -> tuple[tuple[int, bool], ...]:
-        """Of both rings the number of the phase, and whether it is green."""
+        """For each of both rings (number of the phase, whether it is green)."""
         return tuple((one.phase.name, one.is_green) for one in self.active)
 
     def told(self, until: int) -> Iterator[tuple[Ended, str]]:

@@ -107,8 +107,9 @@ def fixed_light(light: str, kept: Mapping[str, Any], seen: int) -> Fixed:
 
 
 def bounded(kept: Sequence[Any], seen: int) -> Phase:
-    """A phase with its bounds in seconds: those of the file, else a green may be as short as half its seconds (LEAST at
-    least), and as long as its own and the seconds that a vehicle is seen before the stop line."""
+    """A phase, as kept ([seconds, state, least or none, greatest or none]), with its bounds in seconds: those of the
+    file, else a green may be as short as half its seconds (LEAST at least), and as long as its own and the seconds
+    (seen) that a vehicle is seen before the stop line."""
     seconds, state, least, most, *_ = kept
     phase = Phase(state, round(seconds), round(seconds), round(seconds))
     if not phase.is_green:

@@ -138,12 +138,14 @@ class Stopping:
             self.closed |= {(lane, cell) for cell in cells}
 
     def near(self, bus: Seen, ahead: Sequence[Seen], last: int) -> None:
-        """Closes the cell behind the cell last, where the bus would pass that in the next step."""
+        """Closes the cell beyond the cell last, where the bus would pass that in the next step and nobody stands there.
+        ahead: vehicles before it on its lane."""
         if min(bus.speed + 1, self.road.limit) > last - bus.cell and rear_of(ahead) > last + 1:
             self.closed.add((self.lane, last + 1))
 
     def keep(self, bus: Seen, ahead: Sequence[Seen], other: Sequence[Seen]) -> None:
-        """Closes a cell of the other lane where the bus would change to it, so that it stays on its own."""
+        """Closes a cell of the other lane where the bus would change to it, so that it stays on its own. ahead, other:
+        vehicles before it on its lane, and on the other lane."""
         if self.road.lanes == 1:
             return
         shut = min((cell for lane, cell in self.closed if lane == self.lane), default=bus.cell + SIGHT + 1)

@@ -33,7 +33,7 @@ def vehicles_with_ways(
         free, capacity = times_without_routes(net, graph, replace(options, joint=(), led=(), slow=()))
 
         def search(wishes: Sequence[Wish], costs: Costs) -> list[Found]:
-            """The shortest way of each wish by some costs, in order."""
+            """What a router finds for each wish by some costs, sorted by target."""
             router = Router(graph, costs)
             return [router.found(wish) for wish in in_order(wishes)]
 

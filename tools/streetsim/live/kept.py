@@ -96,7 +96,8 @@ class KeptEngine(Engine):
             return self.told(lines)
 
     def told(self, lines: Iterable[bytes]) -> list[bytes]:
-        """The replies to lines; those that the file has already are done again, not kept twice."""
+        """The replies to lines; those that the file has already are done again, not kept twice. Fault where others than
+        those of the file change something before all of these are done."""
         assert self.client is not None
         replies, left = [], list(lines)
         while left and self.again < len(self.kept):

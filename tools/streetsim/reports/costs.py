@@ -55,8 +55,9 @@ Means = dict[int, tuple[int, float, float]]  # by seed: trips that arrived, thei
 
 
 def means_by_class(runs: Runs) -> dict[str, Means]:
-    """By vehicle class, as SUMO names it, the trips of a plan's runs; the delay of a trip is what it took longer than
-    alone on its way, without seconds at stops. Classes of which nobody arrived are left out."""
+    """{vehicle class, as SUMO names it: {seed: (trips that arrived, their mean seconds, their mean delay)}} of a plan's
+    runs; the delay of a trip is what it took longer than alone on its way, without seconds at stops. Classes of which
+    nobody arrived are left out."""
     found: defaultdict[str, Means] = defaultdict(dict)
     for seed, folder in runs.folders.items():
         trips: defaultdict[str, list[tuple[int, float]]] = defaultdict(list)

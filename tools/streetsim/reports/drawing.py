@@ -51,8 +51,8 @@ def map_picture(
 
 
 def placing(mapping: Map) -> tuple[Callable[..., str], float]:
-    """A function that gives where a point (x, y) of a map lies in a picture, as 'across,down' in pixels, moved by a
-    shift of pixels; and how high the picture is."""
+    """(a function that gives where a point (x, y) of a map lies in a picture, as 'across,down' in pixels, moved by a
+    shift of pixels; how high the picture is, in pixels)."""
     points = [point for link in mapping.links for point in link.shape]
     (left, right), (low, high) = ((min(values), max(values)) for values in zip(*points, strict=True))
     scale = min((WIDE - 60) / max(1.0, right - left), (MOST_HIGH - 60) / max(1.0, high - low))

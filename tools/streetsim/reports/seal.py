@@ -77,7 +77,7 @@ def sum_of(content: bytes) -> str:
 
 
 def packed(content: bytes) -> str:
-    """Bytes as text that may stand in a page."""
+    """Bytes as text that may stand in a page: compressed by zlib, in base 64."""
     return base64.b64encode(zlib.compress(content, 9)).decode()
 
 

@@ -161,7 +161,7 @@ def red_seconds(
 
 def seconds_later(foe: Foe, second: float, held: Held) -> float:
     """How many seconds later one is out of the way who passes at a second, as it gives way too and its gap is of the
-    round before; none where it is held up, as it counts as it wishes to pass then."""
+    round before; 0 where it does not give way, or is held up, as it counts as it wishes to pass then."""
     turn = foe.link, foe.lane, foe.next
     return LATER if turn in held and second // AROUND not in held[turn] else 0.0
 
@@ -178,8 +178,9 @@ def near_passings(waiting: Waiting, times: Times, start: int, length: int) -> by
 
 
 def keep_pace(red: bytearray, pace: Pace, comes: Sequence[float], near: Sequence[int], start: int) -> None:
-    """Makes seconds red so that those who have to stop follow each other as slowly as in SUMO, where somebody is near
-    (a byte a second, by near_passings). comes: the seconds at which others come, rising."""
+    """Makes seconds of red red so that those who have to stop follow each other as slowly as in SUMO, where somebody is
+    near (a byte a second, by near_passings). comes: the seconds at which others come, rising; start: the clock of the
+    first byte."""
     at, owed = 0, 0.0
     while at < len(red):
         period = pace.period(hourly_around(comes, at + start)) + owed

@@ -20,8 +20,8 @@ class Watcher(Desk):
     """Repeats a run up to the last of some clocks, and looks at lanes at each of these."""
 
     def look(self, rescued: Sequence[Rescue], clocks: Iterable[int], lanes: Sequence[Place]) -> Iterator[Frame]:
-        """What stands on lanes at each clock, as in a folder's polls. rescued: (clock, car, enter command) of the run
-        that is repeated; clocks: rising."""
+        """What stands on lanes at each clock, a frame each, as `frame` gives it. rescued: (clock, car, enter command)
+        of the run that is repeated; clocks: rising."""
         self.begin(Asking(0, [], 0))
         self.owners: list[int] = []  # the vehicle of the file by car number
         left, clock = list(reversed(rescued)), self.start
@@ -40,7 +40,8 @@ class Watcher(Desk):
         super().enter(last)
 
     def frame(self, clock: int, lanes: Iterable[Place]) -> Frame:
-        """What stands on some lanes at a clock, as in a folder's polls; closed stretches are left out."""
+        """What stands on some lanes at a clock, as in a folder's polls: {"clock", "lanes": [[link, lane, cells, buffer,
+        []]]}, vehicles by their numbers in the file; closed stretches are left out."""
         shown = []
         for (link, lane), reply in self.lanes(lanes).items():
             cells = [(self.owners[car], *rest) for car, *rest in reply.cells]

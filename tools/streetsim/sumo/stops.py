@@ -42,7 +42,7 @@ class Stop:
     told: tuple[tuple[str, str], ...] = ()  # its attributes in the file
 
     def text(self) -> str:
-        """Its element, as a file of routes has it."""
+        """Its element as XML text, as a file of routes has it."""
         until = {} if self.until is None else {"until": str(self.until)}
         return f"<stop{attributes_of({**dict(self.told), **until})}/>"
 

@@ -191,7 +191,7 @@ class Sizes:
         self.too_long: Counter[str] = Counter()  # vehicles by type
 
     def of(self, name: str) -> int:
-        """The cells, 1 to the most, that the next vehicle of a type takes."""
+        """The cells, 1 to the most, that the next vehicle of a type takes; it is counted."""
         metres = self.types.metres[name]
         wished = min(limits.SIZE, max(1.0, metres / limits.CELL_METRES)) + self.rests[name]
         size = int(wished + 0.5)

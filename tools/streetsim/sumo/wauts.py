@@ -20,7 +20,7 @@ Day = list[tuple[int, str]]  # the clocks from which on a light shows a program;
 
 
 def read_waut(path: FilePath, element: Element, net: SumoNet) -> None:
-    """Reads a <WAUT>, whose clocks count from its refTime."""
+    """Keeps a <WAUT> in the network, its clocks counted from its refTime."""
     name = attribute(path, element, "id")
     begin, period = (
         attribute(path, element, key, at_least_zero(seconds)) if element.get(key) else 0.0
@@ -32,7 +32,8 @@ def read_waut(path: FilePath, element: Element, net: SumoNet) -> None:
 
 
 def read_waut_junction(path: FilePath, element: Element, net: SumoNet, report: Report) -> None:
-    """Reads which light a WAUT is of. Fault where the network has not this WAUT, read before, or no such light."""
+    """Adds a light to its WAUT in the network. Fault where the network has not this WAUT, read before, or no such
+    light. A procedure other than at once is reported."""
     name, light = (attribute(path, element, key) for key in ("wautID", "junctionID"))
     if name not in net.wauts:
         raise Fault(f"{told(path, element)}: there is no WAUT {name!r} before it")
@@ -65,7 +66,8 @@ def days_of(net: SumoNet, begin: int, last: int, report: Report) -> dict[str, Da
 
 
 def day_of(waut: Waut, begin: int, last: int) -> Day:
-    """The programs of a WAUT from a clock to another one; those that follow an equal one are left out."""
+    """The programs of a WAUT from a clock to another one, [(clock, program)]; those that follow an equal one are left
+    out."""
     changes = takewhile(lambda one: one[0] <= last, changes_of(waut, begin))
     found: Day = [(begin, waut.start)]
     for clock, program in changes:

@@ -172,8 +172,8 @@ def waiting_share(own: Sequence[Movement], other: Sequence[Movement]) -> float:
 
 def set_lane(movement: Movement, movements: Collection[Movement]) -> None:
     """Sets what a movement knows of its lane, of all movements of the junction: who shares it, how many lanes its edge
-    has, and in how many parts its seconds are shown (two where others on its lane need not wait, at an edge of several
-    lanes)."""
+    has, in how many parts its seconds are shown (two where others on its lane need not wait, at an edge of several
+    lanes), the share that waits for gaps, and the seconds between those who do not."""
     movement.lanes = len({other.lane for other in movements if other.way[0] == movement.way[0]})
     movement.sharing = [other for other in movements if other.lane == movement.lane]
     movement.parts = 2 if movement.lanes > 1 and any(one.flow and not one.runs for one in movement.sharing) else 1

@@ -169,8 +169,8 @@ class Vehicle(VehicleCalls[Session], Placed):
         return speed_of(self.kind_of(name))
 
     def getAllowedSpeed(self, name: str) -> float:
-        """The limit of its lane in SUMO's file, metres a second, or the greatest speed of its type where that is
-        less."""
+        """The limit of its lane in SUMO's file, metres a second, or the greatest speed of its type where that is less;
+        in a junction, and before it departs, that of its type alone."""
         place = self.place(name)
         lane = self.getLaneID(name)
         limit = self.now().facts.lanes[lane].speed if place is not None and place.cell is not None else FASTEST
@@ -224,7 +224,7 @@ class Vehicle(VehicleCalls[Session], Placed):
 
     def getDrivingDistance(self, name: str, edgeID: str, pos: float, laneIndex: int = 0) -> float:
         """Metres along its way to a place on an edge, pos metres from the edge's begin; SUMO's value for "nowhere"
-        where it is not ahead. laneIndex has no effect."""
+        where it is not ahead, and before the vehicle departs. laneIndex has no effect."""
         place, session = self.place(name), self.now()
         if place is None:
             return NOWHERE
@@ -244,7 +244,7 @@ class Vehicle(VehicleCalls[Session], Placed):
     def getLeader(self, name: str, dist: float = 0.0) -> tuple[str, float] | None:
         """(vehicle, metres between the two, without the gap that standing vehicles keep) of the next one ahead on its
         way, within the metres that it needs to brake, or within dist where that is more. None where there is nobody,
-        or it is itself in a junction. One ahead in a junction counts as at its begin."""
+        before it departs, and where it is itself in a junction. One ahead in a junction counts as at its begin."""
         place = self.place(name)
         if place is None or place.cell is None:
             return None
@@ -286,7 +286,7 @@ class Vehicle(VehicleCalls[Session], Placed):
 
     def getFollower(self, name: str, dist: float = 0.0) -> tuple[str, float]:
         """(vehicle, metres between the two, without the gap that standing vehicles keep) of the next one behind it on
-        its lane; ("", -1) where there is nobody, and in a junction. dist has no effect."""
+        its lane; ("", -1) where there is nobody, before it departs, and in a junction. dist has no effect."""
         car, place = self.where(name)
         if car is None or place is None or place.cell is None:
             return "", -1.0

@@ -34,8 +34,9 @@ def periods_of(begin: int, end: int, start: int, seconds: int) -> Iterator[Perio
 
 
 def rows(watched: Sequence[Watched], mapping: Map, start: int, seconds: int) -> Iterator[tuple[object, ...]]:
-    """The rows of works.csv, as far as works were looked at: one for each place of works and each period in which it is
-    closed. start: the clock at which the run begins; seconds: of a period."""
+    """The rows of works.csv, (begin, end, edge, SUMO's index of the lane, metres where the works begin and end, what
+    seen_in gives), as far as works were looked at: one for each place of works and each period in which it is closed.
+    start: the clock at which the run begins; seconds: of a period."""
     for one in watched:
         link, (begin, end) = mapping.links[one.closure.link], one.closure.metres(mapping)
         name = link.edge, link.lanes[one.closure.lane], f"{begin:.1f}", f"{end:.1f}"
@@ -45,8 +46,9 @@ def rows(watched: Sequence[Watched], mapping: Map, start: int, seconds: int) -> 
 
 
 def seen_in(watched: Watched, period: Period) -> tuple[object, ...]:
-    """A row of works.csv for a period from its column vehicles on: how many passed, capacity, mean and greatest delay
-    (s), lengths of the queue (m), longest standing (s). An empty text stands for what is not known."""
+    """A row of works.csv for a period from its column vehicles on: how many passed, capacity (vehicles an hour), mean
+    and greatest delay (s), lengths of the queue (m; 50 %, 95 %, greatest), longest standing (s). An empty text stands
+    for what is not known."""
     delays = [one.delay for one in watched.passed if period.has(one.clock)]
     queues = [one for one in watched.queues if period.has(one.clock)]
     capacity = capacity_of(watched, period)
