@@ -65,7 +65,8 @@ class Controller:
         return self.logic.look(now, gap_by(now, senses.read, first + self.meters.start))
 
     def begins(self, now: int) -> Iterator[Command]:
-        """The commands that show the phase that begins at a clock; none where this program is not in force."""
+        """The commands that show the phase that begins at a clock; none where this program is not in force. They are
+        kept, so that `goes_on` can have the phase last longer."""
         self.shows, self.wraps = list(self.plans(now)), now + limits.PHASE_STEPS
         yield from self.shows if self.in_force else ()
 

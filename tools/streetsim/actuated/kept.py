@@ -55,8 +55,8 @@ def in_force(programs: Iterable[Json]) -> dict[str, Json]:
 
 
 def kept_of(programs: Iterable[Json], light: str, later: Collection[str]) -> list[Json]:
-    """What a map keeps (`programs`) of the programs of a light that it begins with or that are in force later, by their
-    names; raises Listed where nothing is."""
+    """What a map keeps (`programs`) of the programs of a light that it begins with or that come into force later;
+    later: the names of these. Raises Listed where nothing is kept."""
     found = [one for one in programs if one["light"] == light and (not one.get("idle") or one["program"] in later)]
     if not found:
         raise Listed("as their map was written by an older streetsim-import")

@@ -133,8 +133,8 @@ class Fleet:
         return any(bus.stopping and bus.stopping.state == STANDING for bus in self.buses.values())
 
     def look(self, clock: int, ask: Ask, lanes: Look) -> Iterator[Command]:
-        """Looks at the buses that are due at a clock, and gives the commands to send before the next step. ask: gives
-        replies on vehicles; lanes: gives what stands on lanes."""
+        """Looks at the buses that are due at a clock, and gives the commands to send before the next step; buses with
+        nothing to come are dropped. ask: gives replies on vehicles; lanes: gives what stands on lanes."""
         due = [bus for bus in self.buses.values() if bus.due <= clock]
         far = [bus for bus in due if not bus.stopping]
         for bus, reply in zip(far, ask(bus.owner for bus in far) if far else (), strict=True):
@@ -252,7 +252,7 @@ class Fleet:
 
     def changes(self, clock: int) -> Iterator[Command]:
         """The commands at a clock that close and open cells, so that just those are closed that buses need now, or
-        works."""
+        works; they count as sent."""
         wanted = frozenset().union(*(bus.closed for bus in self.buses.values()))
         shut = {one for one in self.closed - wanted if self.is_at_works(clock, *one)}
         for command, cells in (("reopen", self.closed - wanted - shut), ("close", wanted - self.closed)):

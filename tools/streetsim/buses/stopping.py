@@ -112,7 +112,8 @@ class Stopping:
         return self.stand(clock, self.held, lanes)
 
     def stand(self, clock: int, bus: Seen, lanes: Mapping[int, Sequence[Seen]]) -> int:
-        """Stays until its time is over; gives the seconds until the next look."""
+        """Stays, with the cell before it closed, until its time is over; then the stop is made. Gives the seconds until
+        the next look."""
         if self.goes is None and clock >= self.leaves:
             behind = sum(one.cell < bus.cell and one.speed == 0 for one in lanes.get(self.lane, ()))
             self.goes = clock + max(0, round(self.visit.starting - QUEUED * behind))
@@ -127,7 +128,8 @@ class Stopping:
         return 1
 
     def let_pass(self, clock: int, bus: Seen, lanes: Mapping[int, Sequence[Seen]]) -> None:
-        """Has those who stand behind it on a link of two lanes merge by turns, as before works of its length."""
+        """Closes further cells so that those who stand behind it on a link of two lanes merge by turns, as before works
+        of its length."""
         self.passing = self.passing or Merging(self.road.cells)
         if self.lane in lanes and clock >= self.passes:
             behind = [one for one in lanes[self.lane] if one.cell < bus.rear]
@@ -144,8 +146,8 @@ class Stopping:
             self.closed.add((self.lane, last + 1))
 
     def keep(self, bus: Seen, ahead: Sequence[Seen], other: Sequence[Seen]) -> None:
-        """Closes a cell of the other lane where the bus would change to it, so that it stays on its own. ahead, other:
-        vehicles before it on its lane, and on the other lane."""
+        """Closes a cell of the other lane where the bus would change to it, so that it stays on its own. ahead:
+        vehicles before it on its lane; other: those on the other lane."""
         if self.road.lanes == 1:
             return
         shut = min((cell for lane, cell in self.closed if lane == self.lane), default=bus.cell + SIGHT + 1)
@@ -160,9 +162,9 @@ class Stopping:
         return self.road.leads[lane != self.visit.lane]
 
     def change(self, bus: Seen, ahead: Sequence[Seen], right: Sequence[Seen]) -> None:
-        """Lets it change to the stop's lane where the rule allows; else it is slowed, waits two cells before the stop,
-        and those behind it on that lane are held. ahead, right: vehicles before it on its lane, and on the stop's
-        lane."""
+        """Closes cells so that it changes to the stop's lane where the rule allows; else so that it is slowed and waits
+        two cells before the stop, and those behind it on that lane are held. ahead, right: vehicles before it on its
+        lane, and those on the stop's lane."""
         speed, reach = bus.speed, min(bus.speed + 1, self.road.limit)
         wait = self.visit.last - 2
         if may_change(bus, right) and reach <= self.visit.last - bus.cell:

@@ -85,7 +85,8 @@ class Passages:
         self.note_lanes(shown)
 
     def note(self, clock: int, car: int, link: int, lane: int, standing: bool) -> None:
-        """Notes a vehicle on the cells of an approach at a clock; standing: as `who_stand` has it."""
+        """Notes a vehicle, by its number in the file (car), on the cells of an approach at a clock, with its stops and
+        seconds of standing; standing: as `who_stand` has it."""
         passage = self.passage(clock, car, link)
         passage.link, passage.lane = link, lane
         if clock == passage.begin:  # who departs stands then, which is no stop
@@ -95,8 +96,8 @@ class Passages:
         passage.stood += passage.still >= STILL if self.mapping.links[link].limit == 1 else standing
 
     def passage(self, clock: int, car: int, link: int) -> Passage:
-        """The passage of a vehicle on the approach of a link; a new one where it was on none, or comes from another,
-        whose passage ends."""
+        """The passage of a vehicle, by its number in the file (car), on the approach of a link; a new one where it was
+        on none, or comes from another, whose passage ends."""
         passage, edge = self.here.get(car), self.edges[link]
         if passage is not None and passage.edge == edge:
             return passage
@@ -106,7 +107,8 @@ class Passages:
         return made
 
     def note_crossing(self, clock: int, car: int, link: int, lane: int) -> None:
-        """Notes a vehicle in the junction behind a lane at a clock; not in one between two edges of an approach."""
+        """Notes a vehicle, by its number in the file (car), in the junction behind a lane at a clock; not in one
+        between two edges of an approach."""
         passage = self.passage(clock, car, link)
         if link not in self.before:  # between two edges of the approach
             return
@@ -119,7 +121,8 @@ class Passages:
             passage.stood += 1  # waits before the next edge
 
     def finish(self, car: int, clock: int) -> None:
-        """Ends the passage of a vehicle that is on its approach no longer at a clock."""
+        """Ends the passage of a vehicle that is on its approach no longer at a clock, and adds it to `done`; its own
+        stops count in dwell alone."""
         passage = self.here.pop(car)
         passage.end = clock
         passage.line = passage.line or clock

@@ -40,8 +40,8 @@ class Told:
 
 
 def told_of(after: Rows, before: Rows | None) -> list[Told]:
-    """What is told of each row of the last plan, beside the one before it (none: there is one plan): first those that
-    change or are worse than D, each part by weight."""
+    """What is told of each row of the last plan (after), with the row of the same key of the plan before (before; none:
+    there is one plan): first those that change or are worse than D, each part by weight."""
     found = []
     for key, row in after.items():
         first = before.get(key) if before is not None else None

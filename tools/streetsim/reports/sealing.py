@@ -38,8 +38,8 @@ def seal_for(
 
 def plan_of(runs: Runs, place: int) -> tuple[Json, dict[str, bytes]]:
     """(what the seal says of a plan: name, run, map, words, again, seeds, several, program; its files, content by
-    name). place: of the plan, from 1. Fault where its folder does not
-    keep what made it, or its seeds are of several runs."""
+    name). place: of the plan, from 1. Fault where its folder does not keep what made it, or its seeds are of several
+    runs."""
     folder, made = runs.first, runs.first.made
     lines = kept_lines(runs)
     if len({canonical(how(one)) for one in runs.folders.values()}) > 1:

@@ -70,7 +70,8 @@ def before_works(folder: Folder) -> Iterable[dict[str, str]]:
 
 
 def polls(folder: Folder, first: int, last: int) -> range:
-    """The clocks at which lanes were polled, from a first to a last second; empty where nothing was polled."""
+    """The clocks at which lanes were polled, after a first second and up to a last one; empty where nothing was
+    polled."""
     every = folder.every
     return range((first // every + 1) * every, last + 1, every) if every else range(0)
 

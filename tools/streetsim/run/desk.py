@@ -44,7 +44,7 @@ class Desk:
 
     def begin(self, asking: Asking) -> None:
         """Sends the load and the lines that are due before the first step, and places the detectors of lanes and of
-        lights."""
+        lights. asking: what the run asks, which its records keep."""
         self.records.asking, self.measured = asking, set(asking.measured)
         self.samples = Samples(self.start, self.settings.period, asking.samples)
         self.send([self.run.load, *self.run.first])
@@ -141,8 +141,8 @@ class Desk:
         return found
 
     def wants_samples(self, clock: int) -> tuple[bool, bool]:
-        """(whether lanes are sampled at a clock, whether a period ends then, so that the vehicles on lanes are
-        counted)."""
+        """(whether lanes are sampled at a clock, whether the vehicles on lanes are counted then, as where a period
+        ends)."""
         asking, at = self.records.asking, clock - self.start
         rich = not asking.samples and bool(asking.every)
         sampled = (

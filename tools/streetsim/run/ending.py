@@ -35,8 +35,13 @@ class UnderWay(Protocol):
     sent: int  # of its timed lines
     fleet: Fleet
 
-    def lanes(self, wanted: Iterable[Place]) -> dict[Place, Lane]: ...
-    def end_at(self, clock: int) -> None: ...
+    def lanes(self, wanted: Iterable[Place]) -> dict[Place, Lane]:
+        """By (link, lane) what stands on some lanes; lanes where nothing is are left out."""
+        ...
+
+    def end_at(self, clock: int) -> None:
+        """Has the run end at another clock."""
+        ...
 
 
 class Ending:

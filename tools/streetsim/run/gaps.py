@@ -218,7 +218,7 @@ def hourly_around(times: Sequence[float], second: float) -> float:
 
 
 def close(red: bytearray, first: int, last: int) -> None:
-    """Makes the places from first to before last red; those outside of red are passed over."""
+    """Makes the seconds of red from first to before last red; those outside of it are passed over."""
     first, last = max(0, first), min(len(red), last)
     red[first:last] = b"\1" * (last - first)
 
@@ -235,8 +235,8 @@ def followings(seconds: Sequence[float]) -> Iterator[tuple[float, float]]:
 
 
 def slow_down(red: bytearray, first: int, last: int) -> None:
-    """Makes some seconds red in each gap between the seconds first and last from the start: HIDDEN after every SHOWN,
-    so that no more vehicles use the gap than can."""
+    """Makes some seconds of red red in each gap between the seconds first and last from its begin: HIDDEN after every
+    SHOWN, so that no more vehicles use the gap than can."""
     at = red.find(0, max(0, first), max(0, last))
     while at >= 0:
         close(red, at + SHOWN, at + SHOWN + HIDDEN)
@@ -244,7 +244,8 @@ def slow_down(red: bytearray, first: int, last: int) -> None:
 
 
 def be_patient(red: bytearray) -> None:
-    """Makes one second green after each PATIENCE seconds that are red without a break, so that one vehicle goes."""
+    """Makes one second of red green after each PATIENCE seconds that are red without a break, so that one vehicle
+    goes."""
     at = red.find(1)
     while at >= 0:
         end = red.find(0, at)

@@ -129,7 +129,8 @@ class Recorder(Desk):
         self.settings = replace(self.settings, until=clock)
 
     def take_census(self, clock: int) -> None:
-        """Counts all vehicles; nothing where the last census is of this clock."""
+        """Counts all vehicles, and adds that to the censuses of the records; nothing where the last one is of this
+        clock."""
         if not self.records.censuses or self.records.censuses[-1].clock != clock:
             self.records.censuses.append(self.sim.count())
             self.records.calls += 1
@@ -190,8 +191,8 @@ class Recorder(Desk):
             self.take_and_enter(clock, key[0])
 
     def take_and_enter(self, clock: int, car: int) -> None:
-        """Takes a car out and enters its vehicle anew on the next link of its plan, with another number, and notes
-        that; nothing where it is on its last link."""
+        """Takes a car, by its number in the program, out and enters its vehicle anew on the next link of its plan, with
+        another number, and notes that; nothing where it is on its last link."""
         vehicle = self.sim.vehicle(car)
         rest = list(vehicle.plan[1:])
         self.records.calls += 1
@@ -213,7 +214,7 @@ class Recorder(Desk):
         self.records.rescues[owner] += 1
 
     def departure_lane(self, plan: Sequence[int]) -> int:
-        """The first lane of a plan's first link that leads to its second link; 0 where no lane does."""
+        """The first lane (0 or 1) of a plan's first link that leads to its second link; 0 where no lane does."""
         return next(
             (turn.lane for turn in self.mapping.turns if len(plan) > 1 and (turn.link, turn.next) == plan[:2]), 0
         )

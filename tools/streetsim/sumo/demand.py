@@ -268,8 +268,8 @@ def enters(
 
 
 def entry_lane(plan: Sequence[int], network: Network, used: Counter[int], found: Found) -> int:
-    """The lane where a vehicle enters: that of its stop on the first link, else one of those that lead on, by turns.
-    used: how many entered each link so far, which it counts on."""
+    """The lane (0 or 1 of its first link) where a vehicle enters: that of its stop on this link, else one of those that
+    lead on, by turns. used: how many entered each link so far, which it counts on."""
     lanes = network.serves(plan[0], plan[1]) if len(plan) > 1 else range(len(network.links[plan[0]].lanes))
     if 0 in (stops := found.lanes()):
         return network.place_of[stops[0]][1]

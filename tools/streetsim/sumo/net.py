@@ -219,7 +219,8 @@ def street_of(element: Element) -> str:
 
 
 def read_location(path: FilePath, element: Element, net: SumoNet, _classes: Collection[str]) -> None:
-    """Keeps the projection of the network ("!": none, as SUMO writes it), and what was added to its metres."""
+    """Keeps where the network lies: {"projection": as SUMO writes it, "!": none, "offset": (x, y) that was added to its
+    metres}."""
     offset = attribute(path, element, "netOffset", plane_point) if element.get("netOffset") else (0.0, 0.0)
     net.location = {"offset": offset, "projection": element.get("projParameter", "!")}
 
@@ -231,7 +232,8 @@ def plane_point(text: str) -> Point:
 
 
 def read_junction(path: FilePath, element: Element, net: SumoNet, _classes: Collection[str]) -> None:
-    """Adds a junction with its requests; junctions inside others are passed over."""
+    """Adds a junction: its point, type, name, and for each of its requests those that it gives way to and those that it
+    meets; junctions inside others are passed over."""
     if element.get("type") != "internal":
         name = attribute(path, element, "id")
         net.junctions[name] = attribute(path, element, "x", number), attribute(path, element, "y", number)

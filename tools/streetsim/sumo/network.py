@@ -159,8 +159,8 @@ class Network:
         return Turn(next_lane, connection.light, connection.index, added, speed, self.links[link].limit)
 
     def open_both_lanes(self, report: Report) -> None:
-        """Where one lane of two has a turn to a next link, the other gets it too: else two vehicles side by side, each
-        needing the other's lane, stand for ever."""
+        """Where one lane of two has a turn to a next link, the other gets it too, which is reported: else two vehicles
+        side by side, each needing the other's lane, stand for ever."""
         count = 0
         for (link, lane, following), turn in list(self.turns.items()):
             if len(self.links[link].lanes) == 2 and (link, 1 - lane, following) not in self.turns:

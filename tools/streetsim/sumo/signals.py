@@ -156,8 +156,8 @@ class TooLong(Fault):
 
 
 def signal_lines(own: LitNode, begin: int, last: int) -> list[Command]:
-    """The signal command of a node; of a program that does not fit in one plan a command for each phase, with its clock
-    ("at"), from begin to last (clocks), as a plan of one phase stays until the next."""
+    """The signal command of a node; of a program that does not fit in one plan, which is reported, a command for each
+    phase, with its clock ("at"), from begin to last (clocks), as a plan of one phase stays until the next."""
     try:
         return [signal(own)]
     except TooLong:
@@ -302,9 +302,9 @@ def shown_green(
     states: str, told: Mapping[int, tuple[int, int]], turn: Turn | MapTurn, grain: int, middle: bool
 ) -> list[bool]:
     """For each second whether a turn shows green; states: the letter of this turn in each second. Of each permissive
-    green so many seconds are shown as told says, in so many parts. Of each other green some seconds are left out, as
-    SUMO's queues start later and turn slower: in its middle, or (middle False) at its begin. All is rounded down to
-    grain seconds."""
+    green so many seconds are shown as told says, in so many parts ({its first second: (seconds, parts)}). Of each other
+    green some seconds are left out, as SUMO's queues start later and turn slower: in its middle, or (middle False) at
+    its begin. All is rounded down to grain seconds."""
     count = len(states)
     shown = [state in GREEN for state in states]
     greens, reds = runs_of(states, OPEN).items(), runs_of(states, STOPPED).items()

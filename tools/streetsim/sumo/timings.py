@@ -10,8 +10,8 @@ from streetsim.sumo.net import SumoNet, read_net, read_program
 
 
 def timings_of(net: SumoNet) -> Iterator[Timing]:
-    """The program of each light that connections name, by the light's name; lights without phases, or with states that
-    are too short for their connections, are left out."""
+    """The program of each light that connections name, in the order of the lights' names; lights without phases, or
+    with states that are too short for their connections, are left out."""
     at_light = defaultdict(list)
     for connection in net.connections:
         if connection.light:

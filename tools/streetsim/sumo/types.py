@@ -143,7 +143,8 @@ class Types:
             report.ignored[f"{told} of vTypes"] = unused
 
     def new_name(self, path: FilePath, element: Element) -> str:
-        """The name of a type or a distribution; Fault where another one of the files has it."""
+        """The name of a type or a distribution, which then counts as taken; Fault where another one of the files has
+        it."""
         name = attribute(path, element, "id", filled)
         if name in self.named:
             raise Fault(f"{told(path, element)}: a second vehicle type of this name")

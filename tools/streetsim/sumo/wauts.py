@@ -46,9 +46,9 @@ def read_waut_junction(path: FilePath, element: Element, net: SumoNet, report: R
 
 
 def days_of(net: SumoNet, begin: int, last: int, report: Report) -> dict[str, Day]:
-    """By light with a WAUT the programs that it shows from the clock begin to last; its first one is then its program
-    in the network. Lights whose WAUT has them blink (off) keep their program, and are named. Fault where a light has
-    not a program that its WAUT names."""
+    """By light with a WAUT the programs that it shows from the clock begin to last, [(clock, program)]; its first one
+    is then its program in the network. Lights whose WAUT has them blink (off) keep their program, and are reported.
+    Fault where a light has not a program that its WAUT names."""
     found: dict[str, Day] = {}
     for name, waut in net.wauts.items():
         for light in waut.lights:

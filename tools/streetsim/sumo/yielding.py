@@ -473,8 +473,8 @@ def capacity(sharing: Sequence[Movement], wish: float) -> float:
 
 
 def leaving(green: float, speed: float) -> float:
-    """How many vehicles leave a queue in SUMO in green seconds, one at least; speed: inside the junction, metres a
-    second."""
+    """How many vehicles leave a queue in SUMO in so many seconds of green, one at least; speed: inside the junction,
+    metres a second."""
     return max(1.0, (green - speed / (2 * ACCELERATION) + EARLY) / headway(speed))
 
 

@@ -97,7 +97,8 @@ class Merging:
     turns: dict[tuple[int, int], Turn] = field(default_factory=dict)  # by lane and first cell of the works
 
     def told(self, clock: int, sides: Sequence[Side]) -> list[Change]:
-        """What to close and reopen before the next step, by what stands on both lanes at a clock; sides: by lane."""
+        """What to close and reopen before the next step, by what stands on both lanes at a clock, which then counts as
+        done; sides: by lane."""
         wanted = no_cells()
         known, self.turns = self.turns, {}
         for place in self.places([side.closed for side in sides]):
@@ -113,8 +114,8 @@ class Merging:
         return 1 if any(turn.held for turn in self.turns.values()) else EVERY
 
     def end(self) -> list[Change]:
-        """What to reopen so that nothing of its own stays closed; needed before any other close or reopen on the
-        link."""
+        """What to reopen so that nothing of its own stays closed, which then counts as done; who waits is forgotten.
+        Needed before any other close or reopen on the link."""
         self.turns = {}
         return self.changes(no_cells())
 

@@ -136,7 +136,8 @@ class Watched:
         return before, beyond
 
     def note_standing(self, clock: int, lanes: Mapping[Place, Lane]) -> None:
-        """Notes who stands before the works on their link, and for how long."""
+        """Notes who stands before the works on their link, since when, for how long the longest does, and who for more
+        than LONG seconds."""
         link, begin, first = self.closure.link, self.begin(clock), self.closure.first
         now = [
             (car, lane, cell)
