@@ -78,8 +78,8 @@ def data_of(
 ) -> Json:
     """What the page knows of a run beside the replies, by the names below (links, nodes, turns, cars, departs, ..).
     single: it is one file, with its engine; map_path: to find the imported network, empty: not looked for; proved: its
-    program is the one that ./build made; kept: the bridge keeps its session; driven: the bridge drives lights by
-    detectors."""
+    program is one that ./build or ./build --page made and proved; kept: the bridge keeps its session; driven: the
+    bridge drives lights by detectors."""
     lights = driven_lights(run, mapping) if driven and mapping.programs else LISTED
     streets, areas = streets_and_areas(mapping, map_path) if map_path else ({}, {})
     departs, free = departures_and_ends(run, mapping)

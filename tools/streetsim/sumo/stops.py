@@ -113,8 +113,8 @@ def stops_in(path: FilePath, owner: Element, net: SumoNet) -> tuple[Stop, ...]:
 
 
 def stop_of(path: FilePath, owner: Element, element: Element, net: SumoNet) -> Stop:
-    """The stop of a <stop> in an element (owner); Fault where it names a lane or edge that the network does not have,
-    or no place at all."""
+    """The stop of a <stop> in an element (owner); Fault where it names a lane or edge that the network does not have, a
+    place beyond its lane, or no place at all."""
     where = f"{told(path, owner)}: <stop>"
     name = next((element.get(kind, "") for kind in BUS_STOPS if element.get(kind)), "")
     duration = optional(path, element, "duration", seconds, None)
@@ -148,7 +148,7 @@ def why_not(element: Element) -> str:
 
 def place_of(path: FilePath, element: Element, net: SumoNet, where: str) -> BusStop:
     """The place of a stop that names a lane, or an edge: then the first lane of it that is kept. Fault where it names
-    neither."""
+    neither, the network does not have it, or the place lies beyond the lane."""
     lane = element.get("lane", "")
     if not lane:
         edge = element.get("edge", "")

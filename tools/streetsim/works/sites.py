@@ -274,7 +274,8 @@ def plan_round(command: dict, mapping: Map, shut: dict, ways: dict, use: Counter
 
 
 def all_closed(run: Run, mapping: Map, shut: dict) -> Iterator[str]:
-    """Says, a text each, where all lanes of an edge are closed at once: nobody takes another way."""
+    """Says, a text each, where all lanes of an edge are closed at once: nobody takes another way. shut: as shut_links
+    gives it."""
     for edge in dict.fromkeys(mapping.links[link].edge for link in shut):
         links = mapping.links_of[edge]
         if all(link in shut for link in links):
