@@ -256,7 +256,8 @@ class Nema:
         self.active[one.ring] = one
 
     def go_on(self) -> None:
-        """Has the phases that may end go on towards the nearest pair that may follow; none where there is no pair."""
+        """Has the phases that may end go on towards the nearest pair that may follow; nothing happens where there is no
+        pair."""
         pairs = sorted(self.pairs(), key=lambda pair: pair[0])
         if pairs:
             _, *following = pairs[0]

@@ -77,7 +77,8 @@ def waiting(
 
 
 def named(run: Run, mapping: Map, names: Sequence[str]) -> list[int]:
-    """The numbers of the vehicles whose class or line is one of names; Fault where a name has no vehicle."""
+    """The numbers in the file of the vehicles whose class or line is one of names; Fault where a name has no
+    vehicle."""
     count = len(run.enters)
     classes, lines = classes_of(mapping.kinds, count), lines_of(mapping.kinds, count)
     for name in names:
@@ -87,7 +88,7 @@ def named(run: Run, mapping: Map, names: Sequence[str]) -> list[int]:
 
 
 def lights_of(run: Run, mapping: Map, owners: Iterable[int]) -> set[str]:
-    """The names of the lights that some vehicles pass."""
+    """The names of the lights that some vehicles (owners: their numbers in the file) pass."""
     light_at = {(turn.link, turn.next): turn.light for turn in mapping.turns if turn.light}
     pairs = (pair for owner in owners for pair in pairwise(run.enters[owner].command["plan"]))
     return {light for pair in pairs if (light := light_at.get(pair))}

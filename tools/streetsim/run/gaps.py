@@ -34,7 +34,7 @@ def gap_lines(mapping: Map, passed: Passed, start: int, wished: Passed | None = 
 
 def reds_of(mapping: Map, passed: Passed, start: int, wished: Passed | None = None) -> list[tuple[Waiting, bytearray]]:
     """(one who gives way, a byte for each second from start, 1: red) for each Waiting of a map; those before whom
-    nobody comes are left out. Arguments: as of gap_lines."""
+    nobody comes, and that have no pace, are left out. Arguments: as of gap_lines."""
     end = int(max((second for each in passed.values() for second, _ in each), default=start)) + TAIL
     times = by_turn(passed)
     wishes = times if wished is None else by_turn(wished)
@@ -134,8 +134,9 @@ def red_seconds(
     waiting: Waiting, times: Times, start: int, end: int, coming: Times | None = None, held: Held | None = None
 ) -> bytearray | None:
     """For the turns of one Waiting a byte for each second from start to end, 1 where they are red as somebody comes who
-    goes first; None where nobody does. times: when vehicles pass, by turn; coming: when those who go first come, None:
-    when they pass; held: of those who give way too without a stop when they are held up, None: nobody does."""
+    goes first, or to keep their pace; None where nobody comes and they have no pace. times: when vehicles pass, by
+    turn; coming: when those who go first come, None: when they pass; held: when those are held up who give way too
+    without a stop, by turn, None: there are none."""
     coming, held = times if coming is None else coming, held or {}
     comes = [(second, foe) for foe in waiting.foes for second in coming.get((foe.link, foe.lane, foe.next), ())]
     comes.sort(key=lambda one: one[0])

@@ -23,8 +23,8 @@ class Passings:
     vehicle is taken to drive at the speed of the free road up to where the later poll sees it."""
 
     def __init__(self, mapping: Map, enters: Sequence[Line], dawdle: int) -> None:
-        """enters: the enter lines of the run's vehicles, by number; dawdle: of 1,000 steps so many are by a cell
-        less."""
+        """enters: the enter lines of the run's vehicles, by number in the file; dawdle: of 1,000 steps so many are by a
+        cell less."""
         self.links = mapping.links
         self.plans = [line.command["plan"] for line in enters]
         self.speeds = [link.limit - dawdle / 1000 for link in mapping.links]

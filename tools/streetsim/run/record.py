@@ -247,8 +247,8 @@ class Repeater(Desk):
         return self.records
 
     def repeat(self, clock: int, car: int, command: Command) -> None:
-        """Takes a car out and enters its vehicle anew by a command, as the first run did at this clock; Fault where
-        that is refused."""
+        """Takes a car, by its number in the program, out and enters its vehicle anew by a command, as the first run did
+        at this clock; Fault where that is refused."""
         vehicle = self.sim.vehicle(car)
         if vehicle.state == "cell":
             self.records.edgedata.take(clock, vehicle.place[0])

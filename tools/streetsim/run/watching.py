@@ -50,8 +50,8 @@ class Watcher(Desk):
         return {"clock": clock, "lanes": shown}
 
     def repeat(self, car: int, command: Command) -> None:
-        """Takes a car out and enters its vehicle anew by a command, as the run did at this clock, and notes whose the
-        new car is; Fault where that is refused."""
+        """Takes a car, by its number in the program, out and enters its vehicle anew by a command, as the run did at
+        this clock, and notes whose the new car is; Fault where that is refused."""
         for reply in map(read_reply, self.exchange([line_of({"cmd": "takeout", "car": car}), line_of(command)])):
             if isinstance(reply, Refused):
                 raise Fault(f"{self.run.path}: a rescue that is repeated was refused: {reply}")

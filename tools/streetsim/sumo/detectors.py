@@ -98,8 +98,9 @@ def placed(detectors: Iterable[SumoDetector], mapping: Map, closed: Container[st
 
 
 def cells(one: SumoDetector, link: MapLink, report: Report) -> tuple[int, int]:
-    """The (first, last) cell of a detector on a link: the one in which a loop lies, or all of which a lane area has a
-    part. Fault where it lies beyond its lane and is not friendly."""
+    """The (first, last) cell of a detector on a link: the one in which a loop lies, or those of which a lane area
+    covers a part. Fault where it lies beyond its lane and is not friendly, or does not end behind its begin. One that
+    goes on beyond its lane is reported."""
     begin = one.begin + link.metres if one.begin < 0 else one.begin
     end = one.end + link.metres if one.end is not None and one.end < 0 else one.end
     if not one.friendly and not -NEAR <= begin <= link.metres + NEAR:

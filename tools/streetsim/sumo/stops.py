@@ -216,8 +216,8 @@ class Stops:
         return self.net.bus_stops.get(stop.name) if stop.name else stop.place
 
     def add(self, vehicle: tuple[int, str, str], plan: Sequence[int], found: Found, network: Network) -> None:
-        """Adds the visits of a vehicle (its number, name and type) on the links of its plan; stops that these links do
-        not reach are kept in unmade, by reason."""
+        """Adds the visits of a vehicle (its number in the run file, name and type) on the links of its plan; stops that
+        these links do not reach are kept in unmade, by reason."""
         number, name, kind = vehicle
         for stop, spot in found.stops:
             link, lane = network.place_of[spot.edge, spot.index]

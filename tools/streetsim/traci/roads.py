@@ -70,7 +70,7 @@ class Lane(LaneCalls[Session], Stretches):
         return self.now().map.links[self.places(name)[0][0]].shape
 
     def cars(self, name: str) -> list[int]:
-        """The numbers of the vehicles on it, from the stop line."""
+        """The numbers in the program of the vehicles on it, from the stop line."""
         places, on_lane = self.places(name), self.now().follow().view.on_lane
         return [car for place in places for car in on_lane.get(place, ())]
 
@@ -257,7 +257,7 @@ class InductionLoop(Detectors):
     variables = {**Places.variables, tc.LAST_STEP_TIME_SINCE_DETECTION: "getTimeSinceDetection"}
 
     def cars(self, name: str) -> list[int]:
-        """The numbers of the vehicles that stood on it or drove over it in the last step."""
+        """The numbers in the program of the vehicles that stood on it or drove over it in the last step."""
         self.detector(name)
         return self.now().follow().loops[name].passed
 
@@ -287,7 +287,7 @@ class LaneArea(Stretches, Detectors):
     first = (tc.JAM_LENGTH_VEHICLE,)
 
     def cars(self, name: str) -> list[int]:
-        """The numbers of the vehicles whose front is in it, from the stop line."""
+        """The numbers in the program of the vehicles whose front is in it, from the stop line."""
         one, view = self.detector(name), self.now().follow().view
         there = view.on_lane.get((one.link, one.lane), ())
         return [car for car in there if car in view.places and one.first <= view.places[car].front <= one.last]
@@ -303,7 +303,8 @@ class LaneArea(Stretches, Detectors):
         return self.getLength(name)
 
     def jam(self, name: str) -> list[int]:
-        """The numbers of the vehicles of the longest jam: they stand one behind the other without a gap."""
+        """The numbers in the program of the vehicles of the longest jam: they stand one behind the other without a
+        gap."""
         fleet, places, rear = self.now().fleet, self.now().view.places, -1
         longest: list[int] = []
         here: list[int] = []

@@ -57,8 +57,9 @@ class Vehicle(VehicleCalls[Session], Placed):
         return {name: self.getSubscriptionResults(name) for name in there}
 
     def where(self, name: str) -> tuple[int | None, Place | None]:
-        """(number, place) of a vehicle: None for the number before the program is told of it, None for the place before
-        it departs. TraCIException where it has ended, or neither the run's file nor a script has it."""
+        """(number in the program, place) of a vehicle: None for the number before the program is told of it, None for
+        the place before it departs. TraCIException where it has ended, or neither the run's file nor a script has
+        it."""
         session = self.now()
         if not session.followed or not session.view.asked:
             session.follow()
@@ -255,7 +256,7 @@ class Vehicle(VehicleCalls[Session], Placed):
         return self.leader_behind(name, place, max(dist, reach))
 
     def on_lane_of(self, place: Place) -> list[tuple[int, Place]]:
-        """(number, place) of each vehicle on the lane of a place, from the stop line."""
+        """(number in the program, place) of each vehicle on the lane of a place, from the stop line."""
         view = self.now().view
         return [(car, view.places[car]) for car in view.on_lane.get((place.link, place.lane), ())]
 
@@ -277,8 +278,8 @@ class Vehicle(VehicleCalls[Session], Placed):
         return None
 
     def between(self, other: int, metres: float, front: float) -> float:
-        """Metres from a front, front metres along a link, to the rear of another vehicle (other: its number), whose
-        link begins metres further on; 0 at least."""
+        """Metres from a front, front metres along a link, to the rear of another vehicle (other: its number in the
+        program), whose link begins metres further on; 0 at least."""
         fleet, place = self.now().fleet, self.now().view.places[other]
         link = self.now().map.links[place.link]
         rear = (place.front + 1 - fleet.sizes[fleet.names[other]]) * link.metres / link.cells

@@ -183,7 +183,7 @@ def why_parallel(mapping: Map, lane: str) -> str | None:
 
 
 def imported_anew(run: Run, mapping: Map, map_path: FilePath, **more: Iterable[str]) -> tuple[Run, Map]:
-    """The run and its map, imported anew with further values in some options (joint, led, slow). The files are found
+    """(the run, its map), imported anew with further values in some options (joint, led, slow). The files are found
     from the map's path; Fault where they, or the run, are not as they were at the import."""
     sources = sources_of(mapping.sources, map_path, run.path)
     options = options_again(mapping, **more)

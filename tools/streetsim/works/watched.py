@@ -119,7 +119,8 @@ class Watched:
                 self.coming[car] = Coming(clock, sight.free, sight.link)
 
     def sights(self, lanes: Mapping[Place, Lane]) -> tuple[dict[int, Sight], set[int]]:
-        """(the vehicles before the works, by car; the cars on the link past their begin)."""
+        """(the vehicles before the works, by number in the program; the numbers of those on the link past their
+        begin)."""
         link, first = self.closure.link, self.closure.first
         to_works = first * self.pace[link]
         before: dict[int, Sight] = {}
