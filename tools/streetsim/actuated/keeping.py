@@ -18,7 +18,8 @@ OF_A_PHASE = ("stage", "since", "end", "lasts", "most", "resting", "ready", "cal
 
 
 def kept_driver(driver: Driver) -> Json:
-    """The state of all that drives lights; what buses call is no part of it, as only runs have that."""
+    """The state of all that drives lights, {"first", "switches", "lights"}; what buses call is no part of it, as only
+    runs have that."""
     return {"first": driver.first, "switches": list(driver.switches), "lights": list(map(kept, driver.controllers))}
 
 

@@ -93,8 +93,8 @@ class Bridge(ThreadingHTTPServer):
                 self.lock.notify_all()
 
     def is_owner(self, name: str, wait: float = 0) -> bool:
-        """Whether the page of this name is the one that is served, and stays so for so many seconds (wait): it waits
-        so long, or until another one is served."""
+        """Whether the page of this name is the one that is served, and stays so for so many seconds (wait): it waits so
+        long, or until another one is served."""
         with self.lock:
             return not self.lock.wait_for(lambda: self.owner != name, wait) if name else False
 
@@ -125,8 +125,8 @@ class Handler(BaseHTTPRequestHandler):
         self.serve(self.post)
 
     def serve(self, answer: Callable[[list[str]], tuple[bytes, str] | None]) -> None:
-        """Sends what an answer gives, (body, type), for the path's words; None: it was sent already. A
-        Refusal, Fault or ProgramEnded is sent as JSON with its status."""
+        """Sends what an answer gives, (body, type), for the path's words; None: it was sent already. A Refusal, Fault
+        or ProgramEnded is sent as JSON with its status."""
         try:
             answered = answer(self.checked_path())
             if answered:

@@ -99,8 +99,8 @@ def junction_mark(letter: str, text: str, across: str, down: str) -> str:
 
 
 def change_mark(change: float, across: float, down: float) -> str:
-    """A triangle (SVG) beside a junction at pixels across and down, up where it waits more and down where less;
-    change: of its delay, seconds."""
+    """A triangle (SVG) beside a junction at pixels across and down, up where it waits more and down where less; change:
+    of its delay, seconds."""
     x, y, tall = across + 14, down, 5 if change < 0 else -5
     points = f"{x:.1f},{y - tall:.1f} {x + 10:.1f},{y - tall:.1f} {x + 5:.1f},{y + tall:.1f}"
     fill = "#b00" if change > 0 else "#06c"

@@ -210,8 +210,8 @@ class Demand:
 
     def finish(self, end: float | None = None) -> list[Vehicle]:
         """All vehicles that depart before an end in seconds (None: all), each with its route and its type, in order of
-        departure and then of the files; how many are left out is noted. It draws, so it is called once. Fault where
-        two have one name, or a route is named that no file has."""
+        departure and then of the files; how many are left out is noted. It draws, so it is called once. Fault where two
+        have one name, or a route is named that no file has."""
         for vehicle, where in self.later:
             vehicle.route = self.drawn(vehicle.route)
             if vehicle.route not in self.routes:

@@ -118,8 +118,9 @@ def lane_of(edge: str, index: int, net: SumoNet, before: dict[tuple[str, int], l
 
 
 def node_of(number: int, connections: Sequence[Connection], net: SumoNet, flows: Flows, name: str) -> Json:
-    """What says who gives way at a node: the connections that its light controls or that have no light, who gives way
-    to whom, and the flows. All three lists are empty where one of them is not known. name: of the node's junction."""
+    """What says who gives way at a node: {"node": its number, "connections": those that its light controls or that have
+    no light, "yields": [[request, those that it gives way to]], "flows": [[edge, next edge, vehicles an hour]]}. All
+    three lists are empty where one of them is not known. name: of the node's junction."""
     light = light_of(connections, net)
     own = [one for one in connections if one.light in (light, None)]
     known = bool(flows) and bool(net.yields.get(name)) and all(one.request is not None for one in own)
