@@ -1,5 +1,5 @@
 """What a table of the pages rests on, and digests of it: the scripts that print it, the modules of the tools that their
-commands load, and the machine. Comments, docs and blanks are no part of it."""
+commands load, and the machine's definitions. Comments, docs and blanks are no part of it."""
 
 import ast
 import hashlib
@@ -9,8 +9,7 @@ from functools import cache
 from pathlib import Path
 
 PARTS = ("script", "tools", "machine")
-PROGRAM = "street_sim"  # the crate of the program
-COMMENTS = {".rt": "//.*", ".antt": "--.*"}
+DEFINING = ("street_base", "street_text")  # the crates that define what is answered
 COMMAND = re.compile(r"(?:.*/)?streetsim-([a-z]+)")
 
 
@@ -107,24 +106,7 @@ def commands(tree: ast.Module) -> Iterator[str]:
 
 @cache
 def machine(top: Path) -> tuple[str, ...]:
-    """The sources and definitions of the program's crates, without comments and layout."""
-    folders = (top / "crates" / crate / part for crate in sorted(crates(top)) for part in ("src", "specs"))
-    paths = (path for folder in folders for path in sorted(folder.rglob("*")) if path.suffix in COMMENTS)
-    return tuple(plain(path) for path in paths)
-
-
-def plain(path: Path) -> str:
-    return " ".join(re.sub(COMMENTS[path.suffix], "", path.read_text(encoding="utf-8")).split())
-
-
-def crates(top: Path) -> set[str]:
-    """The program's crate and those that it takes, by crates.txt."""
-    lines = (line.partition(":") for line in (top / "crates.txt").read_text(encoding="utf-8").splitlines())
-    takes = {name: others.split() for name, _, others in lines}
-    found, left = set(), [PROGRAM]
-    while left:
-        crate = left.pop()
-        if crate in takes and crate not in found:
-            found.add(crate)
-            left += takes[crate]
-    return found
+    """The definitions of the machine and of its lines, without comments and layout. The program is proved to answer as
+    they say, so neither its code nor a proof moves a table."""
+    paths = (path for crate in DEFINING for path in sorted((top / "crates" / crate / "specs").rglob("*.antt")))
+    return tuple(" ".join(re.sub("--.*", "", path.read_text(encoding="utf-8")).split()) for path in paths)

@@ -130,7 +130,6 @@ class Sources(Case):
             ("bench/seen", MADE["bench/seen"] + "print()\n", "script"),
             ("bench/helper.py", MADE["bench/helper.py"] + "MORE = 1\n", "script"),
             ("tools/streetsim/base/low.py", "LOW = 2\n", "tools"),
-            ("crates/street_base/src/lib.rt", "pub fn one() -> u64 { 2 }\n", "machine"),
             ("crates/street_base/specs/One.antt", "one = 2\n", "machine"),
         ):
             self.assertEqual(self.changed_by(name, text), [part], name)
@@ -140,7 +139,7 @@ class Sources(Case):
             ("bench/other.py", "OTHER = 2\n"),
             ("tools/streetsim/cli/play.py", "PLAY = 2\n"),
             ("tools/streetsim/base/low.py", '"""Other docs."""\n\nLOW = 1\n'),
-            ("crates/street_base/src/lib.rt", "/// Other docs.\npub fn one()\n    -> u64 { 1 }\n"),
+            ("crates/street_base/src/lib.rt", "pub fn one() -> u64 { 2 }\n"),
             ("crates/street_base/specs/One.antt", "-- other words\none = 1\n"),
             ("crates/street_page/src/lib.rt", "pub fn page() { page() }\n"),
         ):

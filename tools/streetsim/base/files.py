@@ -15,7 +15,6 @@ from collections.abc import Callable, Collection, Iterable, Iterator, Mapping
 from types import FrameType
 from typing import IO, Any, Literal, NoReturn, TypeVar, cast, overload
 from xml.etree.ElementTree import Element
-from xml.sax.saxutils import quoteattr
 
 from streetsim.base.halves import half_file, half_folder, is_half
 
@@ -202,6 +201,8 @@ def above_zero(convert: Callable[[str], Number]) -> Callable[[str], Number]:
 
 def attributes_of(values: Mapping[str, str]) -> str:
     """Attributes of an element as text, each with a blank before it."""
+    from xml.sax.saxutils import quoteattr  # loads urllib, which takes longer than all else that a client imports
+
     return "".join(f" {name}={quoteattr(value)}" for name, value in values.items())
 
 
