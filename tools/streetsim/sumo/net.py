@@ -257,7 +257,7 @@ def bits_of(text: str) -> set[int]:
 
 def read_connection(path: FilePath, element: Element, net: SumoNet, classes: Collection[str]) -> None:
     """Adds a connection between lanes that are kept; one that is not for the classes is noted in closed_ways. Edges
-    must have been read before. Fault where it joins edges that do not meet."""
+    must have been read before. Fault where it names an unknown edge, or joins edges that do not meet."""
     source, target = attribute(path, element, "from"), attribute(path, element, "to")
     for edge in (source, target):
         if edge not in net.edges and edge not in net.dropped and not edge.startswith(":"):
