@@ -117,7 +117,8 @@ def reading(path: FilePath) -> Iterator[None]:
 
 def elements(path: FilePath, roots: Collection[str] | None) -> Iterator[Element]:
     """The children of the root of an XML file, each whole, one after another; the root keeps none of them, so that
-    large files need little memory. Fault where the root's tag is none of `roots`; none or no roots: any will do."""
+    large files need little memory. Fault where the file cannot be read or is no XML, or the root's tag is none of
+    `roots` (none or no roots: any will do)."""
     with reading(path), open_bytes(path) as file:
         depth = 0
         for event, element in ElementTree.iterparse(file, ("start", "end")):
@@ -223,8 +224,8 @@ def seconds(text: str) -> float:
 
 
 def read_json(path: FilePath, keys: Iterable[str]) -> Json:
-    """The JSON object of a file; Fault where it holds no object, or one without a key of `keys`. Other keys may stand
-    there too."""
+    """The JSON object of a file; Fault where the file cannot be read or is no JSON, holds no object, or one without a
+    key of `keys` (without keys no object is asked for). Other keys may stand there too."""
     with reading(path), open_text(path) as file:
         value = json.load(file)
     absent = [key for key in keys if not isinstance(value, dict) or key not in value]
@@ -234,7 +235,7 @@ def read_json(path: FilePath, keys: Iterable[str]) -> Json:
 
 
 def read_json_list(path: FilePath) -> list[Json]:
-    """The list of JSON objects of a file; Fault where it holds anything else."""
+    """The list of JSON objects of a file; Fault where it cannot be read, is no JSON or holds anything else."""
     with reading(path), open_text(path) as file:
         value = json.load(file)
     if not isinstance(value, list) or not all(isinstance(one, dict) for one in value):

@@ -45,8 +45,9 @@ class Bridge(ThreadingHTTPServer):
     daemon_threads = True
 
     def __init__(self, engines: Sequence[Engine], page: bytes, port: int = 0, join: Join | None = None) -> None:
-        """engines: the traffic as it is, and as it was without changes; port: 0: any free one; join: imports the run
-        anew, None: a session that is kept."""
+        """engines: the traffic as it is, and as it was without changes; page: its HTML; port: taken at once (OSError
+        where it cannot be had), 0: any free one; join: imports the run anew, None: that is refused, as for a session
+        that is kept."""
         super().__init__((HOST, port), Handler)
         self.engines, self.page, self.join = engines, page, join
         self.token, self.owner, self.lock = secrets.token_urlsafe(24), "", threading.Condition()

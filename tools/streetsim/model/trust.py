@@ -107,7 +107,8 @@ def doubts(
 
 
 def of_rescues(trips: Trips, rescues: int) -> Iterator[str]:
-    """A doubt where more than a hundredth of the vehicles, and more than one, was rescued; rescues: how many."""
+    """A doubt where there were more rescues than a hundredth of the vehicles, and more than one. rescues: how many in
+    all, so that a vehicle that was rescued twice counts twice."""
     if rescues > max(1, MOST_RESCUES * trips.vehicles):
         yield f"{rescues:,} rescues of {trips.vehicles:,} vehicles"
 

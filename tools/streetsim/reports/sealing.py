@@ -85,7 +85,7 @@ def kept_lines(runs: Runs) -> bytes:
 
 
 def tools_sum() -> str:
-    """The SHA-256 of all files of the tools: Python, HTML and JavaScript."""
+    """The SHA-256, in hex, of all files of this package with their paths: Python, HTML and JavaScript."""
     found = hashlib.sha256()
     for path in sorted(PACKAGE.rglob("*")):
         if path.suffix in (".py", ".html", ".js"):

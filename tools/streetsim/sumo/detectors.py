@@ -50,8 +50,8 @@ def read_detector(path: FilePath, element: Element, report: Report) -> SumoDetec
 
 def area_metres(path: FilePath, element: Element, report: Report) -> tuple[float, float | None]:
     """The (begin, end) metres of a lane area, as SumoDetector has them: by its pos, endPos and length, of which SUMO
-    needs two; without endPos and length it ends with the lane (end None). One that goes on beyond its lane is
-    reported."""
+    needs two; without endPos and length it ends with the lane (end None). One that these numbers alone show to
+    reach beyond its lane is reported here; others are reported by cells, which knows the lane's length."""
     end = optional(path, element, "endPos", number, None)
     length = optional(path, element, "length", at_least_zero(number), 0.0)
     if not length:

@@ -114,8 +114,8 @@ class Merging:
         return 1 if any(turn.held for turn in self.turns.values()) else EVERY
 
     def end(self) -> list[Change]:
-        """What to reopen so that nothing of its own stays closed, which then counts as done; who waits is forgotten.
-        Needed before any other close or reopen on the link."""
+        """What to reopen so that nothing of its own stays closed, which then counts as done; who waits is forgotten,
+        and merging goes on when it is told again. Needed before any other close or reopen on the link."""
         self.turns = {}
         return self.changes(no_cells())
 
