@@ -100,7 +100,8 @@ class Scenario(Running):
     def enter(
         self, name: str, plan: Iterable[int], lane: int, depart: int, size: int = 1, driven: Sequence[int] = ()
     ) -> int:
-        """As of Simulation; getIDList then looks for the vehicle from its departure on."""
+        """As Running does, the run that this class stands on; getIDList then looks for the vehicle from its departure
+        on. A new vehicle comes by add, which refuses a second name and notes what trips and detours need."""
         car = super().enter(name, plan, lane, depart, size, driven)
         heappush(self.later, (depart, car, name))
         return car

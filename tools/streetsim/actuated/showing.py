@@ -94,6 +94,6 @@ def plan_of(node: int, rows: Sequence[Green], now: int) -> Command:
 
 
 def lasting(command: Command) -> Command:
-    """The signal command that goes on showing what a given one shows at its end: one phase of 600 s, which repeats until
-    another command comes."""
+    """The signal command that goes on showing what a given one shows at its end: one phase of 600 s, which repeats
+    until another command comes."""
     return {**command, "offset": 0, "phases": [[limits.PHASE_STEPS, command["phases"][-1][1]]]}

@@ -177,7 +177,8 @@ def counted_of(counts: Sequence[Count]) -> Array:
 
 
 def uncounted(passing: Sparse, counts: Sequence[Count]) -> list[Count]:
-    """The counts above 0 that no way can fit, as nobody of any way passes there in that period."""
+    """The counts above 0 that no way can fit, as nobody of any way passes there in that period. passing: as `Problem`
+    has it, a row for each count."""
     numpy, _ = needed()
     sums = numpy.asarray(passing.sum(axis=1)).ravel()
     return [count for count, share in zip(counts, sums, strict=True) if share <= 0 and count.vehicles > 0]

@@ -18,8 +18,8 @@ def beside(name: str) -> Path:
 
 
 def program_of(given: str | None) -> str:
-    """The path of the page's program: the one given, else that of STREETSIM_PAGE, else the one built. Fault where it
-    cannot be run."""
+    """The path of the page's program: the one given, else that of STREETSIM_PAGE, else the one that is
+    installed with the tools, else the one that ./build --page made. Fault where it cannot be run."""
     named = given or os.environ.get(VARIABLE) or str(beside(NATIVE))
     if not os.access(named, os.X_OK):
         raise Fault(

@@ -49,7 +49,8 @@ def compared(said: str, found: str, counts: Compared) -> Iterator[tuple[str, str
 
 
 def settings(path: str) -> Any:
-    """A run's setting, as JSON, without what may differ between two makings of it; Fault where it is none."""
+    """The parsed value of a run's setting, without what may differ between two makings of it (UNTOLD of made); Fault
+    where the file holds none. path: of the file setting.json, which must be there."""
     try:
         value = json.loads(Path(path).read_text(encoding="utf-8"))
         for name in UNTOLD:

@@ -100,8 +100,8 @@ class Recorder(Desk):
         super().enter(last)
 
     def is_bound(self, car: int, link: int) -> bool:
-        """Whether a car, by its number in the program, has a link anywhere in its vehicle's plan as the run file has it,
-        links that it has left among them."""
+        """Whether a car, by its number in the program, has a link anywhere in its vehicle's plan as the run file has
+        it, links that it has left among them."""
         return link in self.run.enters[self.owners[car]].command["plan"]
 
     def look(self, clock: int) -> None:
