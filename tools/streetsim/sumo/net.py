@@ -177,8 +177,9 @@ def spare_main_streets(net: SumoNet) -> None:
 
 
 def read_edge(path: FilePath, element: Element, net: SumoNet, classes: Collection[str]) -> None:
-    """Adds an edge with the lanes that one of the classes may use (none: it is noted in dropped), and notes the names of
-    its other lanes in closed_lanes; of an edge inside a junction it notes the speeds of lanes alone. Fault for a second edge of its name, or two lanes of one index."""
+    """Adds an edge with the lanes that one of the classes may use (none: it is noted in dropped), and notes the names
+    of its other lanes in closed_lanes; of an edge inside a junction it notes the speeds of lanes alone. Fault for a
+    second edge of its name, or two lanes of one index."""
     if element.get("function") in INNER:
         for lane in element.iter("lane"):
             net.inner_speeds[attribute(path, lane, "id")] = attribute(path, lane, "speed", at_least_zero(number))

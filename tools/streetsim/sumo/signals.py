@@ -324,10 +324,10 @@ def shown_green(
 
 
 def hidden(length: int, turn: Turn | MapTurn, grain: int, middle: bool) -> range:
-    """The seconds of a green of length seconds that are not shown, counted from its begin: in its middle (middle), or at
-    its begin; of a green below TWO_PARTS always at its begin. Begin and number are rounded down to grain seconds, the
-    number of a green below TWO_PARTS to the nearest: of seven, one hidden second fewer lets a quarter more pass, and a
-    search for plans would prefer such greens."""
+    """The seconds of a green of length seconds that are not shown, counted from its begin: in its middle (middle), or
+    at its begin; of a green below TWO_PARTS always at its begin. Begin and number are rounded down to grain seconds,
+    the number of a green below TWO_PARTS to the nearest: of seven, one hidden second fewer lets a quarter more pass,
+    and a search for plans would prefer such greens."""
     own = length, turn.speed, turn.limit
     begin, end = hidden_middle(*own) if middle else (0, hidden_start(*own))
     nearest = grain // 2 if length < TWO_PARTS else 0
