@@ -22,7 +22,8 @@ DEMAND = ("route", "routeDistribution", "vehicle", "flow", "trip", "person", "pe
 def read_additional(path: FilePath, net: SumoNet, types: Types, report: Report, demand: Demand | None = None) -> None:
     """Reads an additional file: signal programs, WAUTs, detectors and bus stops go to a network, vehicle types to
     types, and vehicles, flows and routes to a demand (None: they are a Fault). Other elements are passed over and
-    reported. Fault too for a program of a light that the network does not have."""
+    reported. Fault where the file cannot be read or an element is wrong, as a program of a light that the network does
+    not have; Unrouted (a Fault) for a trip, or a vehicle or flow without a route."""
     undone = defaultdict(list)
     for element in elements(path, ["additional", "add", "routes", "tlLogics"]):
         if element.tag == "tlLogic":

@@ -17,8 +17,9 @@ class BusStop:
 
 
 def stretch(stop: BusStop, length: float, is_friendly: bool, where: str) -> tuple[float, float]:
-    """The (begin, end) metres of a stop on a lane of some length; Fault where it lies beyond the lane, unless
-    is_friendly: then it is moved onto it. where: the element, for the Fault."""
+    """The (begin, end) of a stop in metres from its lane's begin; length: of the lane, metres. Fault where it lies
+    beyond the lane or ends before it begins, unless is_friendly: then it is moved onto the lane. where: the element,
+    for the Fault."""
     begin, end = (at + length if at is not None and at < 0 else at for at in (stop.begin, stop.end))
     end = length if end is None else end
     begin = 0.0 if begin is None else begin

@@ -45,8 +45,9 @@ HERE = {  # what a configuration asks for otherwise than it is done here, and wh
 
 
 def read_configuration(path: str) -> dict[str, str]:
-    """The options that a configuration (.sumocfg) sets, {long name: value}; paths are made those from the folder of the
-    command. Its root and its sections may have any name, as in SUMO."""
+    """The options that a configuration (.sumocfg) sets, {long name: value as text}; paths of files are made those from
+    the folder of the command, several with commas between. Its root and its sections may have any name, as in SUMO.
+    Fault where it cannot be read or is no XML."""
     found = {}
     for element in elements(path, None):
         for one in element.iter():

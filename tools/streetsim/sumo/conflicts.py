@@ -32,8 +32,9 @@ PACES = {STOPS: Pace(2, 4.15), ALL_STOP: Pace(2, 4.15, 0.7)}
 
 
 def conflicts_of(net: SumoNet, network: Network, flows: Flows) -> list[Waiting]:
-    """Who gives way where there is no light, one Waiting for each movement that routes use and that gives way; flows:
-    vehicles an hour by (edge, next edge), without which a movement counts as unused."""
+    """Who gives way at junctions without any light: one Waiting for each movement that routes use and that gives way to
+    another used one, or always has to stop. flows: vehicles an hour by (edge, next edge), without which a movement
+    counts as unused."""
     turns_at = defaultdict(list)
     for link, lane, following in network.turns:
         turns_at[network.links[link].edge, network.links[following].edge].append((link, lane, following))
@@ -51,9 +52,9 @@ def conflicts_of(net: SumoNet, network: Network, flows: Flows) -> list[Waiting]:
 def foes_by_way(
     connections: Iterable[Connection], yields: Mapping[int, Iterable[int]], network: Network, flows: Flows
 ) -> dict[Way, dict[TurnKey, Foe]]:
-    """The vehicles that go before each used movement of a junction, by their turns, {(edge, next edge): {(link, lane,
-    next link): foe}}. yields: the requests that each request gives way to. Where all have to stop, these are all who
-    come from other streets."""
+    """Who goes before each used movement of a junction, by their turns, {(edge, next edge): {(link, lane, next link):
+    foe}}, empty where nobody does. connections: of the junction; yields: the requests that each request gives way to.
+    Where all have to stop, these are all who come from other edges. flows: as of conflicts_of."""
     used = (one for one in connections if flows.get((one.source, one.target)))
     of_request = {one.request: one for one in used if one.request is not None}
     found: dict[Way, dict[TurnKey, Foe]] = {(one.source, one.target): {} for one in of_request.values()}
@@ -68,8 +69,8 @@ def foes_by_way(
 
 
 def foes(one: Connection, other: Connection, network: Network) -> dict[TurnKey, Foe]:
-    """The turns of another connection, to which vehicles of one give way, {(link, lane, next link): foe}; each foe has
-    the gap in seconds that must be free before it, and how many seconds later it is out of the way."""
+    """The turns of another connection (other), to which vehicles of one give way, {(link, lane, next link): foe}, one
+    turn for each link of its next edge; each foe has the gap in seconds that must be free before it."""
     link, lane = network.place_of[other.source, other.source_lane]
     links = network.links_of[other.source]
     fast = joins_fast(one, other, network.links[link].speed, other.source in network.rings)
@@ -95,15 +96,16 @@ def joins_fast(one: Connection, other: Connection, speed: float, in_ring: bool) 
 
 
 def gap_of(one: Connection, other: Connection, fast: bool) -> Gap:
-    """The gap that one who gives way needs before each vehicle of another connection on one lane; fast: as joins_fast
-    says."""
+    """The gap that one who gives way needs before each vehicle of another connection, as for a street of one lane;
+    fast: as joins_fast says. Zero where all stop."""
     gap = JOINING if fast else ENTERING if one.target == other.target else CROSSING
     return NONE if one.state == ALL_STOP else OTHERS[one.state][gap] if one.state in OTHERS else gap
 
 
 def gaps_of_ways(net: SumoNet) -> dict[Way, dict[Way, Gap]]:
-    """The movements that go before each movement without a light, whether or not routes take it, with the gap in
-    seconds before each: {(edge, next edge): {(edge, next edge) that goes first: gap}}."""
+    """The movements that go before each movement without a light, whether or not routes take it, with the gap as of
+    gap_of: {(edge, next edge): {(edge, next edge) that goes first: gap}}; a movement that gives way to none is left
+    out."""
     found: defaultdict[Way, dict[Way, Gap]] = defaultdict(dict)
     for junction, connections in connections_of(net).items():
         of_request = {one.request: one for one in connections if one.request is not None and not one.light}

@@ -27,8 +27,8 @@ Made = tuple[Network, list[tuple[str, int]], list[Command], list[str]]
 
 
 def run_and_map(made: Made, report: Report) -> tuple[list[str], Map]:
-    """(the lines of a run as texts, its map), of what converted made; Fault where a limit of the simulator is
-    passed."""
+    """(the lines of a run as JSON texts without line ends, its map), of what converted made; the report's texts go into
+    the map. Fault where a limit of the simulator is passed, or a detector has no lane."""
     network, lights, commands, names = made
     mapping = map_of(network, lights, names, report)
     mapping.detectors = placed(network.detectors, mapping, network.closed_lanes, report)
@@ -39,8 +39,9 @@ def run_and_map(made: Made, report: Report) -> tuple[list[str], Map]:
 
 
 def converted(net: SumoNet, types: Types, vehicles: Sequence[Vehicle], options: Options, report: Report) -> Made:
-    """(the network, the lights with their nodes, the commands, the vehicles' names) of a run; vehicles: in order of
-    departure. What is left out or made otherwise than in SUMO is reported."""
+    """(the network, the lights with their nodes, the commands, the names of the vehicles that drive) of a run;
+    vehicles: in order of departure. What is left out or made otherwise than in SUMO is reported. Fault for what cannot
+    be made, as a route without a connection. In net, programs may become those of the run's begin (wauts.days_of)."""
     if options.slow:
         net, vehicles = slowed(net, vehicles, options.slow, report)
     flows = hourly_flows(vehicles)
@@ -84,8 +85,8 @@ def refuse_over_limits(network: Network, load: str, names: Sequence[str]) -> Non
 
 
 def map_of(network: Network, lights: list[tuple[str, int]], names: list[str], report: Report) -> Map:
-    """The map of an import; lights: (light, node), one for each node; names: of the vehicles, in order of their
-    numbers."""
+    """The map of an import, still without detectors (run_and_map sets them); lights: (light, node), one for each node
+    with a light; names: of the vehicles, in order of their numbers; report: whose warnings it gets."""
     options = asdict(network.options)
     return Map(
         nodes=[

@@ -1,4 +1,5 @@
-"""Reads SUMO's vehicles, flows and routes (.rou.xml) and makes enter commands of them."""
+"""Reads SUMO's vehicles, flows and routes (.rou.xml) and makes enter commands of them. All that reads raises Fault,
+with file and element, where an attribute is absent or cannot be read."""
 import math
 import random
 from collections import Counter
@@ -42,7 +43,7 @@ class Unrouted(Fault):
 
 @dataclass(slots=True)
 class Vehicle:
-    """A vehicle as files tell it, with its route."""
+    """A vehicle as files tell it, with its route; edges, type and stops are complete when Demand.finish gives it."""
 
     name: str
     depart: float  # seconds
@@ -68,13 +69,14 @@ class Demand:
         self.later: list[tuple[Vehicle, str]] = []  # (vehicle, file and element): routes may be told after the vehicles
 
     def read(self, path: FilePath) -> None:
-        """Adds what a file of routes has; Fault where it is wrong."""
+        """Adds what a file of routes has; Fault where it cannot be read or is wrong, Unrouted as of read_element."""
         for element in elements(path, ["routes", "additional", "add"]):
             self.read_element(path, element)
 
     def read_element(self, path: FilePath, element: Element) -> None:
-        """Adds an element of a file of routes, which may also stand in an additional file. A trip is refused as
-        Unrouted; persons and containers are reported as skipped, unknown elements as ignored."""
+        """Adds an element of a file of routes, which may also stand in an additional file. A trip, or a vehicle or flow
+        without a route, is refused as Unrouted; persons and containers are reported as skipped, unknown elements as
+        ignored."""
         readers = {
             "route": self.read_route,
             "routeDistribution": self.read_mix,
@@ -93,7 +95,8 @@ class Demand:
             self.report.ignored[f"<{element.tag}> of route files"] += 1
 
     def read_route(self, path: FilePath, element: Element) -> None:
-        """Adds a route with its stops; Fault where another route, or a distribution, has its name."""
+        """Adds a route with its stops to routes and route_stops; Fault where another route, or a distribution, has its
+        name, and as of edges."""
         name = attribute(path, element, "id", filled)
         self.note_ignored(element)
         if name in self.routes or name in self.mixes:
@@ -102,7 +105,8 @@ class Demand:
         self.route_stops[name] = stops_in(path, element, self.net)
 
     def read_mix(self, path: FilePath, element: Element) -> None:
-        """Adds a distribution of routes; Fault where another one, or a route, has its name."""
+        """Adds a distribution of routes, and the routes in it; Fault where another one, or a route, has its name, and
+        as of mix."""
         name = attribute(path, element, "id", filled)
         if name in self.routes or name in self.mixes:
             raise Fault(f"{told(path, element)}: a second route of this name")
@@ -134,8 +138,8 @@ class Demand:
         return self.choices.choices(*self.mixes[name])[0] if name in self.mixes else name
 
     def edges(self, path: FilePath, owner: Element, route: Element) -> tuple[str, ...]:
-        """The edges of a route, as many times over as its repeat says. Fault where it has no edges, or the network does
-        not know one of them."""
+        """The edges of a route (its element), once, and again as often as its repeat says. Fault, of the element owner,
+        where it has no edges, or one that the network does not have; edges not for the classes pass."""
         names = tuple(attribute(path, route, "edges").split())
         unknown = [name for name in names if name not in self.net.edges and name not in self.net.dropped]
         if unknown or not names:
@@ -146,7 +150,8 @@ class Demand:
         return names * (1 + attribute(path, route, "repeat", at_least_zero(int))) if route.get("repeat") else names
 
     def add(self, path: FilePath, element: Element, departs: Sequence[tuple[str, float]]) -> None:
-        """Adds the vehicles of an element, one for each (name, depart in seconds); Unrouted where it tells no route."""
+        """Adds the vehicles of an element, one for each (name, depart in seconds); Unrouted where it tells no route,
+        Fault where the route inside it is wrong. A route that it names may come later in the files."""
         inner, mix = self.inner_route(path, element)
         if inner is None and mix is None and element.get("route") is None:
             raise Unrouted(f"{told(path, element)} {ROUTED_FIRST}")
@@ -178,7 +183,8 @@ class Demand:
 
     def inner_route(self, path: FilePath, element: Element) -> tuple[Element | None, Element | None]:
         """(route, distribution) that stand in an element, each None where it has no such element inside. Both are None
-        where its attribute route names a route, which then counts. Fault where it has two routes inside."""
+        where its attribute route names a route, which then counts; those inside are reported as ignored. Fault where it
+        has two routes inside."""
         routes = [inner for inner in element if inner.tag in ("route", "routeDistribution")]
         if element.get("route") is not None:
             self.report.ignored[f"routes in {element.tag}s that name another one"] += len(routes)
@@ -202,7 +208,7 @@ class Demand:
             self.add(path, element, [(attribute(path, element, "id", filled), depart)])
 
     def read_flow(self, path: FilePath, element: Element) -> None:
-        """Adds the vehicles of a flow, called NAME.NUMBER."""
+        """Adds the vehicles of a flow, called NAME.NUMBER from 0 on, at the seconds of flows.departs."""
         name = attribute(path, element, "id", filled)
         self.add(
             path, element, [(f"{name}.{at}", depart) for at, depart in enumerate(departs(path, element, self.draws))]
@@ -240,7 +246,8 @@ def enters(
     vehicles: Iterable[Vehicle], net: SumoNet, network: Network, types: Types, report: Report
 ) -> tuple[list[Command], list[Vehicle]]:
     """(the enter commands, the vehicles that they are of), in one order. Vehicles that cannot drive, and stops that
-    cannot be made, are left out and reported by reason; the network gets the stops that can (network.visits)."""
+    cannot be made, are left out and reported by reason; the network gets the stops that can (network.visits), and turns
+    that plans need (Network.route). Fault as of why_no_way. vehicles: in order of departure."""
     sizes, stops = Sizes(types), Stops(net, types, report)
     commands: list[Command] = []
     driven: list[Vehicle] = []
@@ -278,9 +285,9 @@ def entry_lane(plan: Sequence[int], network: Network, used: Counter[int], found:
 
 
 def kinds_of(driven: Sequence[Vehicle], types: Types) -> Json:
-    """What a map keeps of vehicles: {"types": [[name, fields of its Kind]], "type": by vehicle its place in types,
-    "route" and "line": by vehicle their names, where one has any, "ends": a sum over where all begin and end, by which
-    the map of another demand is known}."""
+    """What a map keeps of vehicles: {"types": [[name, vclass, length, gap, speed]] as of Kind, "type": by vehicle its
+    place in types, "route": by vehicle its name (an empty list where none has one), "line": the same, but no key where
+    none has one, "ends": a sum over where all begin and end, by which the map of another demand is known}."""
     names = list(types.kinds)
     place = {name: at for at, name in enumerate(names)}
     return {
@@ -295,8 +302,9 @@ def kinds_of(driven: Sequence[Vehicle], types: Types) -> Json:
 def plan_of(
     vehicle: Vehicle, net: SumoNet, network: Network, stops: Mapping[int, LaneKey]
 ) -> tuple[tuple[int, ...] | None, str]:
-    """(links of a vehicle, empty text), or (None, why it cannot drive). stops: the lane at which it stops, by the
-    edge's place in its route."""
+    """(links of a vehicle, empty text), or (None, why it cannot drive); Fault as of why_no_way. The network counts that
+    the links carry it, and gets turns that it needs (Network.route). stops: the lane at which it stops, by the edge's
+    place in its route."""
     if any(edge in net.dropped for edge in vehicle.edges):
         return None, "an edge of the route has no lane for the classes"
     if len(vehicle.edges) > limits.PLAN:

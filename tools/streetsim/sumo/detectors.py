@@ -30,8 +30,8 @@ class SumoDetector:
 
 
 def read_detector(path: FilePath, element: Element, report: Report) -> SumoDetector | None:
-    """The detector of an element; None for one over several lanes, which is reported. Fault where its period is below 1
-    s."""
+    """The detector of an element; None for one over several lanes, which is reported. Fault where an attribute is
+    absent or cannot be read, or its period is below 1 s; a longer one than a run may have becomes the longest."""
     kind = KINDS[element.tag]
     if element.get("lanes"):
         report.ignored[f"<{element.tag}> over several lanes"] += 1

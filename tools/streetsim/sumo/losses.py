@@ -14,9 +14,9 @@ STOPPING, STOPS = 3.5, "sw"  # seconds more of one that has to stop, by its conn
 def lost(
     connections: Sequence[Connection], net: SumoNet, flows: Flows, longer: Mapping[str, float]
 ) -> tuple[float, float]:
-    """(vehicles an hour at a junction, by its connections; the seconds that they lose in an hour, beside vehicles that
-    go straight on and first). longer: by edge of a ring, the seconds that it takes longer here than in SUMO, which are
-    taken off at its end."""
+    """(vehicles an hour at a junction; the seconds that all of them lose in an hour, more than vehicles that go
+    straight on and first). connections: of the junction; flows: vehicles an hour by (edge, next edge); longer: by edge
+    of a ring, the seconds that it takes longer here than in SUMO, which are taken off at its end."""
     sharing = Counter((connection.source, connection.target) for connection in connections)
     total = seconds = 0.0
     for connection in connections:

@@ -1,4 +1,5 @@
-"""Reads SUMO's networks (.net.xml), and the signal programs of additional files."""
+"""Reads SUMO's networks (.net.xml), and the signal programs of additional files. All that reads raises Fault, with file
+and element, where an attribute is absent or cannot be read."""
 from collections import defaultdict
 from collections.abc import Collection, Iterable, Sequence
 from dataclasses import dataclass, field, replace
@@ -137,8 +138,8 @@ def allows(element: Element, classes: Collection[str]) -> bool:
 
 
 def read_net(path: FilePath, classes: Sequence[str], report: Report) -> SumoNet:
-    """The network of a .net.xml, with the lanes that at least one of the classes may use; Fault where there are none.
-    Elements that are not read are reported."""
+    """The network of a .net.xml, with the lanes that at least one of the classes may use; Fault where the file cannot
+    be read or is wrong, or there are no such lanes. Elements that are not read are reported."""
     net = SumoNet()
     named: set[str] = set()
     readers = {
@@ -166,8 +167,8 @@ def read_net(path: FilePath, classes: Sequence[str], report: Report) -> SumoNet:
 
 
 def spare_main_streets(net: SumoNet) -> None:
-    """Lets nobody stop at a sign who turns off a main street, where no light is: netconvert gives its left turns the
-    state of those who stop, but in SUMO they give way without a stop."""
+    """Lets nobody stop at a sign who turns off a main street, where no light is (state s becomes m): netconvert gives
+    its left turns the state of those who stop, but in SUMO they give way without a stop."""
     for connections in connections_of(net).values():
         lit = any(one.light for one in connections)
         main = {one.source for one in connections if one.state == MAJOR and not lit}
@@ -178,8 +179,8 @@ def spare_main_streets(net: SumoNet) -> None:
 
 def read_edge(path: FilePath, element: Element, net: SumoNet, classes: Collection[str]) -> None:
     """Adds an edge with the lanes that one of the classes may use (none: it is noted in dropped), and notes the names
-    of its other lanes in closed_lanes; of an edge inside a junction it notes the speeds of lanes alone. Fault for a
-    second edge of its name, or two lanes of one index."""
+    of its other lanes in closed_lanes; of an edge inside a junction it notes the speeds of lanes alone, in
+    inner_speeds. Fault for a second edge of its name, or two lanes of one index."""
     if element.get("function") in INNER:
         for lane in element.iter("lane"):
             net.inner_speeds[attribute(path, lane, "id")] = attribute(path, lane, "speed", at_least_zero(number))
@@ -220,8 +221,8 @@ def street_of(element: Element) -> str:
 
 
 def read_location(path: FilePath, element: Element, net: SumoNet, _classes: Collection[str]) -> None:
-    """Keeps where the network lies: {"projection": as SUMO writes it, "!": none, "offset": (x, y) that was added to its
-    metres}."""
+    """Keeps in net.location where the network lies: {"projection": as SUMO writes it, "!": none, "offset": (x, y) that
+    was added to its metres}."""
     offset = attribute(path, element, "netOffset", plane_point) if element.get("netOffset") else (0.0, 0.0)
     net.location = {"offset": offset, "projection": element.get("projParameter", "!")}
 
@@ -304,13 +305,13 @@ def has_lane(edge: Edge, index: int) -> bool:
 
 
 def read_roundabout(path: FilePath, element: Element, net: SumoNet, _classes: Collection[str]) -> None:
-    """Notes the edges of a roundabout."""
+    """Notes the edges of a roundabout in net.roundabouts."""
     net.roundabouts.update(attribute(path, element, "edges").split())
 
 
 def read_program(path: FilePath, element: Element, net: SumoNet, _classes: Collection[str]) -> None:
-    """Sets a light's program; a later one replaces the one before, which `earlier` keeps. One without phases gives the
-    present program another offset alone."""
+    """Sets a light's program in net.programs; a later one replaces the one before, which `earlier` keeps. One without
+    phases gives the present program another offset alone."""
     phases = [
         (attribute(path, phase, "duration", at_least_zero(seconds)), attribute(path, phase, "state"))
         for phase in element.iter("phase")
@@ -363,8 +364,8 @@ def more_of(program: Element) -> tuple[str, ...]:
 
 
 def actuated(net: SumoNet, lights: Iterable[str]) -> list[str]:
-    """The names of lights, among some, whose program is not static: SUMO times them by detectors, or by anything but
-    seconds alone."""
+    """The names of lights, among some that have a program, whose present program is of any kind but static: SUMO times
+    them by detectors, or by anything but seconds alone."""
     return [light for light in dict.fromkeys(lights) if net.programs[light].kind != STATIC]
 
 
@@ -374,7 +375,7 @@ def bound_of(path: FilePath, phase: Element, name: str) -> float | None:
 
 
 def connections_of(net: SumoNet) -> dict[str, list[Connection]]:
-    """The connections of each junction, by the junction's name, at whose end of an edge they begin."""
+    """The connections of each junction, {its name: those of edges that end there}."""
     found = defaultdict(list)
     for connection in net.connections:
         found[net.edges[connection.source].end].append(connection)

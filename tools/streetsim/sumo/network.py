@@ -30,7 +30,8 @@ CROWDING_BESIDE = 2.0  # the same where links of an edge lead to a common one an
 
 @dataclass(frozen=True, slots=True)
 class Options:
-    """What an import can be told; the values are explained in tools/CLOSENESS.md."""
+    """What an import can be told; the values are explained in tools/CLOSENESS.md. dawdle and change: of 1,000; zone:
+    cells; residence: steps; buffer: vehicles; permissive: a share, 0 to 1; begin, end: clocks in seconds."""
 
     classes: tuple[str, ...] = ("passenger",)
     strict_turns: bool = False
@@ -82,7 +83,8 @@ class Network:
     """Nodes, links and turns in the making; links and nodes go by number, their place in the load."""
 
     def __init__(self, net: SumoNet, options: Options, report: Report, flows: Flows) -> None:
-        """flows: vehicles an hour by (edge, next edge); empty where no route is known."""
+        """flows: vehicles an hour by (edge, next edge); empty where no route is known. What is made otherwise than in
+        SUMO is reported; Fault where a junction is absent, or as of closing_lanes."""
         self.options, self.detectors, self.closed_lanes = options, net.detectors, net.closed_lanes
         edges = ordered(net)
         ends = {name for edge in edges for name in (edge.begin, edge.end)}
@@ -132,8 +134,8 @@ class Network:
         self.rings = sorted(net.roundabouts & net.edges.keys())
 
     def add_connections(self, net: SumoNet, report: Report) -> None:
-        """Adds the turns of all connections. Of several from one lane to one next link the one that leads to the lane
-        of the same number is kept, else the one to the lowest lane; this is reported."""
+        """Adds the turns of all connections, and notes these in movements. Of several from one lane to one next link
+        the one that leads to the lane of the same number is kept, else the one to the lowest lane; this is reported."""
         doubled = set()
         for connection in net.connections:
             self.movements[connection.source, connection.target].append(connection)
@@ -178,8 +180,8 @@ class Network:
         return [lane for lane in range(len(self.links[link].lanes)) if (link, lane, following) in self.turns]
 
     def join(self, link: int, following: int) -> None:
-        """Adds turns from all lanes of a link to a parallel link of an edge that its edge leads to; each has the signal
-        of the nearest connection between these edges."""
+        """Adds turns from all lanes of a link to a next link to which it has none, of an edge that its edge leads to;
+        each has the signal of the nearest connection between these edges. Notes the pair in joined."""
         connections = self.movements[self.links[link].edge, self.links[following].edge]
         for lane, index in enumerate(self.links[link].lanes):
             nearest = min(connections, key=lambda connection: abs(connection.source_lane - index))

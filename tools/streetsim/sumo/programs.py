@@ -1,5 +1,5 @@
-"""What a map keeps of lights that SUMO times by detectors: their programs, the lanes before them, who gives way there.
-The package actuated reads it."""
+"""What a map keeps of lights that SUMO times by detectors, and of lights that buses pass: their programs, the lanes
+before them, who gives way there. The packages actuated and buses read it."""
 from collections import defaultdict
 from collections.abc import Container, Iterable, Sequence
 from dataclasses import astuple
@@ -21,9 +21,10 @@ MOST_BEFORE = 4  # lanes before one, on which its detector may lie
 def kept_programs(
     net: SumoNet, network: Network, lights: Iterable[tuple[str, int]], flows: Flows
 ) -> list[Json]:
-    """What a map keeps of each program that is not static: its light, kind, offset, phases, parameters, ways and lanes
-    for its detectors, and for each node of the light what says who gives way. lights: (light, node). Programs that are
-    not in force come last."""
+    """What a map keeps of each program that is not static: {"light", "program": its name, "idle": True where it is not
+    in force (these come last), "kind", "offset": seconds, "phases": [[seconds, state, minDur, maxDur, [next phases]]],
+    "parameters", "more": as of Program, "ways": as of way_of, "lanes": as of lane_of, "nodes": as of node_of, for each
+    node of the light, "timing": of a NEMA light, as of Program}. lights: (light, node)."""
     nodes = defaultdict(list)
     for light, node in lights:
         if any(one.kind != STATIC for one in (net.programs[light], *net.earlier.get(light, ()))):
@@ -57,8 +58,9 @@ def kept_programs(
 def fixed_programs(
     net: SumoNet, network: Network, lights: Iterable[tuple[str, int]], flows: Flows, wanted: Container[str]
 ) -> list[Json]:
-    """What a map keeps of each static program of a light in wanted, so that the light can wait for buses: as
-    kept_programs, but for detectors. lights: (light, node)."""
+    """What a map keeps of each light of wanted whose program in force is static, so that it can wait for buses:
+    {"light", "program": its name, "offset": seconds, "phases": [[seconds, state, minDur, maxDur]], "nodes": as of
+    node_of}. lights: (light, node)."""
     nodes = defaultdict(list)
     for light, node in lights:
         if light in wanted and net.programs[light].kind == STATIC:
@@ -80,7 +82,8 @@ def fixed_programs(
 def lights_of_riders(
     entered: Iterable[Command], driven: Iterable[Vehicle], types: Types, network: Network
 ) -> set[str]:
-    """The names of lights that vehicles pass which have a line of public transport, or another class than passenger."""
+    """The names of lights that vehicles pass which have a line of public transport, or another class than passenger.
+    entered: the enter commands of the vehicles driven, in one order."""
     light_at = {(link, following): turn.light for (link, _, following), turn in network.turns.items() if turn.light}
     found: set[str] = set()
     for command, vehicle in zip(entered, driven, strict=True):
@@ -118,9 +121,10 @@ def lane_of(edge: str, index: int, net: SumoNet, before: dict[tuple[str, int], l
 
 
 def node_of(number: int, connections: Sequence[Connection], net: SumoNet, flows: Flows, name: str) -> Json:
-    """What says who gives way at a node: {"node": its number, "connections": those that its light controls or that have
-    no light, "yields": [[request, those that it gives way to]], "flows": [[edge, next edge, vehicles an hour]]}. All
-    three lists are empty where one of them is not known. name: of the node's junction."""
+    """What says who gives way at a node: {"node": its number, "connections": the fields, in a list, of each that its
+    light controls or that has no light, "yields": [[request, [those that it gives way to]]], "flows": [[edge, next
+    edge, vehicles an hour]]}. All three lists are empty where one of them is not known. connections: of the node's
+    junction; name: the junction's."""
     light = light_of(connections, net)
     own = [one for one in connections if one.light in (light, None)]
     known = bool(flows) and bool(net.yields.get(name)) and all(one.request is not None for one in own)

@@ -77,12 +77,12 @@ def warn_of_speeds(network: Network, report: Report) -> None:
 
 
 def usual_cells(link: Link) -> int:
-    """The cells of a link by its length."""
+    """How many cells a link would have by its length alone."""
     return limits.cells_of(link.metres)
 
 
 def cells_here(link: Link) -> int:
-    """The cells that a link has, which may differ for the sake of its speed."""
+    """How many cells a link has, which may differ from usual_cells for the sake of its speed."""
     return link.cells
 
 
