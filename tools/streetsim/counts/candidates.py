@@ -65,8 +65,9 @@ def entries_and_exits(graph: Graph) -> tuple[list[int], list[int]]:
 
 
 def pairs_of_edges(graph: Graph, net: SumoNet, everywhere: bool) -> list[Pair]:
-    """All pairs of an entry and an exit; of any two edges where the network has no entries or no exits, or where trips
-    begin everywhere. Pairs of an edge with itself, or with the one that it turns back to, are left out."""
+    """All pairs of an entry and an exit; of any two edges where the network has no entries or no exits, or where
+    `everywhere` says that trips begin and end on any edge. Pairs of an edge with itself, or with the one that it turns
+    back to, are left out."""
     entries, exits = entries_and_exits(graph)
     begins, ends = (ends_of(graph, net, some) for some in (entries, exits))
     if everywhere or not entries or not exits:
@@ -107,8 +108,9 @@ def pairs_of_zones(graph: Graph, zones: Mapping[str, Zone], wanted: Iterable[tup
 
 
 def thinned(pairs: Sequence[Pair], ways: int, most: int, seed: int) -> tuple[list[Pair], int]:
-    """(pairs to search, how many ways of each), so that there are about `most` ways in all: fewer ways of each pair
-    first, as pairs that are left out cost more; where even one way of each is too many, a seed draws some pairs."""
+    """(pairs to search, how many ways of each), so that there are about `most` ways in all; ways: of each pair at most.
+    First there are fewer ways of each pair, as pairs that are left out cost more; where even one way of each is too
+    many, a seed draws some pairs."""
     count = sum(len(pair.sources) * len(pair.sinks) for pair in pairs)
     each = max(1, min(ways, most // max(1, count)))
     if count <= most:
@@ -126,9 +128,9 @@ class Times:
 
 
 def ways_between(graph: Graph, pairs: Sequence[Pair], times: Times, most: int, seed: int) -> list[Way]:
-    """At most `most` ways of each pair of edges, with their shares: the shortest by time with the waits at signals,
-    then without, and further ones that draws of these seconds find, up to 1.5 times as long. Pairs without a way have
-    none."""
+    """At most `most` ways from each first to each last edge of the pairs, with their shares: the shortest by time with
+    the waits at signals, then without, and further ones that draws (by the seed) of these seconds find, up to 1.5 times
+    as long. Pairs without a way have none."""
     numpy, _ = needed()
     both = [
         numpy.array([value + (TURN_BACK if back else 0.0) for value, back in zip(some, graph.turns_back, strict=True)])
@@ -167,7 +169,8 @@ HABITS = [Habit(waits, spread) for waits in (1.0, 0.5, 0.0) for spread in (0.1, 
 
 
 def shares_by(ways: Sequence[Way], habit: Habit) -> Array:
-    """The share of its pair's vehicles that each way has by a habit, as an array in the ways' order."""
+    """The share of its pair's vehicles that each way has by a habit, as an array in the ways' order; 0 for a way whose
+    share is given (its weight is 0)."""
     numpy, _ = needed()
     groups: dict[tuple[int, int, int], int] = {}
     group = numpy.array([groups.setdefault((way.pair, way.path[0], way.path[-1]), len(groups)) for way in ways], int)
@@ -238,10 +241,10 @@ def ways_of_pair(at: int, pair: Pair, found: Mapping[tuple[int, int], Mapping[Pa
 def with_given(
     graph: Graph, pairs: Sequence[Pair], ways: Sequence[Way], routes: Iterable[tuple[str, ...]], costs: Sequence[float]
 ) -> tuple[list[Pair], list[Way]]:
-    """Pairs and ways with the routes of files (names of edges) as further candidates; one that is a way already is left
-    out. A route belongs to the pair whose ends it has, else to a new one of its own; the routes of files have half of
-    their pair's vehicles together, or all where it had no way, as often as each stands in the files. costs: seconds of
-    each movement."""
+    """(all pairs, all ways) with the routes of files (names of edges, all of the graph) as further candidates; one that
+    is a way already is left out. A route belongs to the pair whose ends it has, else to a new pair with its ends. The
+    routes of files have half of their pair's vehicles together, or all where it had no way: each in proportion to how
+    often it stands in the files. costs: seconds of each movement."""
     many = Counter(tuple(graph.number[name] for name in edges) for edges in routes)
     all_pairs, known = list(pairs), {way.path for way in ways}
     place = {(one, other): at for at, pair in enumerate(pairs) for one in pair.sources for other in pair.sinks}

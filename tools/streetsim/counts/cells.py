@@ -28,7 +28,7 @@ class Row:
 
     def get(self, name: str, convert: Callable[[str], Value]) -> Value:
         """What a column has, without blanks around it, converted; Fault where `convert` raises ValueError, whose words
-        it tells."""
+        it tells; KeyError where the table does not have the column."""
         text = self.cells[name].strip()
         try:
             return convert(text)
@@ -41,8 +41,9 @@ class Row:
 
 
 def rows_of(path: FilePath, needed: Sequence[str], more: Collection[str] = ()) -> Iterator[Row]:
-    """The rows of a table with the columns `needed`, and maybe those of `more` (in small or capital letters); Fault for
-    other columns, or a row of another length. Blank rows, and those that begin with #, are left out."""
+    """The rows of a table whose first line has the columns `needed`, and maybe those of `more` (given in small letters;
+    the file may have capital ones). Blank rows, and those that begin with #, are left out. Fault where the file cannot
+    be read, a column is missing or is none of these, or a row has more or fewer values than the first line."""
     with reading(path), open_text(path) as file:
         lines = (line for line in file)
         first = next((line for line in lines if line.strip()), "")
@@ -60,8 +61,8 @@ def rows_of(path: FilePath, needed: Sequence[str], more: Collection[str] = ()) -
 
 
 def check_columns(path: FilePath, names: Sequence[str], needed: Sequence[str], more: Collection[str]) -> None:
-    """Fault for a table without a needed column, with one that is neither needed nor one of `more`, or with one
-    twice."""
+    """Fault for a table without a needed column, with one that is neither needed nor one of `more`, or with one twice.
+    names: the columns that it has."""
     if names == [""]:
         raise Fault(f"{path}: nothing is in it; expected the columns {','.join(needed)}")
     if missing := [name for name in needed if name not in names]:
@@ -77,8 +78,8 @@ def check_columns(path: FilePath, names: Sequence[str], needed: Sequence[str], m
 
 
 def clock_of(text: str) -> int:
-    """Whole seconds, 0 to 1,000,000,000, of 3600, 01:00:00, 0:01:00:00, or 01:00 (HH:MM) as planners write it;
-    ValueError otherwise."""
+    """Whole seconds, 0 to 1,000,000,000, of 3600, 01:00:00, 0:01:00:00 (with days), or 01:00 (HH:MM) as planners write
+    it; ValueError otherwise."""
     parts = text.split(":")
     try:
         values = [float(part) for part in parts]
@@ -120,6 +121,6 @@ def period_of(begin: int, end: int, where: str) -> tuple[int, int]:
 
 
 def begins_with(path: FilePath, mark: str) -> bool:
-    """Whether a file begins with a mark, blanks and blank lines apart."""
+    """Whether a file begins with a mark, blanks and blank lines apart; Fault where it cannot be read."""
     with reading(path), open_text(path) as file:
         return next((line for line in file if line.strip()), "").lstrip().startswith(mark)

@@ -18,7 +18,8 @@ Key = tuple[int, int, str]  # begin and end in seconds, class
 
 
 class Contradiction(NamedTuple):
-    """Two numbers of vehicles in one period that should be about equal, and the lines of files that tell them."""
+    """Two numbers of vehicles in one period (begin and end in seconds) that should be about equal, and the lines of
+    files that tell them. place: an edge or a junction, in words."""
 
     place: str
     begin: int
@@ -47,8 +48,8 @@ def check_edges(names: Iterable[str], where: str, net: SumoNet) -> None:
 
 
 def check_counts(counts: Sequence[Count], net: SumoNet, graph: Graph) -> None:
-    """Fault for counts of edges or turns that the network does not have, of a place and period twice, of more than a
-    vehicle a second and lane; and where all are 0."""
+    """Fault for counts of edges or turns that the network does not have, of one place and class whose periods overlap,
+    of more than a vehicle a second and lane; and where all are 0. counts: one at least."""
     for count in counts:
         check_edges(count.edges, count.where, net)
         for source, target in pairwise(count.edges):
@@ -80,7 +81,7 @@ def check_periods(counts: Sequence[Count]) -> None:
 
 
 def check_zone_edges(zones: Mapping[str, Zone], net: SumoNet) -> None:
-    """Fault for zones of edges that the network does not have, or on which none of the classes may drive."""
+    """Fault for zones with edges that the network does not have, or on which none of the classes may drive."""
     for zone in zones.values():
         check_edges([*zone.sources, *zone.sinks], zone.where, net)
 
@@ -91,9 +92,10 @@ NOWHERE: frozenset[int] = frozenset()
 def contradictions(
     counts: Sequence[Count], graph: Graph, begins: Set[int] = NOWHERE, ends: Set[int] = NOWHERE
 ) -> list[Contradiction]:
-    """Pairs of numbers that should be equal and differ by more than a tenth and ten vehicles: of an edge its count, all
-    its turns, and all turns into it; of a junction all that comes in and all that goes out. begins, ends: numbers of
-    edges on which trips begin, and end, where they may well differ."""
+    """Pairs of numbers, of one period and class, that should be equal and differ by more than a tenth (of the larger)
+    and ten vehicles: of an edge its count, all its turns, and all turns into it; of a junction all that comes in and
+    all that goes out; each as far as all of it is counted. begins, ends: numbers of edges on which trips begin, and
+    end, where they may well differ."""
     sums: defaultdict[Key, dict[tuple[str, ...], Count]] = defaultdict(dict)
     for count in counts:
         sums[count.begin, count.end, count.kind][count.edges] = count
@@ -113,7 +115,7 @@ There = Mapping[tuple[str, ...], Count]  # the counts of one period and class, b
 
 def of_edges(there: There, graph: Graph, begins: Set[int], ends: Set[int]) -> Iterator[Sides]:
     """Of each edge what should be equal: its count, all its turns, all turns into it, as far as all of a side are
-    counted."""
+    counted. begins, ends: as `contradictions` has them."""
     for edge, name in enumerate(graph.edges):
         out = every(there, ((name, graph.edges[following]) for following, _ in graph.out[edge]))
         into = every(there, ((graph.edges[before], name) for before, _ in graph.into[edge]))
@@ -127,8 +129,9 @@ def of_edges(there: There, graph: Graph, begins: Set[int], ends: Set[int]) -> It
 
 
 def of_junctions(there: There, graph: Graph, begins: Set[int], ends: Set[int]) -> Iterator[Sides]:
-    """Of junctions all of whose edges are counted what comes in and what goes out, which should be equal. A junction is
-    known by the edges that lead to the same ones."""
+    """Of junctions all of whose edges are counted (by themselves, not by turns) what comes in and what goes out, which
+    should be equal; those where trips end on an edge that comes in, or begin on one that goes out (ends, begins), are
+    left out. A junction is known by the edges that lead to the same ones."""
     seen = set()
     for edge in range(len(graph.edges)):
         targets = {following for following, _ in graph.out[edge]}

@@ -25,8 +25,8 @@ LATE = 0.1  # of a count, that does not pass though the vehicles for it are ther
 
 @dataclass(frozen=True, slots=True)
 class Attempt:
-    """A demand and what its run gave. number: of the run, from 1; passed: vehicles that passed, by count; full: by
-    number of an edge that was full in the run, the mean seconds that vehicles lost there."""
+    """A demand and what its run gave. number: of the run, from 1; passed: vehicles that passed, by count; full: the
+    edges that were full in the run, as `full_edges` gives them."""
 
     number: int
     trips: list[Trip]
@@ -60,7 +60,8 @@ def attempts(
     basis: Basis, asked: Asked, ground: Ground, runs: int, first: Fitted, told: Told = lambda _text: None
 ) -> Iterator[Attempt]:
     """Runs a demand at most `runs` times, and gives each attempt as it ends: the first of the fit on paper (first), the
-    others of what the run before corrects. Ends after one that fits. told: gets what is done just now."""
+    others of what the run before corrects. Ends after one that fits. told: gets what is done just now. Fault where a
+    fit has no vehicle, or the program refuses a run."""
     graph, fitted, costs = basis.town.graph, first, basis.free_costs()
     counted = made_up = counted_of(basis.counts)
     for number in range(1, runs + 1):
@@ -77,7 +78,7 @@ def attempts(
 
 def attempt(basis: Basis, asked: Asked, ground: Ground, number: int, fitted: Fitted, costs: Costs) -> Attempt:
     """Runs the vehicles of a fit, and judges by what passed; number: of the run, from 1; costs: the seconds of
-    movements by which the fit was made."""
+    movements by which the fit was made. Fault where the fit has no vehicle, or the program refuses the run."""
     trips = trips_of_fit(basis, asked, fitted)
     town = basis.town
     loaded = town.loaded(trips)
@@ -93,9 +94,9 @@ def kind_of(trip: Trip, kinds: Sequence[str]) -> str:
 
 
 def corrected(basis: Basis, one: Attempt, costs: Costs, counted: Array, before: Array) -> Array:
-    """What the next fit is to meet, by count: the mean of what the last fit was to meet (before) and of what was
-    counted, less half of what passed in the run beyond what would pass by the seconds that it showed; 0 at least. At
-    full edges and next after them it is what was counted: more demand would only make the queue longer."""
+    """What the next fit is to meet, an array by count: the mean of what the last fit was to meet (before) and of what
+    was counted, less half of what passed in the run beyond what would pass by the seconds that it showed (costs); 0 at
+    least. At full edges and next after them it is what was counted: more demand would only make the queue longer."""
     numpy, _ = needed()
     shown = stacked(basis, costs) @ one.fitted.whole
     apart = numpy.array(one.passed) - shown
@@ -141,7 +142,7 @@ def left_over(basis: Basis, one: Attempt) -> Iterator[str]:
 
 
 def place_told(each: Compared) -> str:
-    """The edges and the period of a count in words."""
+    """The first and the last edge, and the period, of a count in words."""
     source, *others = each.edges
     return f"{source}{f' to {others[-1]}' if others else ''}, {each.begin:,} to {each.end:,} s"
 

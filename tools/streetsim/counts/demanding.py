@@ -50,8 +50,8 @@ class Asked:
 @dataclass(frozen=True, slots=True)
 class Basis:
     """What a fit stands on. kinds: vehicle classes that are told apart, empty for all others; given: by class the
-    vehicles of each way and slice, ways first, of a matrix or of turn ratios; free: seconds of each movement without
-    other traffic."""
+    vehicles of a matrix or of turn ratios, an array in one row, at the place way * slices + slice; free: seconds of
+    each movement without other traffic, with the mean waits at signals."""
 
     town: Town
     counts: list[Count]
@@ -73,9 +73,9 @@ class Basis:
 
 @dataclass(frozen=True, slots=True)
 class Fitted:
-    """A fit on paper; vehicles are arrays by class, way and slice, classes first. passing: the matrix of the counts, a
-    column for each of these; expected: vehicles before anything was counted; vehicles: of the fit; whole: the same in
-    whole vehicles."""
+    """A fit on paper. Vehicles are arrays in one row, at the place (class * ways + way) * slices + slice. passing: the
+    matrix of the counts, a row for each count and a column for each place; expected: vehicles before anything was
+    counted; vehicles: of the fit; whole: the same in whole vehicles."""
 
     passing: Sparse
     expected: Array
@@ -88,8 +88,9 @@ class Fitted:
 
 
 def basis_of(town: Town, asked: Asked, told: Told = lambda _text: None) -> Basis:
-    """Reads and checks what was asked for, and finds the candidate ways; classes of counts become vehicle types of the
-    town. Fault for what cannot be used. told: gets what is done just now."""
+    """Reads and checks what was asked for, and finds the candidate ways. Classes of counts and matrices, and types of
+    files of candidates, are added to the vehicle types of the town. Fault for what cannot be used, and without SciPy.
+    told: gets what is done just now."""
     needed()
     refuse_nothing(asked)
     told("reading counts")
@@ -118,7 +119,8 @@ def basis_of(town: Town, asked: Asked, told: Told = lambda _text: None) -> Basis
 
 
 def refuse_nothing(asked: Asked) -> None:
-    """Fault for words that lead to no demand, or of which one leaves another without effect."""
+    """Fault where nothing is given that a demand could be made of, or words do not fit together, so that one leaves
+    another without effect."""
     if not (asked.counts or asked.matrices or asked.flows):
         raise Fault("nothing to make a demand of: give --counts, --matrix or --flows with --ratios")
     if bool(asked.flows) != bool(asked.ratios):
@@ -130,8 +132,9 @@ def refuse_nothing(asked: Asked) -> None:
 
 
 def read_matrix(asked: Asked, counts: Sequence[Count], town: Town) -> tuple[dict[str, Zone], list[Cell]]:
-    """({name: zone}, cells of the matrix between zones); without zones a matrix is between edges. Cells without a
-    period have that of all counts. Fault for zones or edges that are not known, and for a matrix without a vehicle."""
+    """({name: zone}, cells of the matrix between zones); without zones a matrix is between edges, each of which is then
+    a zone. Cells without a period have that from the first begin to the last end of counts. Fault for zones or edges
+    that are not known, and for a matrix without a vehicle."""
     zones = read_zones(asked.zones)
     checking.check_zone_edges(zones, town.net)
     period = (min(one.begin for one in counts), max(one.end for one in counts)) if counts else None
@@ -164,8 +167,8 @@ def kinds_of(counts: Iterable[Count], cells: Iterable[Cell], types: Types) -> tu
 def by_pairs(
     town: Town, asked: Asked, times: Times, zones: Mapping[str, Zone], cells: Sequence[Cell]
 ) -> tuple[list[Pair], list[Way], tuple[int, int]]:
-    """(pairs of a matrix, of zones, or of entries and exits; their ways, with those of route files; (pairs that were
-    kept, of how many))."""
+    """(pairs of a matrix, else of zones, else of entries and exits; their ways, with those of route files; (pairs that
+    were kept, of how many)). Without a matrix pairs and ways are thinned to about `asked.most` ways."""
     graph = town.graph
     count = (0 if asked.candidates else 3) if asked.ways is None else asked.ways
     if cells:
@@ -189,7 +192,8 @@ def by_pairs(
 
 def given_routes(town: Town, asked: Asked) -> list[tuple[str, ...]]:
     """The edges, by name, of each route of the files of candidates: as often as vehicles have it, once where none has.
-    Routes of one edge are left out; Fault where a file has none, or no connection leads from an edge to the next."""
+    Routes of one edge are left out. The vehicle types of the files are added to the town's. Fault where the files have
+    no route, or no connection leads from an edge to the next."""
     demand = Demand(town.net, town.types, asked.seed, Report())
     for path in asked.candidates:
         demand.read(path)
@@ -209,8 +213,8 @@ def given_routes(town: Town, asked: Asked) -> list[tuple[str, ...]]:
 def by_ratios(
     town: Town, asked: Asked, free: Sequence[float]
 ) -> tuple[list[Pair], list[Way], list[tuple[float, int]]]:
-    """(pairs that turn ratios give, their ways, (departure, place of its way) of each vehicle). free: seconds of each
-    movement."""
+    """(pairs that turn ratios give, their ways, (departure in seconds, place of its way among these) of each vehicle).
+    free: seconds of each movement. Fault for a file that is wrong, and where the ratios lead to no end."""
     found, sinks = ratios.read_ratios(asked.ratios)
     inflows = ratios.read_inflows(asked.flows, asked.seed)
     turns = walking.Turns(found, sinks, town.net, town.graph)
@@ -237,9 +241,9 @@ def bounds_of(counts: Iterable[Count], cells: Iterable[Cell], departs: Sequence[
 
 
 def by_cells(cells: Sequence[Cell], pairs: Sequence[Pair], ways: Sequence[Way], slices: Slices) -> dict[str, Array]:
-    """{class: the vehicles of a matrix as an array by way and slice, ways first}: those of a cell over the slices of
-    its period, evenly, and over the ways of its pair by their shares. Cells of pairs that have no place are left
-    out."""
+    """{class: the vehicles of a matrix, an array in one row, at the place way * slices + slice}: those of a cell over
+    the slices of its period, evenly, and over the ways of its pair by their shares. Cells whose pair is not among
+    `pairs`, or has no way, are left out."""
     numpy, _ = needed()
     place = {(pair.source, pair.target): at for at, pair in enumerate(pairs)}
     of_pair: dict[str, Array] = {}
@@ -255,8 +259,8 @@ def by_cells(cells: Sequence[Cell], pairs: Sequence[Pair], ways: Sequence[Way], 
 
 
 def by_departures(departs: Sequence[tuple[float, int]], slices: Slices, ways: int) -> dict[str, Array]:
-    """{"": an array of the vehicles of each way and slice, ways first}, of departures (second, place of the way);
-    nothing where there are none. ways: how many there are."""
+    """{"": the vehicles, an array in one row, at the place way * slices + slice}, of departures (second, place of the
+    way); an empty dict where there are none. ways: how many there are."""
     if not departs:
         return {}
     numpy, _ = needed()
@@ -268,8 +272,9 @@ def by_departures(departs: Sequence[tuple[float, int]], slices: Slices, ways: in
 
 
 def stacked(basis: Basis, costs: Costs) -> Sparse:
-    """The matrix (sparse) of all classes side by side: rows are counts, columns class, way and slice. A count of one
-    class has shares in the columns of this alone, one without a class in all."""
+    """The passing_matrix of each class, side by side, as one sparse matrix: rows are counts, columns class, way and
+    slice, as Fitted has the places. A count of one class has shares in the columns of this alone, one without a class
+    in all. costs: seconds of movements."""
     numpy, scipy = needed()
     base = passing_matrix(basis.town.graph, basis.ways, basis.slices, basis.places, costs)
     masks = [numpy.array([float(one.kind in ("", kind)) for one in basis.counts]) for kind in basis.kinds]
@@ -277,8 +282,9 @@ def stacked(basis: Basis, costs: Costs) -> Sparse:
 
 
 def fit(basis: Basis, asked: Asked, costs: Costs, counted: Array = None) -> Fitted:
-    """The vehicles that fit the counts best. costs: seconds of movements, by which it is known who passes when;
-    counted: vehicles by count to be met, where what was counted is corrected by a run, else none."""
+    """The vehicles that fit the counts best; without counts those that are expected. costs: seconds of movements, by
+    which it is known who passes when; counted: an array of the vehicles to be met, by count, where a run has corrected
+    them; None: what was counted."""
     numpy, scipy = needed()
     size = len(basis.ways) * len(basis.slices)
     passing = stacked(basis, costs) if basis.counts else scipy.sparse.csr_matrix((0, len(basis.kinds) * size))
@@ -295,8 +301,9 @@ def fit(basis: Basis, asked: Asked, costs: Costs, counted: Array = None) -> Fitt
 
 
 def expected_of(basis: Basis, asked: Asked, kind: str, base: Sparse, counted: Array) -> Array:
-    """The vehicles of a class that are expected of each way and slice, ways first, as an array: of a matrix or of
-    ratios, else by the counts of the class. base: the matrix's columns of this class; counted: vehicles by count. All 0
+    """The vehicles of a class that are expected of each way and slice, an array in one row: of a matrix or of ratios,
+    else by the counts of the class; for the empty class by those of all vehicles, less those of classes that are
+    counted at the same place and period. base: the matrix's columns of this class; counted: vehicles by count. All 0
     where the class has no count."""
     numpy, _ = needed()
     if kind in basis.given:

@@ -81,8 +81,9 @@ class Ends:
         self.kind = numpy.array([int(known[name].outside) for name in numbers])
 
     def shares(self, vehicles: Array) -> Array:
-        """For each way, as an array, the vehicles of its place: half of them as the ways have them, half as all places
-        of its kind would by their weights. vehicles: of each way, as an array."""
+        """For each way, as an array, the vehicles (no shares) of the place where it begins, or ends: half of them as
+        the ways have them, half as all places of its kind would by their weights. vehicles: of each way, as an
+        array."""
         numpy, _ = needed()
         own = numpy.bincount(self.of_way, vehicles, len(self.weight))
         rates = numpy.bincount(self.kind, own, 2) / numpy.maximum(numpy.bincount(self.kind, self.weight, 2), LEAST)
@@ -105,10 +106,10 @@ class Expecting:
         self.outside = 2.0 ** sum(kinds)  # doubles for each end of a way that lies outside
 
     def without_matrix(self, passing: Sparse, counted: Array) -> Array:
-        """The vehicles of each way and slice, ways first, as an array, by counts alone: at first by the habit of
-        drivers (whose shares are then kept in `share`), and by what ends outside have more, that fit the counts best;
-        then half by what begins and ends at each place, and half by what the counts have shown of each way. passing,
-        counted: as `Problem` has them."""
+        """The vehicles of each way and slice, an array in one row at the place way * slices + slice, by counts alone:
+        at first by the habit of drivers (whose shares are then kept in `share`), and by what ends outside have more,
+        that fit the counts best; then half by what begins and ends at each place, and half by what the counts have
+        shown of each way. passing, counted: as `Problem` has them."""
         numpy, _ = needed()
         deviation = deviations(counted, self.error)
         if all(way.weight for way in self.ways):
@@ -177,8 +178,8 @@ def counted_of(counts: Sequence[Count]) -> Array:
 
 
 def uncounted(passing: Sparse, counts: Sequence[Count]) -> list[Count]:
-    """The counts above 0 that no way can fit, as nobody of any way passes there in that period. passing: as `Problem`
-    has it, a row for each count."""
+    """The counts that no way can fit: vehicles were counted there, but no way passes the place in that period. passing:
+    as `Problem` has it, its rows in the order of `counts`."""
     numpy, _ = needed()
     sums = numpy.asarray(passing.sum(axis=1)).ravel()
     return [count for count, share in zip(counts, sums, strict=True) if share <= 0 and count.vehicles > 0]

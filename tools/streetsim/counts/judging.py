@@ -91,8 +91,8 @@ class Sums:
 
 @dataclass(frozen=True, slots=True)
 class Judged:
-    """How well a run, or a fit, meets counts. each: by count; hourly: by place and hour of the clock; hours: sums of
-    all places, by hour; groups: sums by screen line and hour."""
+    """How well a run, or a fit, meets counts. each: by count; hourly: by place, class and hour of the clock; hours:
+    sums of all places, by hour; groups: sums by screen line and hour."""
 
     each: list[Compared]
     hourly: list[Compared]
@@ -140,7 +140,8 @@ class Judged:
 
 
 def judged(counts: Sequence[Count], passed: Sequence[float]) -> Judged:
-    """How well numbers of vehicles that passed, one for each count, meet the counts."""
+    """How well numbers of vehicles that passed, one for each count, meet the counts, of which there must be one at
+    least."""
     each = [
         Compared(count.begin, count.end, count.edges, count.kind, count.group, count.vehicles, value)
         for count, value in zip(counts, passed, strict=True)
@@ -165,7 +166,8 @@ def by_hour(each: Iterable[Compared]) -> list[Compared]:
 
 
 def sums_of(hourly: Iterable[Compared], grouped: bool) -> list[Sums]:
-    """Sums of counts by hour of the clock (of their begin); where `grouped`, for each screen line by itself."""
+    """Sums of counts by hour of the clock (of their begin); where `grouped`, for each screen line by itself, and
+    `hourly` then is to have counts with a screen line alone."""
     found: defaultdict[tuple[int, str], list[Compared]] = defaultdict(list)
     for one in hourly:
         found[one.begin // HOUR, one.group if grouped else ""].append(one)

@@ -14,8 +14,9 @@ TURNS = ("turns", "edgeRelations", "turn-defs", "data")
 
 
 def read_inflows(paths: Iterable[FilePath], seed: int) -> list[Inflow]:
-    """Flows that have a `from` alone; Fault for one with a `to` or a route, for another element, and for a file without
-    a flow. Vehicle types are passed over. seed: of departures by chance."""
+    """Flows that have a `from` alone. Of each the begin, the last departure and the number of vehicles are kept, and
+    its departures then are even. Fault where a file cannot be read or has no flow, for a flow with a `to` or a route,
+    and for another element; vehicle types are passed over. seed: of departures by chance."""
     found: list[Inflow] = []
     draws = random.Random(f"inflows {seed}")
     for path in paths:
@@ -37,8 +38,9 @@ def read_inflows(paths: Iterable[FilePath], seed: int) -> list[Inflow]:
 
 
 def read_ratios(paths: Iterable[FilePath]) -> tuple[list[Ratio], set[str]]:
-    """(turn ratios, names of the edges that are said to be sinks, where vehicles end); Fault where a file has no ratio,
-    or another element. Ratios before the first interval hold at any time, as in SUMO's jtrrouter."""
+    """(turn ratios, names of the edges that are said to be sinks, where vehicles end); Fault where a file cannot be
+    read, has no ratio, or another element. Ratios before the first interval hold at any time, as in SUMO's
+    jtrrouter."""
     found: list[Ratio] = []
     sinks: set[str] = set()
     for path in paths:
@@ -65,5 +67,6 @@ def read_ratios(paths: Iterable[FilePath]) -> tuple[list[Ratio], set[str]]:
 
 
 def weight_of(tag: Tag) -> float:
-    """The weight of a turn: its attribute probability, else count; any number from 0 on."""
+    """The weight of a turn: its attribute probability, else count; any number from 0 on. Fault where it has neither, or
+    it is no such number."""
     return tag.get("probability" if "probability" in tag.attributes else "count", vehicles_of)

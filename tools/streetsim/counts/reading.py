@@ -15,8 +15,8 @@ BY_TURN = (("count",), ("vehicles",))
 
 
 def read_counts(paths: Iterable[FilePath], attribute: str | None = None) -> list[Count]:
-    """The counts of files, in their order; Fault where a file has none. attribute: of SUMO's files, the one that is the
-    count; none: the usual ones."""
+    """The counts of files, in their order; Fault where a file cannot be read, is no file of counts, or has none.
+    attribute: of SUMO's files, the one that is the count; none: the usual ones."""
     found: list[Count] = []
     for path in paths:
         own = list(of_sumo(path, attribute) if begins_with(path, "<") else of_table(path))
@@ -28,7 +28,7 @@ def read_counts(paths: Iterable[FilePath], attribute: str | None = None) -> list
 
 def of_table(path: FilePath) -> Iterator[Count]:
     """The counts of a CSV table with begin,end,from,to,vehicles and maybe class,group: `to` is empty for an edge, and
-    has several edges, with blanks between, for a way."""
+    has several edges, with blanks between, for a way. Fault for other columns or values."""
     for row in rows_of(path, COLUMNS, MORE):
         begin, end = period_of(row.get("begin", clock_of), row.get("end", clock_of), row.where)
         edges = (row.get("from", name_of), *row.text("to").split())
@@ -57,7 +57,8 @@ def of_sumo(path: FilePath, attribute: str | None) -> Iterator[Count]:
 
 
 def clock_rounded(text: str) -> int:
-    """Whole seconds of a time as `clock_of` takes it, or with .00 behind it as SUMO writes; ValueError otherwise."""
+    """Whole seconds of a time as `clock_of` takes it, or with .00 behind it as SUMO writes. Nothing is rounded:
+    ValueError for parts of a second, and for what is no time."""
     return clock_of(text.removesuffix(".00"))
 
 

@@ -22,8 +22,8 @@ from streetsim.ways.router import Path
 @dataclass(frozen=True, slots=True)
 class Ran:
     """What one run gave. left: for each vehicle the clocks at which it left each edge of its way, as far as it came;
-    ends: the clock at which each arrived, none where it did not; observed: seconds of movements by time; waiting: the
-    most vehicles that waited to enter at once, and the clock."""
+    ends: the clock at which each arrived, none where it did not; observed: seconds of movements by time; rescues: how
+    many in all, also of one vehicle again; waiting: the most vehicles that waited to enter at once, and the clock."""
 
     left: list[list[float]]
     ends: list[int | None]
@@ -34,8 +34,8 @@ class Ran:
 
 def ran(ground: Ground, loaded: Loaded, expected: Costs, seed: int) -> Ran:
     """Makes one run of a demand, with rounds of giving way as streetsim-run makes them; Fault where the program refuses
-    it. expected: seconds of movements; by these the time between two looks at a vehicle is shared among the movements
-    that it made."""
+    it or ends before. expected: seconds of movements; by these the time between two looks at a vehicle is shared among
+    the movements that it made."""
     run, mapping = with_load(loaded.run, seed=seed), loaded.mapping
     if ground.rounds and mapping.yields:
         serve = partial(serving, ground.program, run.path)

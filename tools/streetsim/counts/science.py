@@ -10,8 +10,8 @@ THREADS = ("OPENBLAS_NUM_THREADS", "OMP_NUM_THREADS", "MKL_NUM_THREADS")
 
 
 def needed() -> Any:
-    """(NumPy, SciPy); Fault, which says what to install, where they are missing. They take one thread: with several,
-    sums hang on chance."""
+    """(NumPy, SciPy); Fault, which says what to install, where they are missing. Sets environment variables, where they
+    are not set, so that both take one thread: with several, sums hang on chance."""
     for name in THREADS:
         os.environ.setdefault(name, "1")
     try:

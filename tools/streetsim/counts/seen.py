@@ -103,8 +103,8 @@ class Traces:
     else the way with the fewest links; it is taken to have passed the ends of links evenly."""
 
     def __init__(self, folder: Folder, counts: Sequence[Count], driven: Sequence[Driven]) -> None:
-        """driven: the vehicles of the run file, by number, or none; Fault where there are no polls, or more than 60 s
-        between them."""
+        """counts: one at least, of places and periods that are wanted; driven: the vehicles of the run file, by number;
+        empty where it is not known. Fault where there are no polls, or more than 60 s between them."""
         self.folder, self.counts, self.mapping, self.driven = folder, counts, folder.mapping, driven
         if not 0 < folder.every <= MOST_APART:
             raise Fault(

@@ -38,8 +38,8 @@ class Tag:
 
 
 def tags(path: FilePath, roots: Collection[str]) -> Iterator[Tag]:
-    """All elements of a file below its root, in the order in which they begin; Fault where the root's name is none of
-    `roots`, or the file is no XML."""
+    """All elements of a file below its root, in the order in which they begin; Fault where the file cannot be read or
+    is no XML, or the root's name is none of `roots`."""
     found: list[Tag] = []
     inside: list[str] = []
     parser = expat.ParserCreate()

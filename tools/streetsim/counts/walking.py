@@ -37,8 +37,9 @@ class Turns:
             self.of[source].append((begin, end, turning))
 
     def after(self, edge: int, clock: float, draws: random.Random) -> int | None:
-        """The edge on which a vehicle goes on from an edge at a clock, drawn by the weights; none at a sink, or where
-        nothing leads on but back. Fault where several edges follow and no ratio holds."""
+        """The edge on which a vehicle goes on from an edge at a clock, drawn by the weights; none at a sink, where all
+        weights that hold are 0, or where no ratio holds and nothing leads on but back. Fault where several edges follow
+        and no ratio holds."""
         if edge in self.sinks:
             return None
         given = next((turning for begin, end, turning in self.of[edge] if begin <= clock < end), None)
@@ -57,8 +58,9 @@ class Turns:
 def walked(
     inflows: Sequence[Inflow], turns: Turns, seconds: Sequence[float], net: SumoNet, seed: int
 ) -> Iterator[tuple[float, Path]]:
-    """The vehicles of flows, (departure, way by numbers of edges), flow by flow; Fault where a way has no end. seconds:
-    of each movement, by which it is known which ratio holds; seed: of the draws."""
+    """The vehicles of flows, (departure in seconds, way by numbers of edges), flow by flow. Fault where a way has no
+    end, the network lacks the edge of a flow, or `turns` has none of several edges to go on. seconds: of each movement,
+    by which it is known which ratio holds; seed: of the draws."""
     graph, draws = turns.graph, random.Random(f"ratios {seed}")
     for flow in inflows:
         check_edges([flow.edge], flow.where, net)

@@ -10,7 +10,8 @@ ROOTS = ("additional", "add", "tazs", "taz")
 
 
 def read_zones(paths: Iterable[FilePath]) -> dict[str, Zone]:
-    """{name: zone} of files; Fault where a file has none, or two have one name."""
+    """{name: zone} of files; Fault where a file cannot be read, is no file of zones or has none, or two zones have one
+    name."""
     found: dict[str, Zone] = {}
     for path in paths:
         own = list(of_sumo(path) if begins_with(path, "<") else of_table(path))
