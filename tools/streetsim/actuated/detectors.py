@@ -73,8 +73,9 @@ class Layout:
 
 
 def spots(layout: Layout, phases: Sequence[Phase]) -> dict[str, Spot]:
-    """By lane, where its detector lies: on each lane that is green in a phase whose length detectors decide. Lanes with
-    a detector of the user's own, by a parameter of the lane's name, are left out."""
+    """By lane, where its detector lies: on each lane of shortest_greens, detector-gap seconds before the stop line, or
+    nearer where fewer vehicles pass in its least green. Lanes whose name is a parameter (a detector of the user's own,
+    or NO_DETECTOR) are left out."""
     found = {}
     for lane, least in shortest_greens(layout, phases).items():
         if lane not in layout.parameters:
@@ -87,8 +88,8 @@ def spots(layout: Layout, phases: Sequence[Phase]) -> dict[str, Spot]:
 
 
 def shortest_greens(layout: Layout, phases: Sequence[Phase]) -> dict[str, int]:
-    """By lane the least seconds of any phase in which it is green and whose length detectors decide; lanes without such
-    a phase are left out."""
+    """By lane the least seconds of any phase in which a signal of it is green (G or g) and whose bounds differ, so that
+    detectors decide its length; lanes without such a phase are left out."""
     found: dict[str, int] = {}
     for lane, indexes in sorted(layout.indexes().items()):
         own = [one.least for one in phases if one.least != one.most and any(one.state[at] in GO for at in indexes)]
@@ -110,9 +111,9 @@ def spot_before(stretches: Iterable[Stretch], metres: float) -> Spot:
 
 
 def extending(layout: Layout, phases: Sequence[Phase], detected: Iterable[str]) -> list[list[str]]:
-    """For each phase the lanes, among those that have a detector (`detected`), whose detectors extend it: those all of
-    whose ways are green in it, and do not lead to another lane with a detector of this light that is red. Empty for a
-    phase of one length."""
+    """For each phase the lanes, sorted, among those that have a detector (`detected`), whose detectors extend it: those
+    all of whose ways are green in it, as greens has it, and do not lead to another lane with a detector of this light
+    that is red. Empty for a phase of one length."""
     indexes, detected = layout.indexes(), sorted(detected)
     leads: defaultdict[str, set[str]] = defaultdict(set)
     for way in layout.ways:
@@ -130,7 +131,7 @@ def extending(layout: Layout, phases: Sequence[Phase], detected: Iterable[str]) 
 def greens(layout: Layout, phases: Sequence[Phase], state: str) -> set[int]:
     """The places of a state that count as green: those that go first (G); and of those that give way (g) the ones on
     the only lane of an edge, and the ones that never go first, or turn back, beside another of their lane that goes
-    first."""
+    first. phases: all of the program; state: of one of them."""
     by_index: defaultdict[int, list[Way]] = defaultdict(list)
     for way in layout.ways:
         by_index[way.index].append(way)

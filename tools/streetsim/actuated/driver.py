@@ -34,7 +34,8 @@ class Senses:
 
 @dataclass(slots=True)
 class Controller:
-    """One light of a run, with its logic and what was sent for it."""
+    """One program of a light in a run, with its logic and what was sent for it. Methods that give commands do their
+    work as these are taken."""
 
     light: Light
     logic: Actuated | Nema
@@ -52,14 +53,15 @@ class Controller:
         return self.light.name
 
     def starts(self, now: int) -> Iterator[Command]:
-        """Begins the logic at the clock of a run's begin, and gives the commands that show its first phase."""
+        """Begins the logic at the clock of a run's begin, and gives the commands that show the phase in which it
+        begins; none where this program is not in force."""
         self.logic.start(now, self.light.offset)
         self.spans = [[now, inf]] if self.in_force else []
         yield from self.begins(now)
 
     def looks(self, now: int, first: int, senses: Senses) -> bool:
-        """Has the logic look at its detectors, and says whether another phase begins now. first: the number in the run
-        of the first detector of all lights."""
+        """Has the logic look at its detectors or areas, and says whether another phase begins now; of a NEMA light,
+        whether other phases are green. first: the number in the run of the first detector of all lights."""
         if isinstance(self.logic, Nema):
             return self.logic.look(now, present_by(now, senses.lane, self.light.areas))
         return self.logic.look(now, gap_by(now, senses.read, first + self.meters.start))
@@ -84,7 +86,8 @@ class Controller:
         yield from map(lasting, self.shows if self.in_force else ())
 
     def resumes(self, now: int) -> Iterator[Command]:
-        """Puts this program in force, and gives the commands that show from now on what its logic has come to."""
+        """Puts this program, which must be out of force, in force, and gives the commands that show from now on what
+        its logic has come to."""
         self.in_force = True
         self.spans.append([now, inf])
         since = self.logic.since if isinstance(self.logic, Actuated) else now
@@ -111,7 +114,7 @@ class Controller:
 
 
 class Driver:
-    """All lights of a run that detectors drive."""
+    """All lights of a run that detectors drive. Methods that give commands do their work as these are taken."""
 
     def __init__(
         self, lights: Iterable[Light], mapping: Map, idle: Iterable[Light] = (), switches: Iterable[Switch] = ()
@@ -134,8 +137,8 @@ class Driver:
         return next((one for one in own if (one.in_force if program is None else one.light.program == program)), None)
 
     def stop(self, node: int, clock: int) -> None:
-        """A plan of the run's own takes the place of what drives the light of a node, for good or until it changes by
-        time of day."""
+        """Takes what drives the light of a node out of force at a clock, as a plan of the run's own takes its place:
+        for good, or until the light changes by time of day. Nothing where no driven light is there."""
         to_come = {light for _, light, _ in self.switches}
         for one in self.controllers:
             if one.stopped == inf and any(own.node == node for own in one.light.nodes):
@@ -143,8 +146,8 @@ class Driver:
                 one.stopped = inf if one.name in to_come else clock
 
     def switch(self, clock: int) -> Iterator[Command]:
-        """Makes the changes by time of day that are due at a clock, and gives the commands that show those programs,
-        among them, that detectors drive; the run has lines for all, which go before."""
+        """Makes the changes by time of day that are due at a clock, and gives the commands that show the new programs
+        that detectors drive. The run has a signal line for each change: that is sent, and `stop` called, before."""
         while self.switches and self.switches[0][0] <= clock:
             _, light, program = self.switches.popleft()
             if (one := self.of(light, program)) is not None:
@@ -154,7 +157,8 @@ class Driver:
                     one.stopped = clock if one.name == light and not one.in_force else one.stopped
 
     def release(self, light: str) -> None:
-        """Takes all programs of a light out of force, whatever the time of day: nothing more is sent for it."""
+        """Takes all programs of a light out of force, whatever the time of day: nothing more is sent for it. `rows`
+        does not know of it."""
         self.switches = deque(one for one in self.switches if one[1] != light)
         for one in self.controllers:
             one.in_force = one.in_force and one.name != light
@@ -209,8 +213,8 @@ def controller_of(light: Light, mapping: Map, meters: range) -> Controller:
 
 def gap_by(clock: int, read: Callable[[int], Rows], first: int) -> Callable[[int], float]:
     """A function of a detector's place that gives the seconds since it last saw anybody, by its rows of one second;
-    infinite where its 32 rows have nobody. first: the number in the run of the detector at place 0. Who passed within a
-    second is taken to have left in its middle."""
+    infinite where its 32 rows have nobody. read: as of Senses; first: the number in the run of the detector at place 0.
+    Who passed within a second is taken to have left in its middle."""
 
     def gap(detector: int) -> float:
         """Seconds since the detector at a place last saw anybody; infinite where its rows have nobody."""
@@ -226,7 +230,8 @@ def gap_by(clock: int, read: Callable[[int], Rows], first: int) -> Callable[[int
 
 def present_by(clock: int, lane: Callable[[Place], Lane | None], areas: Sequence[Area]) -> Callable[[int], bool]:
     """A function of an area's place that says whether anybody is on it, by what stands on its lane; each lane is asked
-    for once. Who has passed the stop line is on it for a second more, until its rear has."""
+    for once. lane: as of Senses. On an area at the lane's end who is in the buffer, and may not go on yet, counts
+    too."""
     known: dict[Place, Lane | None] = {}
 
     def present(number: int) -> bool:

@@ -32,7 +32,7 @@ def restore_driver(driver: Driver, state: Json) -> None:
 
 
 def kept(one: Controller) -> Json:
-    """The state of one light's controller."""
+    """The state of one light's controller, as `restore` reads it."""
     ended = [list(row) for row in one.logic.ended]
     own = kept_rings(one.logic) if isinstance(one.logic, Nema) else kept_phases(one.logic)
     return {
@@ -43,7 +43,7 @@ def kept(one: Controller) -> Json:
 
 
 def restore(one: Controller, state: Json) -> None:
-    """Puts a state into the controller of one light."""
+    """Puts a state that `kept` gave into the controller of the same light."""
     one.logic.ended = [Ended(*row) for row in state["ended"]]
     if isinstance(one.logic, Nema):
         restore_rings(one.logic, state["logic"])
@@ -61,23 +61,23 @@ def written(clock: float) -> float | None:
 
 
 def read(clock: float | None) -> float:
-    """A clock that `written` gave."""
+    """The clock of what `written` gave: inf for none."""
     return inf if clock is None else clock
 
 
 def kept_phases(logic: Actuated) -> Json:
-    """The state of an actuated light's logic, without the phases that ended."""
+    """The state of an actuated light's logic, {names of PLAIN, "detectors"}, without the phases that ended."""
     return {**fields(logic, PLAIN), "detectors": list(logic.first.items())}
 
 
 def restore_phases(logic: Actuated, state: Json) -> None:
-    """Puts a state into an actuated light's logic."""
+    """Puts a state that `kept_phases` gave into an actuated light's logic."""
     put(logic, state, PLAIN)
     logic.first = {phase: detector for phase, detector in state["detectors"]}
 
 
 def kept_rings(logic: Nema) -> Json:
-    """The state of a NEMA light's logic, without the greens that ended."""
+    """The state of a NEMA light's logic, {names of OF_RINGS, "phases", "active"}, without the greens that ended."""
     phases = [
         {**fields(one, OF_A_PHASE), "chosen": one.chosen.phase.name if one.chosen else None} for one in logic.all
     ]
@@ -85,7 +85,7 @@ def kept_rings(logic: Nema) -> Json:
 
 
 def restore_rings(logic: Nema, state: Json) -> None:
-    """Puts a state into a NEMA light's logic."""
+    """Puts a state that `kept_rings` gave into a NEMA light's logic."""
     put(logic, state, OF_RINGS)
     for one, own in zip(logic.all, state["phases"], strict=True):
         put(one, own, OF_A_PHASE)
@@ -95,19 +95,20 @@ def restore_rings(logic: Nema, state: Json) -> None:
 
 
 def named(ring: Iterable[Running], name: int | None) -> Running | None:
-    """The phase of a ring that has a number; none for none."""
+    """The phase of a ring by its number (name); none where the number is none, or no phase has it."""
     return next((one for one in ring if one.phase.name == name), None)
 
 
 def kept_shown(shown: Shown | ShownRings) -> Json:
-    """The state of what a light shows: the phases' mean lengths, and of a NEMA light what each signal shows."""
+    """The state of what a light shows, {"means", "known"}: the phases' mean lengths in seconds, and how many ended
+    phases are in them; of a NEMA light "letters" too, what each signal shows and since when."""
     means = list(shown.means.items()) if isinstance(shown, ShownRings) else shown.means
     letters = {"letters": shown.letters} if isinstance(shown, ShownRings) else {}
     return {"means": means, "known": shown.known, **letters}
 
 
 def restore_shown(shown: Shown | ShownRings, state: Json) -> None:
-    """Puts a state into what a light shows."""
+    """Puts a state that `kept_shown` gave into what a light shows."""
     shown.known = state["known"]
     if isinstance(shown, ShownRings):
         shown.means = {name: mean for name, mean in state["means"]}

@@ -73,7 +73,8 @@ def number_of(text: str) -> float:
 
 def bounds_of(kept: list[Any]) -> tuple[float, float]:
     """(least, greatest) seconds of a phase, as kept: [seconds, state, least or none, greatest or none, next ones].
-    Without a least it lasts as listed; with a least and no greatest it has no end, as in SUMO (LONGEST)."""
+    Without a least that is its listed seconds, and so is the greatest where there is neither; with a least and no
+    greatest it has no end, as in SUMO (LONGEST). The greatest is never below the least."""
     seconds, _, least, most, *_ = kept
     shortest = seconds if least is None else least
     longest = most if most is not None else seconds if least is None else LONGEST

@@ -134,7 +134,8 @@ def programs_later(mapping: Map) -> defaultdict[str, set[str]]:
 
 
 def is_long(kept: Mapping[str, Any]) -> bool:
-    """Whether a program's listed seconds do not fit in one plan, so that the import tells it by lines with clocks."""
+    """Whether the listed seconds of a program, as a map keeps it, do not fit in one plan (9,600 s), so that the import
+    tells it by lines with clocks."""
     return sum(phase[0] for phase in kept["phases"]) > limits.PHASES * limits.PHASE_STEPS
 
 
@@ -184,7 +185,7 @@ def driven_of(kept: Mapping[str, Any], mapping: Map) -> Light:
 
 
 def refuse_unlike(kept: Mapping[str, Any]) -> None:
-    """Raises Listed for an actuated program of which something is not driven here as in SUMO."""
+    """Raises Listed for a program that is not actuated, or of which something is not driven here as in SUMO."""
     if kept["kind"] != ACTUATED:
         raise Listed(f"as {kept['kind']} is not driven here")
     if kept["more"]:

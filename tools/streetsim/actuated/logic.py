@@ -62,8 +62,8 @@ class Ended(NamedTuple):
 
 @dataclass(slots=True)
 class Actuated:
-    """The logic of one actuated light. `due` is the next second at which `look` must be called; nothing need be asked
-    before."""
+    """The logic of one actuated light. `look` must be called at the second `due`, and not before: what detectors do not
+    extend ends whenever it is called."""
 
     phases: Sequence[Phase]
     gaps: Sequence[float]  # of each detector: so long nobody, and it extends no green
@@ -87,8 +87,8 @@ class Actuated:
         self.due = now + max(1, self.phases[self.at].seconds - place)
 
     def look(self, now: int, gap: GapOf) -> bool:
-        """Goes on to the next phase if this one is over at the clock `now`; says whether. Sets `due`, when to look
-        again. gap: the seconds since a detector, by its place, last saw anybody."""
+        """Goes on to the next phase if this one, of which `due` has come, is over at the clock `now`; says whether.
+        Sets `due`, when to look again. gap: the seconds since a detector, by its place, last saw anybody."""
         phase = self.phases[self.at]
         may_stay = phase.is_green and now - self.since < phase.most and not self.told_to_end
         wait = self.stays(phase, gap) if may_stay else 0
@@ -125,7 +125,8 @@ class Actuated:
         return ""
 
     def switch(self, _now: int) -> int:
-        """The clock at which it may go on, as scripts ask for it: when it is looked at next, as in SUMO."""
+        """The clock at which it may go on, as scripts ask for it: when it is looked at next, as in SUMO. Changes
+        nothing."""
         return self.due
 
     def go_to(self, index: int, now: int) -> None:

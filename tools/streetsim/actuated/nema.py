@@ -114,7 +114,7 @@ class Nema:
         return "+".join(str(one.phase.name) for one in self.active)
 
     def switch(self, now: int) -> int:
-        """The clock at which it may go on, as scripts ask for it: the next second, as in SUMO."""
+        """The clock at which it may go on, as scripts ask for it: the next second, as in SUMO. Changes nothing."""
         return now + 1
 
     def greens(self) -> tuple[tuple[int, bool], ...]:
@@ -178,7 +178,7 @@ class Nema:
         return one.called or one.phase.name in self.wanted or any(map(self.present, one.phase.areas))
 
     def is_called(self, one: Running) -> bool:
-        """Whether a phase wants to be green: by a recall, or by somebody on its areas."""
+        """Whether a phase wants to be green: by a recall, by somebody on its areas, or by a bus."""
         return one.recalled or self.is_on(one)
 
     def other(self, one: Running) -> Running:

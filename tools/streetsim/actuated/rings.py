@@ -25,7 +25,7 @@ CROSSING = "crossPhaseSwitching"  # how the names of further such parameters beg
 
 @dataclass(frozen=True, slots=True)
 class DrivenRings:
-    """A NEMA light that detectors drive."""
+    """A NEMA light that detectors drive. offset: has no effect; program: SUMO's id of the program."""
 
     name: str
     rings: Rings
@@ -94,7 +94,8 @@ def digits(text: str) -> tuple[int, ...]:
 
 
 def second_barrier(parameters: Mapping[str, str]) -> tuple[int, ...]:
-    """The phases at the second barrier, of one name of the parameter or the other; empty where it has neither."""
+    """The phases at the second barrier, of the parameter coordinatePhases, else of barrier2Phases; empty where there is
+    neither."""
     return digits(parameters.get("coordinatePhases", parameters.get("barrier2Phases", "")))
 
 
@@ -140,9 +141,9 @@ def phases_of(kept: Mapping[str, Any], number: Mapping[str, int]) -> list[RingPh
 
 
 def areas_of(kept: Mapping[str, Any], mapping: Map) -> dict[str, Area]:
-    """By lane the area on which vehicles are looked for: so many metres before its stop line, or the laneAreaDetector
-    that a parameter of the lane's name names. Lanes that the map does not have are left out; raises Listed where the
-    map does not have the detector."""
+    """By lane the area on which vehicles are looked for: the laneAreaDetector that a parameter of the lane's name
+    names, else the last metres before its stop line, as many as detector-length says (LENGTH without it), where the map
+    has the lane. Raises Listed where the map does not have the detector, or a length is no number."""
     parameters, own = kept["parameters"], {one.name: one for one in mapping.detectors if one.kind == E2}
     ways: dict[str, list[str]] = {}
     for _, lane, _, _, direction in kept["ways"]:

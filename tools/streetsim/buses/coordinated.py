@@ -31,7 +31,8 @@ class Coordinated(Actuated):
         return True
 
     def wait(self, phase: Phase, gap: GapOf) -> int:
-        """The seconds until the plan ends the phase; 0 where that is over."""
+        """The seconds from `due`, which look sets to the present clock, until the plan ends the phase; 0 where that is
+        over. gap: not asked."""
         return max(0, self.planned + phase.seconds - self.due)
 
     def why(self, phase: Phase, now: int) -> str:

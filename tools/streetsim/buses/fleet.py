@@ -133,8 +133,9 @@ class Fleet:
         return any(bus.stopping and bus.stopping.state == STANDING for bus in self.buses.values())
 
     def look(self, clock: int, ask: Ask, lanes: Look) -> Iterator[Command]:
-        """Looks at the buses that are due at a clock, and gives the commands to send before the next step; buses with
-        nothing to come are dropped. ask: gives replies on vehicles; lanes: gives what stands on lanes."""
+        """Looks at the buses that are due at a clock, and gives the commands to send before the next step; it looks as
+        these are taken. Buses with nothing to come are dropped. ask: gives replies on vehicles, by their numbers in the
+        file; lanes: gives what stands on lanes."""
         due = [bus for bus in self.buses.values() if bus.due <= clock]
         far = [bus for bus in due if not bus.stopping]
         for bus, reply in zip(far, ask(bus.owner for bus in far) if far else (), strict=True):
@@ -151,7 +152,8 @@ class Fleet:
         yield from self.changes(clock)
 
     def locate(self, clock: int, bus: Bus, reply: Vehicle) -> None:
-        """Notes where a bus is, by the program's reply, and when it is to be looked at next."""
+        """Notes by the program's reply which stops and lights a bus has passed, has the next light wait for it where it
+        is near, and begins its stopping where it is near its stop; else sets when it is to be looked at next."""
         at, cell, waits = len(bus.plan) - len(reply.plan), reply.cell or 0, 0
         if reply.state == "buffer":  # it has left its link
             at, waits = at + 1, max(0, (reply.ready or 0) - clock)
@@ -173,8 +175,9 @@ class Fleet:
         bus.due = clock + max(1, waits + self.seconds(bus, at, cell))
 
     def call(self, bus: Bus, at: int, cell: int, waits: int) -> None:
-        """Has the next light wait for a bus that is near enough, unless the bus stops before it. at, cell: its place in
-        its plan; waits: seconds that it stays in the junction."""
+        """Has the next light wait for a bus that is near enough, unless the bus stops before it; else no light waits
+        for it any more. at: the place of its link in its plan; cell: of that link; waits: seconds that it stays in the
+        junction."""
         ahead = bus.lights[0] if bus.lights else None
         if ahead and (stops_before(bus, ahead) or waits + self.between(bus, at, cell, ahead) > self.plan.seen):
             ahead = None

@@ -50,7 +50,8 @@ NONE = Planned()  # nobody stops
 
 
 def planned(run: Run, mapping: Map) -> Planned:
-    """The stops of a map that a run makes: those on the ways of its vehicles; the others are in unmade."""
+    """The stops of a map that a run makes: those on the ways of its vehicles, but for those at road works; the others
+    are in unmade, by reason. No lights wait for anybody yet."""
     ways = [line.command["plan"] for line in run.enters]
     kept: list[Visit] = []
     off: list[Visit] = []

@@ -108,9 +108,9 @@ def fixed_light(light: str, kept: Mapping[str, Any], seen: int) -> Fixed:
 
 
 def bounded(kept: Sequence[Any], seen: int) -> Phase:
-    """A phase, as kept ([seconds, state, least or none, greatest or none]), with its bounds in seconds: those of the
-    file, else a green may be as short as half its seconds (LEAST at least), and as long as its own and the seconds
-    (seen) that a vehicle is seen before the stop line."""
+    """A phase, as kept ([seconds, state, least or none, greatest or none]), with its bounds in seconds. A green has
+    those of the file, else it may be as short as half its seconds (LEAST at least), and as long as its own and the
+    seconds (seen) that a vehicle is seen before the stop line; any other phase lasts its listed seconds."""
     seconds, state, least, most, *_ = kept
     phase = Phase(state, round(seconds), round(seconds), round(seconds))
     if not phase.is_green:
@@ -120,7 +120,7 @@ def bounded(kept: Sequence[Any], seen: int) -> Phase:
 
 
 def ahead_of(plan: Sequence[int], turns: Mapping[Way, Turns], lights: Mapping[str, Light]) -> Iterator[Ahead]:
-    """The lights on a vehicle's way that wait for it, in their order."""
+    """The lights on a vehicle's way (plan: links) that wait for it, in their order; lights: all that wait, by name."""
     for at, pair in enumerate(pairwise(plan)):
         own = [(light, index) for light, index in turns.get(pair, ()) if light in lights]
         if own:

@@ -40,7 +40,8 @@ class Road:
 
 @dataclass(slots=True)
 class Stopping:
-    """A bus on the link of its stop, until the stop is made or missed."""
+    """A bus on the link of its stop, until the stop is made or missed. lane: where it is, which the caller of `look`
+    keeps."""
 
     visit: Visit
     road: Road
@@ -66,8 +67,9 @@ class Stopping:
         return 1 - self.lane
 
     def look(self, clock: int, bus: Seen, lanes: Mapping[int, Sequence[Seen]]) -> int:
-        """Decides which cells are closed in the next step; gives the seconds until the next look. lanes: the vehicles
-        on the lanes that wants names, the bus among them or not."""
+        """Decides which cells are `closed` in the next step, and whether the stop is over; gives the seconds until the
+        next look. bus: as it is seen; lanes: by lane the vehicles on those that `wants` names, the bus among them or
+        not."""
         self.closed = set()
         if self.held:
             return self.stand(clock, self.held, lanes)
