@@ -169,7 +169,8 @@ class Sampled:
 
     def interval(self, begin: int, end: int) -> Interval:
         """What vehicles lost, the queues, and how far lanes were used, from one clock to another, which are the bounds
-        of an interval of the width that was asked for."""
+        of an interval of the width that was asked for; asked after `finish`. How many vehicles lanes passed
+        (Use.passed) is not known, and 0."""
         at, found = (begin - self.start) // self.width, Interval(begin, end)
         looks = self.looks[at]
         for movement, count in self.passed[at].items():
@@ -200,7 +201,7 @@ class Sampled:
     def lost(self, at: int, movement: Way, count: int, looks: int, seconds: int) -> Totals:
         """What the vehicles of a movement lost in an interval, by its number, by Little's law; the share that stops is
         that of even arrivals, and how often they stop is not known. count: vehicles that passed, one at least; looks:
-        in the interval; seconds: its length."""
+        in the interval, without any of which the losses are 0; seconds: its length."""
         seen = self.present[at, movement]
         vehicles = [number for number, _ in seen] + [0] * (looks - len(seen))
         if not looks:

@@ -213,5 +213,5 @@ class Queue(XmlFile):
 
 
 def vehicle_metres(at: At) -> float:
-    """Metres of a vehicle without the gap ahead of it."""
+    """Metres of a vehicle itself: of its cells without the gap to another one."""
     return at.size * limits.CELL_METRES - limits.GAP_METRES

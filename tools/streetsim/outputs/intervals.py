@@ -129,7 +129,8 @@ class Detectors(XmlFile):
         raise NotImplementedError
 
     def note(self, one: Detector, sums: Sums, second: Second, here: Sequence[tuple[int, At]]) -> None:
-        """Adds a second to the sums of a detector; here: (car, place) of the vehicles on its lane in it."""
+        """Adds a second to the sums of a detector; here: (car, place) of the vehicles on its lane in it, and of those
+        in the junction behind that."""
         raise NotImplementedError
 
     def row(self, one: Detector, sums: Sums, seconds: int) -> str:
@@ -183,7 +184,8 @@ class Loops(Detectors):
         return LoopSums()
 
     def note(self, one: Detector, sums: LoopSums, second: Second, here: Sequence[tuple[int, At]]) -> None:
-        """Adds a second to the sums of an e1: whether its cell is covered, and who has passed it."""
+        """Adds a second to the sums of an e1: whether its cell is covered, and who has passed it; here: as of
+        Detectors."""
         sums.occupied += any(at.cell is not None and at.cell - at.size < one.first <= at.cell for _, at in here)
         for car, last in second.before.items():
             if last.link == one.link and last.cell is not None and last.cell <= one.first:
@@ -246,7 +248,7 @@ class Areas(Detectors):
         return AreaSums(inside=before.inside, halts=before.halts, interval_halts=dict.fromkeys(before.halts, 0))
 
     def note(self, one: Detector, sums: AreaSums, second: Second, here: Sequence[tuple[int, At]]) -> None:
-        """Adds a second to the sums of an e2; here: (car, place) of the vehicles on its lane."""
+        """Adds a second to the sums of an e2; here: as of Detectors."""
         inside = {car: at for car, at in here if at.cell is not None and one.first <= at.cell <= one.last}
         sums.entered += len(inside.keys() - sums.inside.keys())
         sums.left += len(sums.inside.keys() - inside.keys())

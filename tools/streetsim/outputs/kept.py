@@ -8,7 +8,7 @@ from streetsim.model.sources import sum_of_lines
 
 
 def write_kept(folder: str, run: Run) -> None:
-    """Writes the lines of a run, with those of its works, to its folder."""
+    """Writes run.jsonl.gz, the lines of a run with those of its works, to a folder."""
     with whole_file(f"{folder}/{KEPT}") as file:
         file.writelines(line + "\n" for line in texts_of(run))
 

@@ -31,7 +31,8 @@ class Outputs(contextlib.ExitStack):
     def __init__(
         self, paths: dict, mapping: Map, dawdle: float, period: int = 900, start: int = 0, rescued: Sequence[int] = ()
     ) -> None:
-        """Opens the files; paths: {kind of KINDS: path}; other arguments as above."""
+        """Opens the files; paths: {kind of KINDS: path}; other arguments as above. Fault where one cannot be
+        written."""
         super().__init__()
         self.follower, self.start = Follower(mapping, dawdle), start
         self.wished: list[int] = []
@@ -76,8 +77,8 @@ class Outputs(contextlib.ExitStack):
     def write(
         self, trips: Sequence[Mapping[str, str | int]], frames: Iterable[Frame], stops: Iterable[Done] = ()
     ) -> None:
-        """Writes a whole run, of the rows of trips.csv in the order of the vehicles' numbers, what stood on the lanes
-        in every second, and what became of stops; Fault where a second is missing."""
+        """Writes a whole run, of the rows of trips.csv in the order of the vehicles' numbers (all with SUMO's default
+        type), what stood on the lanes in every second, and what became of stops; Fault where a second is missing."""
         self.dwells.update(dwells(stops))
         arrivals = defaultdict(list)
         for car, trip in enumerate(trips):
@@ -94,7 +95,8 @@ class Outputs(contextlib.ExitStack):
 
 def write_from_folder(folder: Folder, kinds: Iterable[str], out: str) -> None:
     """Writes output files of some kinds, KIND.xml, to the folder `out`, of a folder that streetsim-run wrote with
-    --every 1 and all edges; Fault where that has no polls of every second."""
+    --every 1 and all edges; Fault where that has no polls of every second. Whether all edges were polled is not looked
+    at."""
     paths = {kind: f"{out}/{kind}.xml" for kind in kinds}
     polls = folder.polls()
     first = next(polls, None)

@@ -60,7 +60,8 @@ def what_was_run(all_runs: Sequence[Runs]) -> str:
 
 
 def warnings(all_runs: Sequence[Runs]) -> str:
-    """What the import had to say, by kind, as HTML, first what changes results most; at most eight lines of each."""
+    """What the imports of all plans had to say, notes too, by kind, as HTML, first what changes results most; at most
+    eight lines of each kind, equal ones once."""
     lines = list(dict.fromkeys(line for runs in all_runs for line in runs.first.mapping.warnings))
     marks = tuple(mark for mark, _ in WEIGHTS if mark)
     parts = []

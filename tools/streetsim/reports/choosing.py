@@ -34,14 +34,16 @@ class Told:
 
     @property
     def weight(self) -> float:
-        """Seconds that all its vehicles together lose or win in an hour; of one plan those that they lose."""
+        """Seconds, from 0, that all its vehicles together lose or win by the change in an hour; without a change those
+        of their whole delay."""
         seconds = abs(self.change.change) if self.change else self.row.delay
         return seconds * self.row.values["vehicles_per_hour"]
 
 
 def told_of(after: Rows, before: Rows | None) -> list[Told]:
     """What is told of each row of the last plan (after), with the row of the same key of the plan before (before; none:
-    there is one plan): first those that change or are worse than D, each part by weight."""
+    there is one plan): first those that change or are worse than D, then the others; in each part the greatest weight
+    first."""
     found = []
     for key, row in after.items():
         first = before.get(key) if before is not None else None

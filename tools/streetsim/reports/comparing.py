@@ -44,8 +44,8 @@ def by_seed(row: Row, name: str) -> dict:
 
 
 def total_delay(rows: Iterable[Row]) -> dict:
-    """By seed the mean control delay, seconds a vehicle, over all vehicles of some rows; seeds without vehicles are
-    left out."""
+    """{seed: mean (no total) control delay, seconds a vehicle, over all vehicles of some rows}; seeds without vehicles
+    are left out."""
     sums: dict[int, tuple[float, float]] = {}
     for row in rows:
         for seed, values in row.by_seed.items():

@@ -28,7 +28,8 @@ class Costs:
         return sum(change > NOTICED if slower else change < -NOTICED for change in self.changes) / len(self.changes)
 
     def tenth(self) -> int:
-        """The seconds that one trip in ten becomes longer by, at least; less than 0: shorter. There must be trips."""
+        """The change of a trip, in seconds, that one trip in ten reaches or exceeds; above 0: longer. There must be
+        trips."""
         return self.changes[len(self.changes) * 9 // 10]
 
 
@@ -56,8 +57,8 @@ Means = dict[int, tuple[int, float, float]]  # by seed: trips that arrived, thei
 
 def means_by_class(runs: Runs) -> dict[str, Means]:
     """{vehicle class, as SUMO names it: {seed: (trips that arrived, their mean seconds, their mean delay)}} of a plan's
-    runs; the delay of a trip is what it took longer than alone on its way, without seconds at stops. Classes of which
-    nobody arrived are left out."""
+    runs; a trip begins with the wished departure, and its delay is what it took longer than alone on its way, without
+    seconds at stops. Classes of which nobody arrived are left out."""
     found: defaultdict[str, Means] = defaultdict(dict)
     for seed, folder in runs.folders.items():
         trips: defaultdict[str, list[tuple[int, float]]] = defaultdict(list)

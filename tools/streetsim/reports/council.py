@@ -23,8 +23,8 @@ LEAST_HOURLY = 20  # vehicles an hour of a movement that is called the worst
 
 
 def junctions_of(plans: Sequence[Runs], shown: Interval, table_: str = "junctions") -> list[Told]:
-    """What is told of each row of a junction table (its name) in the interval that is shown: of the last plan, beside
-    the first where there are two; first those that change or are worse than D."""
+    """What is told of each row of one table in the interval that is shown: of the last plan, beside the first where
+    there are two; first those that change or are worse than D. table_: junctions, approaches or movements."""
     rows = [runs.rows.get((table_, *shown), {}) for runs in plans]
     return told_of(rows[-1], rows[0] if len(plans) == 2 else None)
 
@@ -60,13 +60,13 @@ def doubts_of(runs: Runs) -> list[str]:
 
 
 def delay_change(plans: Sequence[Runs], shown: Interval) -> Difference | None:
-    """The change, over seeds, of the mean control delay of all vehicles at all junctions; none without a common
-    seed."""
+    """The change, over seeds, of the mean control delay, seconds, of all vehicles at all junctions from the first of
+    two plans to the second; none without a common seed."""
     return paired(*(total_delay(runs.rows["junctions", *shown].values()) for runs in plans))
 
 
 def change_verdict(plans: Sequence[Runs], shown: Interval) -> str:
-    """What the second plan changes for trips and delays, in plain words."""
+    """What the second of two plans changes for trips and delays, as plain text."""
     trip, delay = paired(*(runs.mean_trips() for runs in plans)), delay_change(plans, shown)
     first, name = "Nothing can be said of trips, as nobody arrived.", plans[1].name
     if trip:
@@ -83,7 +83,7 @@ def change_verdict(plans: Sequence[Runs], shown: Interval) -> str:
 
 
 def state_verdict(runs: Runs, shown: Interval) -> str:
-    """How long trips and delays are with one plan, and how many junctions are worse than D, in plain words."""
+    """How long trips and delays are with one plan, and how many junctions are worse than D, as plain text."""
     delays = total_delay(runs.rows["junctions", *shown].values())
     rows = junctions_of([runs], shown)
     bad = [one for one in rows if one.is_bad]
@@ -125,8 +125,8 @@ def junction_text(row: Row, names: Names) -> str:
 
 
 def costs(plans: Sequence[Runs], shown: Interval) -> str:
-    """What a plan costs whom, as HTML: the worst movements, and with two plans how trips of the same vehicles
-    change."""
+    """What a plan costs whom, as HTML: the worst movements, trips by class, and with two plans how trips of the same
+    vehicles change, in all and by flow."""
     movements = junctions_of(plans, shown, "movements")
     texts = [*worst_movements(movements, plans[-1])]
     if len(plans) < 2:
@@ -150,8 +150,9 @@ def classes_table(plans: Sequence[Runs]) -> str:
 
 
 def class_row(sides: Sequence[Means]) -> list[str]:
-    """The cells of a class in a table of trips: how many arrived in the runs of the last plan, then the mean trip and
-    the mean delay in seconds; with two plans before, after and the change of each. '-': of nobody."""
+    """The cells, as HTML, of a class in a table of trips: how many arrived in all runs of the last plan, then the mean
+    trip and the mean delay in seconds; with two plans before, after and the change of each, '-' without a common seed.
+    sides: by plan."""
     cells = [f"{sum(count for count, *_ in sides[-1].values()):,}"]
     for at in (1, 2):
         values = [{seed: own[at] for seed, own in side.items()} for side in sides]
@@ -164,7 +165,7 @@ def class_row(sides: Sequence[Means]) -> list[str]:
 
 
 def trips_told(found: Costs) -> list[str]:
-    """Sentences on how many trips become slower or quicker, and how many arrive with one plan alone."""
+    """Sentences, plain text, on how many trips become slower or quicker, and how many arrive with one plan alone."""
     if not found.changes:
         return ["No trip arrived with both plans."]
     slower, quicker = found.share(True), found.share(False)
@@ -195,8 +196,9 @@ def groups_table(found: Costs) -> str:
 
 
 def worst_movements(movements: Sequence[Told], runs: Runs) -> list[str]:
-    """Sentences on the movement that waits longest, and with two plans on the one that loses most for sure. Movements
-    of fewer than 20 vehicles an hour are passed over; empty where no other is left."""
+    """Sentences, plain text, on the movement that waits longest, and with two plans on the one that loses most for
+    sure. Movements of fewer than 20 vehicles an hour are passed over; empty where no other is left. runs: of the last
+    plan, for names."""
     names, busy = runs.names, [one for one in movements if one.row.values["vehicles_per_hour"] >= LEAST_HOURLY]
     if not busy:
         return []

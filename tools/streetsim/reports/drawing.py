@@ -65,8 +65,8 @@ def placing(mapping: Map) -> tuple[Callable[..., str], float]:
 
 
 def lines_picture(mapping: Map, values: Mapping[str, float]) -> str:
-    """The streets, as SVG; edges with a value red above 0 and blue below, wider where it is farther from 0, others thin
-    and grey. values: by edge."""
+    """The streets, as SVG; edges with a value red above 0 and blue below, but dark grey within 0.5 of it, wider where
+    it is farther from 0; others thin and light grey. values: by edge, shown in whole numbers without a unit."""
     at, tall = placing(mapping)
     most = max([1.0, *(abs(value) for value in values.values())])
     parts = [f'<svg class="map" viewBox="0 0 {WIDE} {tall:.0f}" role="img" aria-label="Map of differences">']

@@ -62,7 +62,7 @@ class Reader(HTMLParser):
         return ", ".join(filter(None, [*heads, self.row, column])) or "the page's head"
 
     def handle_starttag(self, tag: str, attributes: list[tuple[str, str | None]]) -> None:
-        """Adds the begin of an element; attributes: (name, value)."""
+        """Adds the begin of an element, and notes that it is the place now; attributes: (name, value)."""
         self.begin("row" if tag == "th" and ("scope", "row") in attributes else tag)
         told = "".join(f' {name}="{value}"' for name, value in attributes)
         self.found.append(Element(f"<{tag}{told}>", self.place))
@@ -87,7 +87,7 @@ class Reader(HTMLParser):
             self.column, self.row = -1, ""
 
     def handle_endtag(self, tag: str) -> None:
-        """Adds the end of an element."""
+        """Adds the end of an element, and notes that a heading, cell or table is over."""
         self.found.append(Element(f"</{tag}>", self.place))
         if tag in (*HEADS, "td", "th"):
             self.open = ""
@@ -95,7 +95,8 @@ class Reader(HTMLParser):
             self.columns, self.column, self.row = [], -1, ""
 
     def handle_data(self, data: str) -> None:
-        """Adds a text, without blanks around it; blanks alone are left out."""
+        """Adds a text, without blanks around it; blanks alone are left out. That of a heading, or of the cell that
+        heads a row or column, is the name of the place from now on."""
         if self.open in HEADS:
             self.heads[self.open] += data
         elif self.open == "th" and self.columns:
@@ -123,15 +124,16 @@ def elements_of(text: str) -> list[Element]:
 
 
 def numbers_in(text: str) -> int:
-    """How many numbers a page has, in words, tables and pictures; not in its styles and scripts, what is sealed among
-    them, nor in pictures of points or in the names of tags, as h2."""
+    """How many numbers a page's HTML has, in texts and in attributes of tags, as those of SVG pictures; not in its
+    styles and scripts, what is sealed among them, nor in pictures of points (PNG) or in the names of tags, as h2."""
     hidden = r"<(style|script)\b.*?</\1>|data:image/png;base64,[^\"]*|</?[a-zA-Z][a-zA-Z0-9]*"
     shown = re.sub(hidden, "", text, flags=re.DOTALL)
     return len(NUMBER.findall(shown))
 
 
 def differences(said: str, found: str) -> list[Mismatch]:
-    """Where two pages differ, as found anew; empty where they are equal to the byte."""
+    """Where two pages (HTML) differ, the one that is checked (said) and the one made anew (found), one at least; empty
+    where they are equal to the byte."""
     if said == found:
         return []
     first, second = elements_of(said), elements_of(found)
@@ -140,8 +142,8 @@ def differences(said: str, found: str) -> list[Mismatch]:
 
 
 def pairs(first: Sequence[Element], second: Sequence[Element]) -> Iterator[Mismatch]:
-    """What differs of two lists of elements: one by one where they have equally many, else by the parts that were put
-    in, taken out or changed."""
+    """What differs of two lists of elements, of the page that is checked and of the one made anew: one by one where
+    they have equally many, else by the parts that were put in, taken out or changed."""
     if len(first) == len(second):
         for one, other in zip(first, second, strict=True):
             if one.text != other.text:

@@ -43,8 +43,8 @@ def lines(rows: Sequence[Told], names: Names, detailed: int) -> str:
 
 
 def movement_changes(rows: Sequence[Told], names: Names) -> str:
-    """A table of the movements that change, or are worse than D, as HTML, those whose vehicles lose or win most first;
-    at most 25."""
+    """A table of the movements with both plans that change, or are worse than D, as HTML, at most 25; a sentence where
+    there are none. rows: movements as junctions_of of council gives them, whose order stays."""
     those = [one for one in rows if one.change and one.before and (one.changes or one.is_bad)]
     made = []
     for one in those[:MOST_MOVEMENTS]:

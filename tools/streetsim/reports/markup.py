@@ -96,8 +96,8 @@ def contents(sections: Iterable[Section]) -> str:
 
 
 def page(title: str, lead: str, first: Sequence[Section], appendix: Sequence[Section], last: str = "") -> str:
-    """The whole page, of page.html: lead (HTML) at its head, the sections of the first page, those of the appendix
-    after their contents, and `last` (HTML) at the end."""
+    """The whole page, as HTML, of page.html: title (plain text), lead (HTML) at its head, the sections of the first
+    page, those of the appendix after their contents, and `last` (HTML) at the end."""
     text = (Path(__file__).parent / "page.html").read_text(encoding="utf-8")
     links = f'<nav aria-label="Appendix"><h2>Appendix</h2><ol>{contents(appendix)}</ol></nav>' if appendix else ""
     after = "\n".join(shown(one) for one in appendix)

@@ -31,8 +31,8 @@ SHOWS = (
 
 @dataclass(slots=True)
 class Seal:
-    """What made a page. content: {"words", "plans", "tools", "files": {name: SHA-256}, ..}; texts: the files that are
-    packed in the page itself."""
+    """What made a page. content: {"words", "plans": as plan_of of sealing, "tools", "drawn_by", "files": {name:
+    SHA-256}, "beside": names of those in the file beside it}; texts: the files that are packed in the page itself."""
 
     content: Json
     texts: dict[str, str] = field(default_factory=dict)  # by name, as `packed` makes them
@@ -90,8 +90,8 @@ def unpacked(text: str) -> bytes:
 
 
 def sealed(content: Json, files: Mapping[str, bytes], page: str) -> tuple[Seal, dict[str, bytes]]:
-    """(the seal of a page, the files that are too large for it and go to the file beside it, content by name). content:
-    what the seal says but for the files; files: content by name; page: its path."""
+    """(the seal of a page, the files that are too large for it, content by name, for write_beside). content: what the
+    seal says but for the files; files: content by name; page: its path. Writes nothing."""
     texts = {name: packed(one) for name, one in files.items()}
     large = {name: files[name] for name, text in texts.items() if len(text) > LARGEST}
     content = {**content, "files": {name: sum_of(one) for name, one in files.items()}, "beside": sorted(large)}
@@ -105,7 +105,8 @@ def beside_of(page: str) -> str:
 
 
 def write_beside(page: str, large: Mapping[str, bytes]) -> None:
-    """Writes the file beside a page, equal for equal content; nothing where there is nothing for it."""
+    """Writes the file beside a page, equal for equal content; nothing where there is nothing for it. page: its path;
+    large: what is too large for it, by name. Fault where it cannot be written."""
     if not large:
         return
     with whole_path(Path(page).parent / beside_of(page)) as half, zipfile.ZipFile(half, "w") as made:

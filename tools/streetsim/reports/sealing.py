@@ -22,7 +22,7 @@ def seal_for(
 ) -> tuple[Seal, dict[str, bytes]]:
     """(the seal of a page of some plans, the files that go to the one beside it: content by name). words: of
     streetsim-report that were given; page: its path; others: further files, {name: path}. Fault where a plan's folder
-    does not keep what made it, or a file cannot be read."""
+    does not keep what made it, or its seeds are of several runs, or a file cannot be read. Writes nothing."""
     files: dict[str, bytes] = {}
     made = []
     for place, runs in enumerate(plans, 1):
@@ -69,8 +69,8 @@ def map_of(folder: Folder) -> Json:
 
 
 def kept_lines(runs: Runs) -> bytes:
-    """The lines of a plan's run as bytes; Fault where its folder does not keep them, or other ones than its setting
-    says."""
+    """The lines of a plan's run as bytes, unpacked, of its folder or the one above; Fault where neither keeps them, or
+    other ones than its setting says."""
     folder = runs.first
     places = [f"{folder.path}/{KEPT}", f"{os.path.dirname(os.path.normpath(folder.path))}/{KEPT}"]
     path = next(filter(os.path.exists, places), None)

@@ -53,7 +53,8 @@ def changed(before: Timings, after: Timings) -> list[str]:
 
 
 def clashes(timings: Timings, runs: Runs) -> list[str]:
-    """For each two movements of a light that conflict and have main green together, a doubt in plain words."""
+    """For each two movements of a light that conflict and have main green together, a doubt as plain text; runs: for
+    names."""
     names = runs.names
     return [
         f"Fault of light {light}: {movement(one, names)} and {movement(other, names)} conflict and have main green "
@@ -165,7 +166,7 @@ def greens_told(signs: str) -> str:
 
 def intergreens(timing: Timing, names: Names) -> str:
     """The least time between conflicting greens, and a table of the pairs of movements that have it or a second more,
-    as HTML; empty where there is none."""
+    five at most, as HTML; empty where there is none."""
     rows = []
     for pair in timing.pairs():
         for one, other in (pair, pair[::-1]):

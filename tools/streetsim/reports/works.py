@@ -54,8 +54,8 @@ def rows_of(folder: Folder) -> list[dict[str, str]]:
 
 
 def note_queues(folder: Folder, places: Sequence[Seen]) -> None:
-    """Adds the queue before each place of works, in metres, at each poll of a run to its `queues`; 0 where none is
-    listed."""
+    """Adds to `queues` of each place of works the metres of the queue before it at each poll of a run while they last;
+    0 where none is listed."""
     queues = {(row["edge"], row["lane"], int(row["time"])): float(row["metres"]) for row in before_works(folder)}
     for seen in places:
         edge, lane, *_ = seen.place
@@ -144,7 +144,8 @@ def most_of(rows: Iterable[dict[str, str]], name: str) -> str:
 
 
 def queues_picture(seen: Seen) -> str:
-    """A picture (SVG) of the queue before works over time: the mean over seeds, and the greatest."""
+    """A picture (SVG) of the queue before works over time: the mean over seeds, and the greatest. There must be
+    queues."""
     times = sorted(seen.queues)
     most = max(1.0, *(max(own) for own in seen.queues.values()))
     across, down = (WIDE - LEFT - 10) / max(1, times[-1] - times[0]), (HIGH - 40) / most
@@ -172,7 +173,8 @@ def queues_picture(seen: Seen) -> str:
 
 
 def other_ways(plans: Sequence[Runs], shown: tuple[int, int]) -> str:
-    """A table of the edges that, for sure, 20 vehicles an hour or more win or lose with the second plan, as HTML."""
+    """A table, as HTML, of the edges that win or lose 20 vehicles an hour or more with the second of two plans, for
+    sure or, with one seed, at all; the six at most that win and that lose most. A sentence where there are none."""
     names, found = plans[1].names, []
     for edge, change in flow_changes(plans, shown).items():
         if abs(change.change) >= LEAST and (change.is_sure() or change.half is None):
@@ -190,7 +192,8 @@ def other_ways(plans: Sequence[Runs], shown: tuple[int, int]) -> str:
 
 
 def flow_changes(plans: Sequence[Runs], shown: tuple[int, int]) -> dict[str, Difference]:
-    """By edge the change of vehicles an hour in the interval (begin, end) that is shown, paired by seed."""
+    """By edge the change of vehicles an hour from the first of two plans to the second, in the interval (begin, end)
+    that is shown, paired by seed; edges that one plan has no counts of are left out."""
     sides = []
     for runs in plans:
         flows: defaultdict[str, dict[int, float]] = defaultdict(dict)

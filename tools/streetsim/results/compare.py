@@ -12,7 +12,8 @@ EdgeKey = tuple[float, float, str]  # begin and end of a period, and an edge
 
 
 def read_tripinfo(path: str) -> dict[str, Trip]:
-    """SUMO's trips, {vehicle: (wished departure, arrival)} in seconds; those that did not arrive are left out."""
+    """The trips of a file of SUMO's tripinfo, {vehicle: (wished departure, arrival)} in seconds; those that did not
+    arrive are left out. Fault where it is not there, is no tripinfo or lacks an attribute."""
     trips = {}
     for element in elements(path, ["tripinfos"]):
         if element.tag == "tripinfo" and (arrival := attribute(path, element, "arrival", seconds)) >= 0:
@@ -22,8 +23,9 @@ def read_tripinfo(path: str) -> dict[str, Trip]:
 
 
 def read_edges(path: str) -> dict[EdgeKey, tuple[int, float]]:
-    """SUMO's edgeData, {(begin, end, edge): (vehicles, seconds)}: the vehicles that left the edge or arrived on it, and
-    the seconds that all vehicles together were on it."""
+    """A file of SUMO's edgeData, {(begin, end, edge): (vehicles, seconds)}: the vehicles that left the edge or arrived
+    on it, and the seconds that all vehicles together were on it. Fault where it is not there, is no edgeData or lacks
+    an attribute; ValueError for a count that is no number."""
     edges = {}
     for interval in elements(path, ["meandata"]):
         period = attribute(path, interval, "begin", seconds), attribute(path, interval, "end", seconds)
@@ -34,7 +36,8 @@ def read_edges(path: str) -> dict[EdgeKey, tuple[int, float]]:
 
 
 def read_edgedata(path: str) -> dict[EdgeKey, int]:
-    """SUMO's edgeData, {(begin, end, edge): vehicles that left the edge or arrived on it}."""
+    """A file of SUMO's edgeData, {(begin, end, edge): vehicles that left the edge or arrived on it}; faults as of
+    `read_edges`."""
     return {key: vehicles for key, (vehicles, _) in read_edges(path).items()}
 
 

@@ -114,8 +114,8 @@ def refuse_old(path: str, seeds: Collection[int]) -> None:
 
 
 def read_runs(path: str) -> Runs:
-    """The runs of a folder that streetsim-run wrote, one or one for each seed, with their junction tables; Fault where
-    it has none."""
+    """The runs of a folder that streetsim-run wrote, one or one for each seed, with their junction tables; Fault as of
+    read_folders, and where a run lacks a table or none has rows."""
     made = read_folders(path)
     for table in TABLES:
         read_rows(made, table)
@@ -126,7 +126,7 @@ def read_runs(path: str) -> Runs:
 
 def read_any(path: str) -> Runs:
     """The runs of a folder that streetsim-run wrote, one or one for each seed; with their junction tables where the
-    first of them has these."""
+    first of them has these, and then Fault as of read_runs, else as of read_folders."""
     runs = read_folders(path)
     return read_runs(path) if os.path.exists(f"{runs.first.path}/junctions.csv") else runs
 

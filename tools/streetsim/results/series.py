@@ -1,4 +1,5 @@
-"""The numbers behind the pictures, from what streetsim-run wrote; nothing here draws."""
+"""The numbers behind the pictures, from what streetsim-run wrote; nothing here draws. Functions of a path, which is
+edges in the order of driving, raise Fault where the map has no such edge."""
 from bisect import bisect_right
 from collections import Counter, defaultdict
 from collections.abc import Iterable, Iterator, Sequence
@@ -29,8 +30,8 @@ def stretches(folder: Folder, edges: Iterable[str]) -> tuple[dict[int, tuple[flo
 
 
 def trajectories(folder: Folder, edges: Iterable[str], first: int, last: int) -> list[Piece]:
-    """Pieces of the vehicles' ways along a path of edges, each from one poll to the next, from a first to a last
-    second; a vehicle that went back is left out for that piece."""
+    """Pieces of the ways of vehicles' fronts along a path of edges, each from one poll to the next, from a first to a
+    last second, in metres from the path's begin; a vehicle that went back is left out for that piece."""
     placed, _ = stretches(folder, edges)
     pieces: list[Piece] = []
     before: dict[int, tuple[int, float, int, float]] = {}
@@ -157,8 +158,8 @@ def green_band(folder: Folder, edges: Sequence[str], first: int) -> tuple[int, i
 
 
 def stop_lines(folder: Folder, edges: Sequence[str]) -> list[tuple[float, int, list[int], list[int]]]:
-    """(seconds at free speed from the path's begin, node, links, next links) of each stop line within a path of edges,
-    in its order."""
+    """(seconds at free speed from the path's begin, node, links, next links) of each end of an edge within a path, with
+    a signal or without, in its order."""
     links, after, found = folder.links_along(edges), 0.0, []
     for here, following in zip(links, links[1:]):
         link = folder.mapping.links[here[0]]

@@ -34,7 +34,8 @@ def files_in(folder: str) -> list[str]:
 
 def compared(said: str, found: str, counts: Compared) -> Iterator[tuple[str, str, str]]:
     """Where the files of the folder `said` differ from those of `found`, made anew: (file and place in it, said,
-    found). Files that only `said` has are passed over. Adds to `counts`."""
+    found). Files that only `said` has, made.json and lights.json are passed over. Adds to `counts`. Fault where a
+    setting or a packed file cannot be read."""
     for name in (one for one in files_in(found) if one not in PATHS):
         counts.files += 1
         if not os.path.exists(f"{said}/{name}"):
@@ -61,7 +62,8 @@ def settings(path: str) -> Any:
 
 
 def lines_of(path: str) -> list[bytes]:
-    """The lines of a file, as bytes, unpacked where its name ends in .gz; Fault where that fails."""
+    """The lines of a file, as bytes, unpacked where its name ends in .gz; Fault where unpacking fails, OSError where
+    the file is not there."""
     content = Path(path).read_bytes()
     try:
         return (gzip.decompress(content) if path.endswith(".gz") else content).split(b"\n")
@@ -98,8 +100,8 @@ def of_tables(name: str, first: str, second: str, counts: Compared) -> Iterator[
 
 
 def of_values(name: str, said: Any, found: Any, counts: Compared) -> Iterator[tuple[str, str, str]]:
-    """The values of two settings that differ, as `compared` gives them; name: the file and the keys so far. Adds to
-    `counts`."""
+    """The values of two settings that differ, as `compared` gives them, JSON of 80 letters at most; name: the file and
+    the keys so far. Adds to `counts`."""
     if isinstance(said, dict) and isinstance(found, dict):
         for key in {**said, **found}:
             yield from of_values(f"{name}, {key}", said.get(key), found.get(key), counts)

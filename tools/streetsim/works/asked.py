@@ -50,8 +50,8 @@ def all_works(texts: Iterable[str], mapping: Map, start: int, until: int | None)
 
 
 def works_of(text: str, mapping: Map) -> Works:
-    """The works that a text LANE:METRES-METRES:S-S asks for; Fault where it has another form, or the map has no such
-    lane or metres."""
+    """The works that a text LANE:METRES-METRES:S-S asks for, each S as clock_of reads it; Fault where it has another
+    form, or the map has no such lane or metres."""
     found = FORM.fullmatch(text)
     clocks = [second for clock in found.groups()[3:] if (second := clock_of(clock)) is not None] if found else []
     if not found or len(clocks) < 2 or int(found[2]) >= int(found[3]) or clocks[0] >= clocks[1]:

@@ -19,15 +19,16 @@ class Closure:
     beyond: float = 0.0  # metres for which it goes on, on the next part of the edge
 
     def metres(self, mapping: Map) -> tuple[float, float]:
-        """(begin, end) of the closed stretch, in metres from the begin of its link."""
+        """(begin, end) of the closed stretch, in metres from the begin of its link, what is beyond its end among
+        them."""
         link = mapping.links[self.link]
         size = link.metres / link.cells
         return self.first * size, (self.last + 1) * size + self.beyond
 
 
 def closures_of(run: Run, until: int) -> list[Closure]:
-    """The stretches that a run closes, by its own lines and by --close, from its start to the clock until; one that is
-    not reopened with the same cells lasts until then."""
+    """The stretches that a run closes, by its own lines and by --close, from its start to the clock until, by their
+    begin; one that is not reopened with the same cells lasts until then."""
     timed = [*((run.start(), line) for line in run.first), *run.timed]
     open_: dict[tuple[int, int, int, int], int] = {}
     found = []

@@ -28,7 +28,7 @@ BESIDE = "nobody changes to the edge's other lanes, so delays may be far too lon
 
 
 def beyond_joint(run: Run, mapping: Map, closures: Sequence[Closure]) -> list[str]:
-    """The texts of crowded for which a run is doubted: of edges with further lanes, to which nobody changes."""
+    """The texts of crowded for which a run is doubted: of edges with further links, to whose lanes nobody changes."""
     return [text for text in crowded(run, mapping, closures) if text.endswith(BESIDE)]
 
 

@@ -24,13 +24,14 @@ class Merges:
     reopen, calls done after it, and at each clock that next names calls told for the links of due."""
 
     def __init__(self, cells: Mapping[int, int]) -> None:
-        """cells: by link, for each link of two lanes on which vehicles are to merge; other links are left alone."""
+        """cells: how many a link has, by link, for each of two lanes on which vehicles are to merge; other links are
+        left alone."""
         self.cells = cells
         self.links: dict[int, Closed] = {}
 
     def before(self, command: Command) -> list[Command]:
-        """The commands to send ahead of a command of others, so that no closure of merging is in its way; merging on
-        its link then begins anew. Empty for commands that close and reopen nothing here."""
+        """The commands to send ahead of a command of others, so that no closure of merging is in its way; they count as
+        sent, and merging on its link begins anew. Empty for commands that close and reopen nothing here."""
         closed = self.links.get(command["link"]) if command["cmd"] in CLOSING else None
         return [change.on(command["link"]) for change in closed.merging.end()] if closed else []
 
@@ -51,7 +52,8 @@ class Merges:
             del self.links[link]
 
     def end(self) -> list[Command]:
-        """The commands to send so that only what others closed stays closed; merging goes on when it is told again."""
+        """The commands to send so that only what others closed stays closed; they count as sent, and merging goes on
+        when it is told again."""
         return [change.on(link) for link, one in self.links.items() for change in one.merging.end()]
 
     def next(self) -> int | None:
@@ -63,8 +65,8 @@ class Merges:
         return [link for link, one in self.links.items() if one.due <= clock]
 
     def told(self, clock: int, link: int, lanes: tuple[Lane, Lane]) -> list[Command]:
-        """The commands to send before the next step, by the replies on both lanes of a link that is due; sets when it
-        is due again."""
+        """The commands to send before the next step, by the replies on both lanes of a link that is due; they count as
+        sent. Sets when it is due again."""
         one = self.links[link]
         changes = one.merging.told(clock, [side_of(lane) for lane in lanes])
         one.due = clock + one.merging.seconds()

@@ -37,7 +37,7 @@ class Lost:
     vehicles: int  # that come while the works last
 
     def is_joint(self) -> bool:
-        """Whether those who turn are led from the other lane of the same link."""
+        """Whether those who turn can be led from the other lane of the same link, not of another link beside."""
         return bool(self.others) and self.others[0][0] == self.lanes[0][0]
 
 
@@ -131,7 +131,7 @@ def done_with(one: Lost, mapping: Map, how: str, searched: bool) -> str:
 
 
 def apart(place: Place, mapping: Map, other: Place) -> int:
-    """How far apart two lanes of an edge lie, in places of SUMO's indexes."""
+    """How far apart two lanes of an edge, each a (link, lane), lie by SUMO's indexes: 1 for neighbours."""
     one, beside = (mapping.links[link].lanes[lane] for link, lane in (place, other))
     return abs(one - beside)
 

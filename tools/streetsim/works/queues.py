@@ -77,7 +77,8 @@ def reach_of(lanes: Mapping[Place, Lane], streets: Streets, link: int, first: in
 
 
 def along(piece: Piece, lanes: Mapping[Place, Lane], scale: float, found: Reach) -> int:
-    """Adds those who stand on a piece to the queue found; gives the cell of the last one. scale: metres of a cell."""
+    """Adds those who stand on a piece to the queue found; gives the cell of the last one, `last` of the piece where
+    nobody is added. scale: metres of a cell."""
     last = piece.last
     for cell, speed, size in vehicles_of(piece, lanes):
         if last - cell > APART or cell < piece.begin:

@@ -46,8 +46,9 @@ class Asking:
 def with_works(
     run: Run, mapping: Map, map_path: FilePath, works: list[Works], asking: Asking = Asking()
 ) -> tuple[Run, Map, list[str]]:
-    """(the run with works, its map, the texts to tell). They are imported anew where lanes must be joint or edges cut;
-    map_path: from which the imported files are found. Fault where that cannot be done."""
+    """(the run with works, its map, the texts to tell). Both are imported anew where lanes must be joint or led from,
+    or edges cut; map_path: from which the imported files are found. Fault where that cannot be done, the map lacks a
+    name of asking.others, or the works cannot have the limit."""
     told: list[str] = []
     if asking.limit and works:
         slow = limits_of(works, mapping, asking.limit)
@@ -84,8 +85,8 @@ def closed(run: Run, mapping: Map, works: list[Works], how: str, searched: bool 
 
 
 def lines_of(sites: Sequence[Site]) -> list[tuple[int, Line]]:
-    """The timed lines of works, (clock, line): a close and a reopen of each. In a second in which works end, others
-    that last on cells of theirs are closed once more behind that, as reopening has opened these cells."""
+    """The timed lines of works, (clock, line), rising: a close and a reopen of each. In a second in which works end,
+    others that last on cells of theirs are closed once more behind that, as reopening has opened these cells."""
     found = [(site.works.last, line_of("reopen", site)) for site in sites]
     found += [(site.works.first, line_of("close", site)) for site in sites]
     for ended, other in product(sites, sites):
@@ -229,8 +230,8 @@ def edges_of(names: Iterable[str], mapping: Map) -> set[str]:
 
 
 def round_works(run: Run, mapping: Map, shut: dict, stay: Collection[Way] = ()) -> Run:
-    """The run in which vehicles that may come to a shut link while it is shut take another link of its edge. shut: as
-    shut_links gives it; stay: movements for which nobody changes to added turns."""
+    """The run in which vehicles that may come to a shut link while it is shut take another link of its edge, where one
+    has their turns. shut: as shut_links gives it; stay: movements for which nobody changes to added turns."""
     ways: defaultdict[tuple[int, int], list[int]] = defaultdict(list)
     use: Counter[int] = Counter()
     enters = list(run.enters)
@@ -252,8 +253,8 @@ def round_works(run: Run, mapping: Map, shut: dict, stay: Collection[Way] = ()) 
 
 def plan_round(command: dict, mapping: Map, shut: dict, ways: dict, use: Counter, free_flow: FreeFlow) -> list[int]:
     """The plan of an enter command, with other links of the same edges in place of links that are shut when it may
-    come. ways: the lanes of each turn, by (link, next link); use: how many were led over each link so far, which it
-    counts on."""
+    come, where there are any. shut: as shut_links gives it; ways: the lanes of each turn, by (link, next link); use:
+    how many were led over each link so far, to which it adds."""
     plan = list(command["plan"])
     for at, link in enumerate(plan):
         soonest, latest = free_flow(plan[:at]), 2 * free_flow(plan[: at + 1]) + LATE
