@@ -57,7 +57,8 @@ class VehicleCalls(Calls[Simulated]):
         raise NotImplementedError
 
     def place_on_lane(self, name: str) -> Place | None:
-        """Where a vehicle is, for calls on its lane; None as of place, or where its lane is not told."""
+        """Where a vehicle is, for calls on its lane; None as of place, and in scenarios also in a junction, where they
+        do not tell the lane."""
         return self.place(name)
 
     def known(self, name: str) -> Simulated:
@@ -73,12 +74,13 @@ class VehicleCalls(Calls[Simulated]):
         return link.edge if place.cell is not None else f":{mapping.nodes[link.end][0]}"
 
     def getLaneIndex(self, name: str) -> int:
-        """SUMO's index of its lane; NOWHERE as a whole number where it has no place."""
+        """SUMO's index of its lane; NOWHERE as a whole number where place_on_lane has none."""
         place = self.place_on_lane(name)
         return int(NOWHERE) if place is None else self.now().map.links[place.link].lanes[place.lane]
 
     def getLaneID(self, name: str) -> str:
-        """SUMO's name of its lane; in a junction ":", the junction's name and "_0"; empty where it has no place."""
+        """SUMO's name of its lane; in a junction ":", the junction's name and "_0"; empty where place_on_lane has
+        none."""
         place = self.place_on_lane(name)
         if place is None:
             return ""
@@ -87,7 +89,8 @@ class VehicleCalls(Calls[Simulated]):
         return self.now().map.lane_name(place.link, place.lane)
 
     def getLanePosition(self, name: str) -> float:
-        """Metres from the lane's begin to the vehicle's front; 0 in a junction, NOWHERE where it has no place."""
+        """Metres from the lane's begin to the vehicle's front; 0 in a junction; NOWHERE where place_on_lane has
+        none."""
         place = self.place_on_lane(name)
         if place is None:
             return NOWHERE
@@ -166,7 +169,8 @@ class LaneCalls(StretchCalls[Simulated]):
         return tuple(self.now().lane_of)
 
     def places(self, name: str) -> list[tuple[int, int]]:
-        """Its (link, lane), in a list; a domain whose objects have several lanes gives all of them."""
+        """Its (link, lane), in a list; a domain whose objects have several lanes gives all of them. KeyError for an
+        unknown name, where `check` does not refuse it before."""
         self.check(name, self.now().lane_of)
         return [self.now().lane_of[name]]
 

@@ -10,7 +10,8 @@ from streetsim.simulation.simulation import Simulation
 @dataclass(slots=True)
 class Detours:
     """Vehicles that leave their plan for the shortest way round an edge. Each is taken out, and enters anew with
-    another number; one on the road does so where its new way begins."""
+    another number; one on the road does so where its new way begins. Who has one of these notes in `departs` each
+    vehicle that is to be looked at, calls turn_off before each advance, and goes no further than next_clock."""
 
     simulation: Simulation
     departs: dict[str, int] = field(default_factory=dict)  # by name: wished departure
@@ -19,8 +20,9 @@ class Detours:
 
     def begin(self, edge: str, until: float) -> list[str]:
         """Gives other ways to the vehicles that would come to an edge, on the road or not departed yet, before the
-        second until, where all lanes of the edge are closed at one place now. Gives the names of those that have one;
-        empty where the edge can be passed."""
+        second until, where all lanes of the edge are closed at one place now. Those that have not departed enter anew
+        at once, those on the road by turn_off. Gives the names of those that have one; empty where the edge can be
+        passed. Opens what merging holds closed (let_go). KeyError for an unknown edge."""
         simulation, client = self.simulation, self.simulation.client
         simulation.let_go()
         closed = {place: client.lane(*place).closed for place in simulation.lanes_on(edge)}
@@ -64,7 +66,8 @@ class Detours:
         return waiting, driving
 
     def turn_later(self, name: str, way: tuple[int, ...]) -> None:
-        """Notes that a vehicle on the road leaves its plan for a way, which begins on its present link."""
+        """Notes that a vehicle on the road leaves its plan for a way, which begins on its present link; where that is
+        its plan, it keeps this, whatever was noted before."""
         plan, [reply] = self.ahead(name), self.where([name])
         plan = plan[plan.index(reply.place[0]) :]
         self.turning.pop(name, None)

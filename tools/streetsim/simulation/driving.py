@@ -21,7 +21,8 @@ class Driving:
         self.senses = Senses(client.read, lambda place: client.lane(*place))
 
     def begin(self, clock: int) -> Iterator[Command]:
-        """The commands that place the detectors and show the lights, at the begin."""
+        """The commands that place the detectors and show the lights, at the begin; all of them are to be sent before
+        the first look. clock: of the begin."""
         yield from self.driver.meters(0)
         yield from self.driver.begin(clock)
 

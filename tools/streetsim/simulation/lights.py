@@ -62,8 +62,8 @@ class Control:
         self.change(simulation.clock)
 
     def change(self, clock: int) -> None:
-        """Gives the lights the programs that they have by time of day up to a clock; those that a script has set keep
-        what it set."""
+        """Notes for the lights the programs that they have by time of day up to a clock; those that a script has set
+        keep what it set. Nothing is sent, as the run has lines for it."""
         while self.changes and self.changes[0][0] <= clock:
             _, name, program = self.changes.popleft()
             if name in self.lights and not self.simulation.shown.forgotten & {*self.simulation.shown.nodes(name)}:
@@ -130,7 +130,7 @@ class Control:
 
     def go_to(self, name: str, index: int) -> None:
         """Shows the phase of an index from now on, and forgets a set end of the present one; a light that detectors
-        drive stays driven. TraCIException for a wrong index."""
+        drive stays driven. TraCIException for a wrong index, and for a NEMA light that detectors drive."""
         check_index(name, self.light(name).phases, index)
         self.end_timers(name)
         if (driven := self.driven(name)) is None:
@@ -144,7 +144,8 @@ class Control:
         self.timers = [timer for timer in self.timers if timer[1] != name]
 
     def end_phase(self, name: str, clock: int) -> None:
-        """Shows the present phase until a clock, and then the next one."""
+        """Shows the present phase until a clock, and then the next one; a light that detectors drive stays driven.
+        TraCIException for a NEMA light that they drive."""
         light = self.light(name)
         if (driven := self.driven(name)) is not None:
             actuated_of(name, driven).end_at(max(clock, self.simulation.clock + 1))
@@ -155,8 +156,8 @@ class Control:
         self.show(name, [(CONSTANT, light.phases[index][1].replace("g", "G"))], 0)
 
     def hold(self, name: str, state: str, program: str = "online") -> None:
-        """Shows a state until another call sets the light; program: the name that the light then tells. TraCIException
-        for a wrong state."""
+        """Shows a state until another call sets the light; detectors drive it no more. program: the name that the light
+        then tells. TraCIException for a wrong state."""
         check_state(name, state, self.light(name).states)
         self.show_program(name, [(CONSTANT, state)], 0, program)
 

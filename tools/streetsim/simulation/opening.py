@@ -32,8 +32,9 @@ def open_session(words: Sequence[str]) -> Session:
 
 
 def opened(folder: Path, options: Options) -> Session:
-    """The session of some options (long names): imports what they name into a folder, and starts the program.
-    FatalTraCIError where they name no network."""
+    """The session of some options (long names): imports what they name into a folder, starts the program, tells what
+    differs from SUMO, and has the output files written that are asked for. FatalTraCIError where they name no network,
+    Fault where the import or the run cannot be made."""
     names = ("route-files", "additional-files")
     routes, additional = ([part.strip() for part in options.get(name, "").split(",") if part.strip()] for name in names)
     if not options.get("net-file"):
@@ -82,7 +83,8 @@ def told_of_files(facts: Facts) -> str:
 
 
 def output_paths(options: Options, facts: Facts) -> dict[str, str]:
-    """{kind: path} of the output files that are asked for: by options, and the first edgeData of additional files."""
+    """{kind: path} of the output files that are asked for: by options, kinds as SERVED has them, and as "edgedata" the
+    first edgeData of additional files. --output-prefix stands before the name of each file."""
     prefix, paths = options.get("output-prefix", ""), {}
     for name, kind in SERVED.items():
         if options.get(name, NOWHERE[0]) not in NOWHERE:
@@ -99,7 +101,7 @@ def is_on(value: str) -> bool:
 
 def tell(said: str, options: Options) -> None:
     """Writes what the import said, and which options have no effect, to standard error (unless --no-warnings) and to
-    the files of --log."""
+    the files of --log, --message-log and --error-log."""
     said = "".join(f"warning: {text}\n" for text in warnings_of(options)) + said
     if not is_on(options.get("no-warnings", "false")):
         sys.stderr.write(said)

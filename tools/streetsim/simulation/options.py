@@ -43,8 +43,9 @@ KNOWN = re.compile(
 
 
 def options_of(words: list[str]) -> dict[str, str]:
-    """SUMO's options, {long name: text}, empty where a word has no value; words count before those of a configuration
-    that they name. FatalTraCIError for what SUMO does not know either, or what is refused here."""
+    """SUMO's options, {long name: text}, empty where a word has no value. A first word without "-" names the
+    configuration; words count before those of a configuration that they name. FatalTraCIError for what SUMO does not
+    know either, what is refused here, and a configuration that cannot be read."""
     options, at = {}, 0
     if words and not str(words[0]).startswith("-"):
         options["configuration-file"], at = str(words[0]), 1
@@ -70,7 +71,8 @@ def is_value(word: str) -> bool:
 
 
 def name_of(word: str) -> str:
-    """The long name of an option; FatalTraCIError where a word is no option of SUMO's."""
+    """The long name of an option, of a word as -n or --net-file; FatalTraCIError where the word does not begin with
+    "-", or is an unknown short one. Long ones are not looked up here: check_option refuses unknown ones."""
     if not word.startswith("-") or word in ("-", "--"):
         raise FatalTraCIError(f"{word!r} is no option: options begin with '--'")
     if not word.startswith("--"):
@@ -82,8 +84,8 @@ def name_of(word: str) -> str:
 
 
 def check_option(name: str, value: str) -> None:
-    """FatalTraCIError for options that cannot be done: unknown ones, outputs that are not written here, steps of
-    another length, and what would change the demand."""
+    """FatalTraCIError for options (long name, text of its value) that cannot be done: unknown ones, outputs that are
+    not written here, steps of another length, wrong values of streetsim's own, and what would change the demand."""
     on = value.lower() not in FALSE
     if name == "step-length" and not is_one(value):
         raise FatalTraCIError(f"--step-length {value}: steps are of one second")

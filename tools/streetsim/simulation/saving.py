@@ -16,7 +16,8 @@ TALLIED = ("waiting", "waited", "lost", "travelled")
 
 def save_state(session: Session, path: str) -> None:
     """Writes to a file what restores a session: the lines that brought it here, and what is known of its vehicles and
-    lights, and of what drives these."""
+    lights, and of what drives these. From now on each step of the session is looked at; what merging holds closed is
+    opened."""
     session.follow()
     session.let_go()
     fleet, types, view, lights = session.fleet, session.types, session.view, session.control.lights.items()
@@ -57,8 +58,8 @@ def files_of(session: Session) -> dict[str, str]:
 
 
 def load_state(session: Session, path: str) -> None:
-    """Brings a session to a state that was saved of the same files; TraCIException where the file has no state, the
-    state is of other files or words, or output files are being written."""
+    """Brings a session to a state that was saved of the same files; from now on each step is looked at. TraCIException
+    where the file has no state, the state is of other files or words, or output files are being written."""
     try:
         with open_text(path) as file:
             state = json.load(file)

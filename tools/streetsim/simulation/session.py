@@ -50,12 +50,12 @@ class Session(Simulation):
         self.ways: Ways | None = None  # what router gives
 
     def refusal(self, line: bytes, reply: Exception) -> Exception:
-        """FatalTraCIError on a refused line, as the run cannot go on."""
+        """The exception for a line that is refused: FatalTraCIError, as the run cannot go on."""
         return FatalTraCIError(f"streetsim refused {line[:60].decode()!r}: {reply}")
 
     def write(self, paths: Mapping[str, str], period: int) -> None:
-        """Has SUMO's output files written from now on, at these paths by kind; period: seconds of the rows of
-        edgeData."""
+        """Has SUMO's output files written from now on, at these paths by kind (as `output_paths` of opening gives
+        them); each step is looked at from now on. period: seconds of the rows of edgeData."""
         self.writer = Writer(dict(paths), self.map, self.dawdle, period, self.clock)
         self.follow()
 
@@ -94,7 +94,8 @@ class Session(Simulation):
         return self
 
     def look(self) -> None:
-        """Looks at all lanes, and counts a second for vehicles that stand and for lost time."""
+        """Looks at all lanes, counts a second for vehicles that stand and for lost time, and adds up distances; once at
+        each clock at most."""
         self.view.look()
         self.tally.note(self.view, self.map, self.inside, self.dawdle)
         self.note_loops()
@@ -163,7 +164,7 @@ class Session(Simulation):
             self.writer.expect(self.fleet.cars[name], name, depart, self.types.name(name))
 
     def remove(self, name: str) -> None:
-        """Takes out a vehicle, of which the program must have been told."""
+        """Takes out a vehicle, of which the program must have been told, and which must not have ended."""
         car = self.fleet.cars[name]
         self.tell({"cmd": "takeout", "car": car})
         self.view.remove(name, car)

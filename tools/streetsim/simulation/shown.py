@@ -70,7 +70,7 @@ class Shown:
 
     def own(self, light: str, node: int, phases: Sequence[tuple[float, str]], offset: float, report: Report) -> LitNode:
         """A light's program at one of its nodes, in the form from which signal lines are made; offset: as in a tlLogic,
-        seconds."""
+        seconds; report: gets warnings."""
         turns = [(turn.link, turn.lane, turn.next, turn) for turn in self.turns(node)]
         edges = {link: self.map.links[link].edge for link, *_ in turns}
         program = Program(offset, list(phases), "static")

@@ -127,8 +127,9 @@ class Simulation:
                 self.shown.signals[command["node"]] = command
 
     def show_program(self, light: str, phases: Sequence[tuple[float, str]], offset: float) -> list[str]:
-        """Shows a cycle of (seconds, state) at a light from the next step on; offset: as in a tlLogic, seconds. Gives
-        warnings."""
+        """Shows a cycle of (seconds, state) at a light from the next step on; lines of the file for the light are no
+        longer sent. Where detectors drive it, it is to be released before (driving.driver.release). offset: as in a
+        tlLogic, seconds. Gives warnings."""
         commands, told = self.shown.program(light, phases, offset, self.clock)
         self.show(commands)
         return told
@@ -173,17 +174,17 @@ class Simulation:
     # Lanes
 
     def lanes_on(self, edge: str) -> list[tuple[int, int]]:
-        """All (link, lane) of an edge."""
+        """All (link, lane) of an edge; KeyError for an unknown one."""
         links = self.map.links
         return [(link, lane) for link in self.map.links_of[edge] for lane in range(len(links[link].lanes))]
 
     def close_lane(self, lane: str, begin: float = 0.0, end: float | None = None) -> None:
         """Closes a lane, by SUMO's name, from begin to end metres (None: the lane's end), as road works do. ValueError
-        for metres beyond the lane, or an end not after the begin."""
+        for metres beyond the lane, or an end not after the begin; KeyError for a lane that the import has not."""
         self.change_works({"cmd": "close", **self.works_place(lane, begin, end)})
 
     def reopen_lane(self, lane: str, begin: float = 0.0, end: float | None = None) -> None:
-        """Opens what close_lane closed, with the same lane and metres."""
+        """Opens what close_lane closed, with the same lane and metres; ValueError and KeyError as there."""
         self.change_works({"cmd": "reopen", **self.works_place(lane, begin, end)})
 
     def change_works(self, command: Command) -> None:

@@ -19,7 +19,8 @@ WRITING = (
 
 @dataclass(slots=True)
 class Connection:
-    """A way from a lane to a next one, as SUMO's lane.getLinks has it."""
+    """A way from a lane to a next one, as SUMO's lane.getLinks has it; direction and state are SUMO's letters. light,
+    index: the light that shows its signal, and its place in the light's state; empty and -1 where it has none."""
 
     target: str  # the next lane
     via: str  # the lane inside the junction
@@ -31,7 +32,8 @@ class Connection:
 
 @dataclass(slots=True)
 class LaneFacts:
-    """What a network's file says of a lane."""
+    """What a network's file says of a lane: lengths and points in metres; the classes that may drive there (empty: all)
+    and that may not; links: the connections from it."""
     speed: float  # metres a second
     metres: float
     width: float
@@ -43,7 +45,7 @@ class LaneFacts:
 
 @dataclass(slots=True)
 class Junction:
-    """What a network's file says of a junction."""
+    """What a network's file says of a junction, in metres."""
     place: Point
     shape: tuple[Point, ...]  # closed
 
@@ -68,7 +70,8 @@ class Facts:
     unwritten: list[str] = field(default_factory=list)
 
     def read_edge(self, path: str, element: Element) -> None:
-        """Notes the lanes of an edge; of lanes inside a junction the metres alone."""
+        """Notes the lanes of an edge and its street's name; of lanes inside a junction the metres alone. Fault where an
+        attribute is absent or malformed. path: for the Fault."""
         edge = attribute(path, element, "id")
         for lane in element.iter("lane"):
             name, metres = attribute(path, lane, "id"), attribute(path, lane, "length", number)
@@ -81,7 +84,8 @@ class Facts:
             self.streets[edge] = element.get("name") or ""
 
     def read_connection(self, element: Element) -> None:
-        """Notes a connection from a lane to a next one; of one inside a junction, on which lane it goes on."""
+        """Notes a connection from a lane to a next one; of one inside a junction, on which lane it goes on. Its edges
+        must have been read before; one from another lane is passed over."""
         source, target = (
             f"{element.get(edge)}_{element.get(lane)}" for edge, lane in (("from", "fromLane"), ("to", "toLane"))
         )
@@ -99,7 +103,7 @@ class Facts:
 
     def read_light(self, path: str, element: Element) -> None:
         """Notes a program of a light; the last one of a light is the one that runs, the others can be chosen. One
-        without phases is passed over."""
+        without phases is passed over. Fault where an attribute is absent or malformed. path: for the Fault."""
         phases = [
             (attribute(path, one, "duration", seconds), attribute(path, one, "state")) for one in element.iter("phase")
         ]
@@ -113,7 +117,8 @@ class Facts:
         self.lights[name] = light
 
     def lights_at(self, names: Container[str]) -> dict[str, Light]:
-        """{name: light} of the lights whose name is among names; puts into each its connections by index."""
+        """{name: light} of the lights whose name is among names; puts into each its connections by index, and how many
+        letters its states have. All connections must have been read before."""
         links: dict[str, dict[int, tuple[str, str, str]]] = {}
         for lane, fact in self.lanes.items():
             for one in fact.links:
@@ -131,7 +136,8 @@ def points(text: str | None) -> tuple[Point, ...]:
 
 
 def read_facts(net: str, additional: Sequence[str], routes: Sequence[str]) -> Facts:
-    """The facts of a network and its additional files, and the named routes of route files."""
+    """The facts of a network and its additional files, and the named routes of route and additional files; all by
+    paths. Fault where a file cannot be read, or what is needed of it is absent or malformed."""
     facts = Facts()
     for path in (net, *additional):
         for element in elements(path, None):

@@ -18,7 +18,8 @@ class Tally:
     travelled: dict[int, float] = field(default_factory=dict)  # metres of the links and junctions behind it
 
     def note(self, view: View, mapping: Map, inside: Inside, dawdle: float) -> None:
-        """Adds one second, by a look; dawdle: the chance, 0 to 1, to go on by a cell less."""
+        """Adds one second, by a look (view) at the clock to which the last step led; to be called once for each step.
+        dawdle: the chance, 0 to 1, to go on by a cell less."""
         standing = [car for car, place in view.places.items() if not place.speed]
         self.waiting = {car: self.waiting.get(car, 0) + 1 for car in standing}
         for car in standing:

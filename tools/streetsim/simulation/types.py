@@ -27,7 +27,8 @@ class Types:
         return self.kinds.get(self.name(vehicle), Kind())
 
     def cells(self, name: str) -> int:
-        """The cells that a vehicle of a type takes; 1 where the import was told to leave sizes out."""
+        """The cells, 1 to 4, that a vehicle of a type takes, by the type's name; 1 where the import was told to leave
+        sizes out. KeyError for an unknown type."""
         metres = self.kinds[name].length + self.kinds[name].gap
         return max(1, min(limits.SIZE, int(metres / limits.CELL_METRES + 0.5))) if self.sizes else 1
 

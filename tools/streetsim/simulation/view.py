@@ -9,7 +9,9 @@ from streetsim.simulation.simulation import Simulation
 
 
 class View:
-    """The vehicles on the road at the clock of a look, and what has changed since the look before."""
+    """The vehicles on the road at the clock of a look, and what has changed since the look before. Its user puts into
+    `before` the places of the look a step earlier (empty: there was none), and calls clear when the clock has gone
+    on."""
 
     def __init__(self, simulation: Simulation) -> None:
         """simulation: whose lanes are polled."""
@@ -70,7 +72,8 @@ class View:
         self.places.update(self.held)
 
     def note_gone(self, cars: Iterable[int]) -> None:
-        """Asks what became of vehicles that are no longer seen, by number, and notes who arrived."""
+        """Asks what became of vehicles that are no longer seen, by number, and notes when each ended, and who
+        arrived."""
         self.arrived, self.leaving = self.leaving, []
         for reply in self.simulation.vehicles(cars):
             self.gone[self.simulation.fleet.names[reply.car]] = reply.step

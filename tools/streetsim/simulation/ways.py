@@ -36,8 +36,8 @@ class Ways:
         self.now = None
 
     def way(self, origin: str, target: str) -> tuple[tuple[int, ...], float]:
-        """(links of the quickest way from an edge to another by the travel times at the clock, its seconds);
-        TraCIException where there is none."""
+        """(links of the quickest way from an edge to another, both whole, by the travel times at the clock; its
+        seconds); TraCIException where there is none, or an edge is unknown."""
         clock = self.simulation.clock
         if self.now is None or self.now[0] != clock:
             costs = {edge: self.seconds(edge) for edge in self.map.links_of}
@@ -48,7 +48,7 @@ class Ways:
 
     def metres(self, origin: str, target: str) -> float:
         """Metres of the shortest way from an edge to another, both whole, with the junctions between; TraCIException
-        where there is none."""
+        where there is none, or an edge is unknown."""
         if self.by_metres is None:
             links, inside = self.map.links, self.inside
             inner = ((link, 0.0 if to == END else inside.metres(link, None, to)) for link, to in self.graph.movements)
@@ -57,8 +57,8 @@ class Ways:
         return self.search(origin, target, self.by_metres)[1]
 
     def search(self, origin: str, target: str, router: Router) -> tuple[tuple[int, ...], float]:
-        """(links, cost) of the best way over any of the parallel links of both edges; TraCIException where there is
-        none, or an edge is unknown."""
+        """(links, cost) of the best way over any of the parallel links of both edges; cost: seconds or metres, as the
+        router has them. TraCIException where there is none, or an edge is unknown."""
         links_of = self.map.links_of
         if unknown := [edge for edge in (origin, target) if edge not in links_of]:
             raise TraCIException(f"Edge '{unknown[0]}' is not known.")

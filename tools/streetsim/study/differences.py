@@ -1,4 +1,5 @@
-"""By how much the variants of a study differ, and how sure that is."""
+"""By how much the variants of a study differ, and how sure that is. Results are, by variant, the outcomes of its runs
+in the order of the seeds."""
 from collections.abc import Iterator, Mapping, Sequence
 from statistics import fmean, stdev
 
@@ -20,7 +21,8 @@ Difference = tuple[str, float, float | None, float | None, float | None, int, in
 
 
 def means_of(study: Study, results: Mapping[str, Sequence[Outcome]], name: str) -> list[float]:
-    """The mean trips of a variant, seconds, in the order of the seeds."""
+    """Of each run of a variant the mean trip of its vehicles, seconds, in the order of the seeds: from the wished
+    departure to the arrival, or to the end of the run."""
     cars = len(study.variants[name].session.departs)
     return [one.seconds / cars for one in results[name]]
 

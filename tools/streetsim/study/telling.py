@@ -1,5 +1,5 @@
-"""What streetsim-study says of its runs: differences, a picture of them, ends,
-and why a variant is not to be trusted."""
+"""What streetsim-study says of its runs: differences, a picture of them, ends, and why a variant is not to be trusted.
+Results are, by variant, the outcomes of its runs in the order of the seeds."""
 from bisect import bisect_right
 from collections.abc import Iterator, Mapping, Sequence
 from statistics import fmean
@@ -40,7 +40,7 @@ def draw(study: Study, rows: Sequence[Difference], path: str) -> None:
 
 
 def doubts(study: Study, name: str, outcomes: Sequence[Outcome]) -> Iterator[str]:
-    """What speaks against the runs of a variant, by its name, a text each."""
+    """What speaks against the runs of a variant, by its name, a text each; outcomes: of its runs, one at least."""
     variant = study.variants[name]
     arrived = fmean(one.arrived for one in outcomes)
     yield from trust.of_missing({"": arrived}, fmean(bisect_right(variant.due, one.end) for one in outcomes))

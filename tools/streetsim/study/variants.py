@@ -40,7 +40,8 @@ VARIANT |= {"knowing", "priority", "seen"}
 
 @dataclass(slots=True)
 class Variant:
-    """A variant of a study, read and made ready to run."""
+    """A variant of a study, read and made ready to run. signals: those of its plans, as lines for the program; empty
+    where it has no plans."""
 
     session: Session
     signals: bytes  # lines
@@ -62,7 +63,7 @@ class Study:
 def read_study(path: str, simulator: str, rounds: int | None = None) -> Study:
     """The study of a TOML file, whose paths are read from the file's folder. Variants with route = true have their ways
     searched now, by runs; what is done is told on standard error. simulator: path of the program; rounds: in place of
-    those in the file, None: those. Fault where the file is wrong."""
+    those in the file, None: those. Fault where the file, or one that it names, cannot be read or is wrong."""
     with reading(path), open_text(path) as file:
         value = load_toml(path, file.read())
     refuse_unknown(path, value, KEYS, "key")
@@ -91,7 +92,7 @@ def read_study(path: str, simulator: str, rounds: int | None = None) -> Study:
 
 @contextlib.contextmanager
 def naming(where: str) -> Iterator[None]:
-    """Has a Fault begin with where, the variant that it is of."""
+    """A context in which a Fault gets where, the variant that it is of, before its text, if that is not there yet."""
     try:
         yield
     except Fault as fault:
@@ -124,7 +125,8 @@ def refuse_unknown(where: str, table: Iterable[str], known: Iterable[str], what:
 
 def joint_lanes(path: str, study: Json) -> dict[tuple[str, str], dict[str, None]]:
     """The lanes that are joint in all variants of a run, as works of one of them need it: {(run, map): lanes}; the
-    lanes are keys, in order. Fault where a value of a variant is wrong."""
+    lanes are keys, in order. study: the table of the file at path, with `until` as read_until gives it. Fault where a
+    value of a variant or a map is wrong."""
     found: dict[tuple[str, str], dict[str, None]] = {}
     for name, variant in study["variant"].items():
         with naming(where := f"{path}: variant {name!r}"):
@@ -152,8 +154,9 @@ def read_variant(
     simulator: str,
 ) -> Variant:
     """A variant, read and made ready, its ways searched by runs where it has route = true; what it does is told on
-    standard error. where: for faults; study, variant: their tables of the file; joint: the lanes that are joint for
-    works, by run and map; simulator: path of the program."""
+    standard error. where: for faults; path: of the study's file; study, variant: their tables, whose values check_types
+    has passed, study's `until` and `rounds` as read_study puts them there; joint: as joint_lanes gives it; simulator:
+    path of the program. Fault where a key is unknown, or a file that it names cannot be read or is wrong."""
     refuse_unknown(where, variant, VARIANT, "key")
     beside = partial(os.path.join, os.path.dirname(os.path.abspath(path)))
     run_path, map_path = map(beside, pair_of(study, variant))
@@ -202,7 +205,8 @@ def lights_and_buses(run: Run, mapping: Map, value: Json, drives: bool) -> tuple
 
 
 def check_types(where: str, value: Json) -> None:
-    """Fault where a value of a variant is not of the kind, or in the range, that its key needs."""
+    """Fault where a value of a variant is not of the kind, or in the range, that its key needs, or a key needs another
+    one that is absent. value: the variant's keys over the study's."""
     for key in ("run", "map"):
         if not isinstance(value[key], str):
             raise Fault(f"{where}: {key} = {value[key]!r} is no path")
@@ -235,7 +239,7 @@ def check_types(where: str, value: Json) -> None:
 
 
 def check_priority(where: str, value: Json) -> None:
-    """Fault where what a variant says of priority has no meaning."""
+    """Fault where what a variant says of priority has no meaning. value: the variant's keys over the study's."""
     if not isinstance(names := value.get("priority", ""), str):
         raise Fault(f"{where}: priority = {names!r} is no text of classes or lines")
     if type(seen := value.get("seen", 1)) is not int or not 1 <= seen <= MOST_SEEN:
@@ -248,7 +252,9 @@ def check_priority(where: str, value: Json) -> None:
 
 def signals_of(asked: Reading, run: Run, mapping: Map) -> tuple[bytes, list[str]]:
     """(signal lines, as bytes, of all lights of the map under the plans of a variant; the names of the lights among
-    them that SUMO times by detectors)."""
+    them that SUMO times by detectors). asked: the paths of the run, the map and the plans, of which the first is the
+    network; run and mapping: read of these. Fault where a plan cannot be read, or they have no program for a light of
+    the map."""
     net = read_plans(asked.plans, mapping)
     found = {name: light_of(name, net.programs[name]) for name in lights_of(asked, mapping, net)}
     plan = {name: timing for name, (_, timing) in found.items()}
