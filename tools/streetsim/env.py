@@ -58,12 +58,14 @@ class SignalEnv:
         return list(self.signals)
 
     def actions(self, light: str) -> int:
-        """How many green phases a light has: actions are numbers from 0 to below that."""
+        """How many green phases a light has: actions are numbers from 0 to below that. KeyError for an unknown light,
+        and before the first reset."""
         return len(self.signals[light].greens)
 
     def reset(self, seed: int | None = None) -> tuple[dict[str, Observation], dict]:
-        """Begins the run anew; equal seeds give equal runs, None: the seed of the words. Gives ({light: observation},
-        figures)."""
+        """Begins the run anew, in which each light shows its first green phase until an action changes it; equal seeds
+        give equal runs, None: the seed of the words. Gives ({light: observation}, figures). FatalTraCIError or Fault
+        where the run cannot start."""
         self.close()
         words = self.words if seed is None else [*self.words, "--seed", str(seed)]
         self.session = open_session(words).follow()
@@ -77,7 +79,7 @@ class SignalEnv:
         """Makes a step of every seconds. actions: {light: number of a green phase}; a light that is not named, or was
         changed or reset less than least seconds ago, stays as it is. Gives ({light: observation}, {light: reward},
         whether no vehicle is left, whether the time is over, figures). ValueError for a phase that a light does not
-        have."""
+        have, and where no run is under way; KeyError for an unknown light."""
         session = self.running()
         changed = [name for name, action in actions.items() if self.choose(name, action)]
         for second in range(self.every):
@@ -93,8 +95,8 @@ class SignalEnv:
         return self.observations(), rewards, not self.left(), over, self.figures()
 
     def choose(self, name: str, action: int) -> bool:
-        """Shows yellow where a light is to change and may; gives whether it does. ValueError for a phase that it does
-        not have."""
+        """Shows yellow where a light is to change and may, and notes the new phase, which `step` shows after the
+        yellow; gives whether it changes. ValueError for a phase that it does not have."""
         one = self.signals[name]
         if not 0 <= action < len(one.greens):
             raise ValueError(f"light {name!r} has no green phase {action}")
@@ -125,9 +127,9 @@ class SignalEnv:
         return before - one.waited
 
     def pressure(self, name: str, action: int) -> int:
-        """How many vehicles stand on the lanes before a green phase of a light, less those that stand on the lanes
-        behind it, a lane counted for each of its connections; the policy max-pressure chooses the phase with the
-        greatest."""
+        """How many vehicles stand on the lanes from which a green phase (action) lets drive, less those that stand on
+        the lanes to which it leads, a lane counted for each of its connections; the policy max-pressure chooses the
+        phase with the greatest."""
         one, queue = self.signals[name], {}
         shown = zip(one.greens[action], one.links, strict=True)
         for lane in {lane for state, link in shown if state in GREEN for lane in link}:
@@ -147,7 +149,8 @@ class SignalEnv:
         return [car for car in self.on(lane) if not places[car].speed]
 
     def share(self, lane: str, cars: Sequence[int]) -> float:
-        """The share, 0 to 1, of a lane's length that some vehicles take, with their gaps; cars: numbers."""
+        """The share, 0 to 1, of a lane's length that some of its vehicles take, with their gaps; cars: their
+        numbers."""
         session = self.running()
         cells = sum(session.fleet.sizes[session.fleet.names[car]] for car in cars)
         return min(1.0, cells * limits.CELL_METRES / session.facts.lanes[lane].metres)
@@ -186,7 +189,8 @@ class SignalEnv:
 
 
 def signals_of(light: Light) -> Signals:
-    """What can be chosen at a light: the states of its phases with green and without yellow, each once."""
+    """A light as an agent has it, with the greens that it can choose: the states of its phases with green and without
+    yellow, each once, or the first phase's state where there are none."""
     links = [(link[0], link[1]) if link else ("", "") for link in light.links]
     greens = list(
         dict.fromkeys(state for _, state in light.phases if set(state) & set(GREEN) and "y" not in state.lower())

@@ -50,9 +50,10 @@ class Scenario(Running):
         self, run: FilePath, mapping: FilePath, program: str | None = None, workers: int = 1,
         joint: Iterable[str] = (), rounds: int = ROUNDS,
     ) -> None:  # fmt: skip
-        """run, mapping: paths; program: None: the usual one; workers: threads of the program; joint: edges or lanes to
-        be closed later; rounds: runs that are made before, by which vehicles give way. Warns (Python's warnings) of
-        lights and stops that are other than in SUMO."""
+        """run, mapping: paths of a run file and its map; program: None: the usual one; workers: threads of the program;
+        joint: edges or lanes to be closed later; rounds: runs that are made before, by which vehicles give way. Fault
+        (streetsim.files) where a file cannot be read, they do not belong together, or there is no program. Warns
+        (Python's warnings) of lights and stops that are other than in SUMO."""
         source, read, _ = with_works(*read_with_map(run, mapping), mapping, [], Asking(tuple(joint)))
         super().__init__(source, read, rounds, program, workers)
         for told in filter(None, (*self.driving.lights.notes(), why_unmade(len(self.map.visits)))):
@@ -84,14 +85,14 @@ class Scenario(Running):
         self.step(time)
 
     def go_on(self, target: int) -> None:
-        """Goes on until the clock target at most, and stops earlier where somebody may be where another way of its
-        begins."""
+        """Goes on until the clock target at most; stops earlier, one step on at least, where a vehicle may be where its
+        way round a shut edge begins (`divert`), and has those that are there now take it."""
         self.detours.turn_off()
         self.advance(self.detours.next_clock(target))
 
     def add(self, name: str, plan: Sequence[int], lane: int, depart: int, size: int = 1) -> None:
-        """Adds a vehicle of the file or of a script. plan: links; lane: of the first; depart: clock; size: cells.
-        ValueError where its name is taken."""
+        """Adds a vehicle of the file or of a script, and notes when it wishes to depart. plan: numbers of links; lane:
+        of the first; depart: clock; size: cells. ValueError where its name is taken."""
         if name in self.fleet.cars:
             raise ValueError(f"there is a vehicle {name!r} already")
         self.detours.departs[name] = depart
@@ -100,23 +101,25 @@ class Scenario(Running):
     def enter(
         self, name: str, plan: Iterable[int], lane: int, depart: int, size: int = 1, driven: Sequence[int] = ()
     ) -> int:
-        """As Running does, the run that this class stands on; getIDList then looks for the vehicle from its departure
-        on. A new vehicle comes by add, which refuses a second name and notes what trips and detours need."""
+        """As Running does, the class above this one: tells the program of a vehicle, and gives its number; getIDList then
+        looks for it from its departure on. A new vehicle comes by add, which refuses a second name and notes what trips
+        and detours need."""
         car = super().enter(name, plan, lane, depart, size, driven)
         heappush(self.later, (depart, car, name))
         return car
 
     def lane_state(self, name: str) -> client.Lane:
-        """The program's reply on a lane, by SUMO's name."""
+        """The program's reply on a lane, by SUMO's name; KeyError for an unknown one."""
         return self.client.lane(*self.lane_of[name])
 
     def close(
         self, lane: str, begin: float = 0.0, end: float | None = None, divert: bool = False, until: float = float("inf")
     ) -> list[str]:
-        """Closes a lane, from begin to end metres (None: the lane's end), as road works do. divert: where nobody can
-        pass the edge any more, vehicles that would come there before the second until take another way, from their
-        begin or a crossing ahead on; gives their names, else an empty list. ValueError for metres beyond the lane, an
-        end not after the begin, a lane whose vehicles could not change to the one beside, or an until that is over."""
+        """Closes a lane, by SUMO's name, from begin to end metres (None: the lane's end), as road works do. divert:
+        where nobody can pass the edge any more, vehicles that would come there before the second until take another
+        way, from their begin or a crossing ahead on; gives their names, else an empty list. ValueError for an unknown
+        lane, metres beyond the lane, an end not after the begin, a lane whose vehicles could not change to the one
+        beside, or, with divert, an until that is over."""
         if why := why_parallel(self.map, lane):
             raise ValueError(f"{why}: Scenario(.., joint=[{lane!r}])")
         if divert:
@@ -127,8 +130,8 @@ class Scenario(Running):
     def divert(self, edge: str, until: float) -> list[str]:
         """Has vehicles on the road, and those that have not departed, take the shortest way round an edge that is shut,
         if they would come there before the second until. One on the road is taken out and entered anew, with another
-        number, where its new way begins. Gives the names of those for whom there is a way. ValueError for an until that
-        is over."""
+        number, where its new way begins. Gives the names of those for whom there is a way, none where the edge can be
+        passed. ValueError for an until that is over, KeyError for an unknown edge."""
         self.refuse_past(until)
         return self.detours.begin(edge, until)
 
@@ -138,12 +141,13 @@ class Scenario(Running):
             raise ValueError(f"until {until:g} s nobody can take another way: the clock is at {self.clock} s")
 
     def reopen(self, lane: str, begin: float = 0.0, end: float | None = None) -> None:
-        """Opens what close closed, with the same lane and metres; end: None: the lane's end."""
+        """Opens what close closed, with the same lane and metres; end: None: the lane's end. Those who were given
+        another way keep it."""
         self.reopen_lane(lane, begin, end)
 
     def trips(self) -> list[tuple[object, ...]]:
-        """Rows as in trips.csv (tables.TRIPS), as they are at this clock; a vehicle that was taken out and entered anew
-        has one row."""
+        """Rows as in trips.csv (tables.TRIPS), as they are at this clock, one for each vehicle of the file and of the
+        script; one that was taken out and entered anew has one row."""
         plans, departs = self.fleet.plans, self.detours.departs
         lines = [Line(0, "", {"plan": plan, "depart": departs[name]}) for name, plan in plans.items()]
         run = Run("", Line(0, "", {"dawdle": 0, **self.source.load.command}), enters=lines)
@@ -151,7 +155,8 @@ class Scenario(Running):
         return list(rows.trips(records, run, replace(self.map, cars=list(plans))))
 
     def write_trips(self, path: FilePath) -> None:
-        """Writes the rows of trips as a table."""
+        """Writes the rows of trips to a file of CSV, with the names of the columns first; Fault where it cannot be
+        written."""
         tables.write_table(path, tables.TRIPS, self.trips())
 
 
@@ -181,13 +186,14 @@ class Simulation(Part, SimulationCalls[Scenario]):
 class Route(Part):
     """Calls on the routes that a script adds."""
     def add(self, name: str, edges: Iterable[str]) -> None:
-        """Names a route along edges, for vehicle.add; ValueError where two edges have no connection. A second route of
-        a name replaces the first."""
+        """Names a route along edges, for vehicle.add; ValueError where an edge is unknown or two have no connection. A
+        second route of a name replaces the first."""
         self.scenario.routes[name] = self.scenario.connections.plan(list(edges))
 
 
 class Vehicle(Part, VehicleCalls[Scenario]):
-    """Calls on vehicles of the file and of the script. KeyError for a name that neither has."""
+    """Calls on vehicles of the file and of the script. KeyError for a name that neither has; getLength and getMinGap
+    tell those of a car for it."""
     def add(self, name: str, route: str, depart: float | None = None, size: int = 1) -> None:
         """Adds a vehicle of size cells (1 to 4) on a route that route.add named; it departs at depart seconds, rounded
         up (None: now). ValueError where its name is taken, KeyError where the route was not named."""
@@ -196,7 +202,7 @@ class Vehicle(Part, VehicleCalls[Scenario]):
         self.scenario.add(name, plan, self.scenario.connections.departure_lane(plan), clock, size)
 
     def remove(self, name: str) -> None:
-        """Takes a vehicle out, wherever it is; Gone where it has ended."""
+        """Takes a vehicle out, wherever it is; Gone (streetsim.client) where it has ended."""
         self.scenario.client.takeout(self.scenario.fleet.cars[name])
 
     def getIDList(self) -> tuple[str, ...]:
@@ -222,13 +228,14 @@ class Vehicle(Part, VehicleCalls[Scenario]):
         return Place(*reply.place, reply.cell, reply.speed or 0) if reply.state in ("cell", "buffer") else None
 
     def place_on_lane(self, name: str) -> Place | None:
-        """Where a vehicle is on a lane; None in a junction too."""
+        """Where a vehicle is on a lane; None in a junction too, so that its lane and the place on it are told as
+        nowhere there."""
         place = self.place(name)
         return place if place is not None and place.cell is not None else None
 
 
 class Stretch(Part, StretchCalls[Scenario]):
-    """Calls on lanes and edges; each asks the program anew."""
+    """Calls on lanes and edges; each asks the program anew. KeyError for an unknown name."""
 
     def places(self, name: str) -> list[tuple[int, int]]:
         """All (link, lane) of a lane or an edge, by its name."""
@@ -244,14 +251,14 @@ class Stretch(Part, StretchCalls[Scenario]):
         return [entry[0] for entry in self.entries(name)]
 
     def speeds(self, name: str) -> list[float]:
-        """Metres a second of each vehicle on it."""
+        """Metres a second of each vehicle on it, in the order of `cars`."""
         return [entry[2] * METRES for entry in self.entries(name)]
 
 
 class Lane(LaneCalls[Scenario], Stretch):
     """Calls on lanes, which can be closed."""
     def close(self, lane: str) -> None:
-        """Closes the whole lane."""
+        """Closes a whole lane, by its name; ValueError as Scenario.close has it."""
         self.scenario.close(lane)
 
 
@@ -265,7 +272,9 @@ class Edge(Stretch):
 class InductionLoop(Part):
     """Calls on detectors that a script places. KeyError for an unknown name."""
     def add(self, name: str, lane: str, place: float, period: int) -> None:
-        """Places a detector at place metres of a lane, with rows of period seconds."""
+        """Places a detector at place metres of a lane (the lane's end where that is beyond it), with rows of period
+        seconds, 1 to 100,000, from now on. KeyError for an unknown lane. A second detector of a name replaces the
+        first."""
         link, index = self.scenario.lane_of[lane]
         cell, _ = self.scenario.map.links[link].cells_between(place, place)
         self.scenario.detectors[name] = self.scenario.client.meter(link, index, cell, period)
@@ -304,8 +313,8 @@ class TrafficLight(Part):
 
     def setProgramLogic(self, name: str, phases: Iterable[tuple[float, str]], offset: float = 0) -> list[str]:
         """Sets a light's cycle from the next step on: phases of (seconds, state), and SUMO's offset in seconds, as a
-        tlLogic has them. Of permissive greens the usual share is shown, as flows are not known here. Gives warnings,
-        empty where there are none."""
+        tlLogic has them; detectors drive it no more. Of permissive greens the usual share is shown, as flows are not
+        known here. Gives warnings, empty where there are none. Does nothing for an unknown light."""
         self.scenario.driving.driver.release(name)
         return self.scenario.show_program(name, [(seconds, state) for seconds, state in phases], offset)
 

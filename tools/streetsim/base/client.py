@@ -251,14 +251,15 @@ def line_of(command: Command) -> bytes:
 
 
 def help_of(program: str) -> str:
-    """What a program prints on --help; empty where it prints nothing, as the program of a live page does."""
+    """What a program (a path) prints on --help; empty where it prints nothing, as the program of a live page does."""
     words = [program, "--help"]
     return subprocess.run(words, stdin=subprocess.DEVNULL, capture_output=True, text=True, check=False).stdout
 
 
 def words_of(program: str, calls: int = 0, keep: str | PathLike[str] | None = None) -> list[str]:
-    """The command line that starts a program. keep: a file, in which its session is kept; else calls: how many calls it
-    takes before it refuses them, 0 for no end (where its --help has a word for that)."""
+    """The words that start a program. keep: a file, in which its session is kept; else calls: how many calls it takes
+    before it refuses them, 0 for no end (for which it is run once with --help, to see whether it has a word for
+    that)."""
     if keep is not None:
         return [program, "--keep", fspath(keep)]
     if calls:
@@ -267,12 +268,13 @@ def words_of(program: str, calls: int = 0, keep: str | PathLike[str] | None = No
 
 
 class Client:
-    """One run of the program, over pipes. Methods raise what was refused; `batch` gives refusals as values.
+    """One run of the program, over pipes. Methods raise what was refused, or Starved; `batch` gives these as values.
+    All raise ProgramEnded where the program ends before it replied.
 
-    The program is the one given, else the one that STREETSIM_PROGRAM names. It takes calls without an end, or, with
-    `calls`, that number of them, and later ones are refused as Full. With `keep` the session is kept in that file and
-    goes on where it was left there: what is loaded, and who is on the way. What a caller knows beside it is the
-    caller's.
+    The program is the one given, else the one that STREETSIM_PROGRAM names, else the one that is installed with the
+    tools. It takes calls without an end, or, with `calls`, that number of them, and later ones are refused as Full.
+    With `keep` the session is kept in that file and goes on where it was left there: what is loaded, and who is on the
+    way. What a caller knows beside it is the caller's.
     """
 
     def __init__(
@@ -282,9 +284,9 @@ class Client:
         calls: int = 0,
         keep: str | PathLike[str] | None = None,
     ) -> None:
-        """Starts the program. program: a path or a command's name, else that of STREETSIM_PROGRAM; workers: threads,
-        from 1; calls: how many it takes, 0 for no end; keep: a file of the session, which goes before calls. Fault
-        where there is no program."""
+        """Starts the program. program: a path or a command's name, else as the class tells; workers: threads, from 1;
+        calls: how many it takes, 0 for no end; keep: a file of the session, which goes before calls. Fault where there
+        is no program."""
         program = find_program(program)
         words = words_of(program, calls, keep) + (["--workers", str(workers)] if workers != 1 else [])
         self.errors = tempfile.TemporaryFile()
@@ -331,8 +333,9 @@ class Client:
         return self.ended
 
     def exchange(self, lines: Iterable[bytes]) -> Iterator[bytes]:
-        """Sends lines, each with its end, and gives the reply to each as bytes, in order. They go in chunks that fit in
-        the pipe; a longer line goes alone. ProgramEnded where the program ends before it replied."""
+        """Sends lines, each with its end, and gives the reply to each as bytes, in order; they are sent only as the
+        replies are taken. They go in chunks that fit in the pipe; a longer line goes alone. ProgramEnded where the
+        program ends before it replied."""
         chunk: list[bytes] = []
         size = 0
         for line in lines:
@@ -358,7 +361,8 @@ class Client:
 
     def batch(self, commands: Iterable[Command]) -> list[Reply]:
         """Sends commands, dictionaries or ready lines, and gives the typed reply to each, in order; refusals and
-        Starved stand among them as values and do not end the batch."""
+        Starved stand among them as values and do not end the batch. ValueError for a line that is blank or several,
+        ProgramEnded where the program ends before it replied."""
         return [read_reply(reply) for reply in self.exchange(map(line_of, commands))]
 
     def ask(self, cmd: str, **fields: Any) -> Any:

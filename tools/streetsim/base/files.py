@@ -44,7 +44,8 @@ def open_text(path: FilePath, mode: str) -> TextFile:
 def open_text(path: FilePath, mode: str = "r") -> TextFile:
     """Opens a text file, of UTF-8, to read (mode r) or to write (w anew, a at its end). What is read is gzip by its
     content, whatever its name, and may begin with a byte order mark; what is written is gzip where the name ends with
-    .gz (without time or name inside, so that equal runs give equal bytes)."""
+    .gz (without time or name inside, so that equal runs give equal bytes). OSError, and no Fault, where it cannot be
+    opened: `reading` makes a Fault of it."""
     if mode == "r":
         return io.TextIOWrapper(open_bytes(path), encoding="utf-8-sig", newline="")
     if str(path).endswith(".gz"):
@@ -53,12 +54,14 @@ def open_text(path: FilePath, mode: str = "r") -> TextFile:
 
 
 def open_bytes(path: FilePath) -> IO[bytes]:
-    """Opens a file of bytes to read; gzip by its first bytes, whatever its name, as SUMO does."""
+    """Opens a file of bytes to read; gzip by its first bytes, whatever its name, as SUMO does. OSError, and no Fault,
+    where it cannot be opened: `reading` makes a Fault of it."""
     return cast(IO[bytes], gzip.open(path)) if is_gzip(path) else open(path, "rb")
 
 
 def is_gzip(path: FilePath) -> bool:
-    """Whether a file is gzip, by its first bytes; a pipe or device, which is read once, by its name (.gz)."""
+    """Whether a file is gzip, by its first bytes; a pipe or device, which is read once, by its name (.gz). OSError
+    where it cannot be opened."""
     if os.path.exists(path) and not os.path.isfile(path):
         return str(path).endswith(".gz")
     with open(path, "rb") as file:
@@ -69,7 +72,7 @@ class ZippedText:
     """Writes text, as UTF-8, to a gzip file without time or name inside."""
 
     def __init__(self, path: FilePath, mode: str) -> None:
-        """mode: w (new) or a (at the end)."""
+        """path: of the file, whatever its name; mode: w (new) or a (at the end). OSError where it cannot be opened."""
         self.raw = open(path, f"{mode}b")
         self.zipped = gzip.GzipFile(filename="", fileobj=self.raw, mode="wb", mtime=0, compresslevel=6)
 
@@ -201,7 +204,8 @@ def above_zero(convert: Callable[[str], Number]) -> Callable[[str], Number]:
 
 
 def attributes_of(values: Mapping[str, str]) -> str:
-    """Attributes of an element as text, each with a blank before it."""
+    """Attributes of an element, {name: text}, as the text of a tag, escaped, each with a blank before it; empty for
+    none."""
     from xml.sax.saxutils import quoteattr  # loads urllib, which takes longer than all else that a client imports
 
     return "".join(f" {name}={quoteattr(value)}" for name, value in values.items())
@@ -360,8 +364,9 @@ def run_tool(main: Main) -> NoReturn:
 
 
 def status_of(main: Main) -> int:
-    """The status of a tool: what its main function gives, or of what went wrong, which is told on standard error: 2 for
-    a Fault or a file, 1 (untold) where nobody reads the output, 130 (untold) for Ctrl-C."""
+    """Runs a tool's main function on the words of the command line and gives the tool's status: what main gives, or
+    that of what went wrong, which is told on standard error: 2 for a Fault or a file, 1 (untold) where nobody reads the
+    output, 130 (untold) for Ctrl-C."""
     try:
         try:
             return main(sys.argv[1:])

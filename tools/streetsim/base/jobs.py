@@ -24,10 +24,11 @@ def side_by_side(
     told: Told = lambda place, value: None,
 ) -> list[Result]:
     """What a function gives for each item, in the items' order. Each runs in a process of its own, at most `jobs` at
-    once.
+    once; results go through a pipe, so they must be what pickle takes.
 
     The function gets an item and a function to tell how far it is; what it tells goes to `told(place, value)`, place:
-    of the item, from 0. A Fault of one ends all the others and is raised.
+    of the item, from 0. A Fault of one ends all the others and is raised; where one fails otherwise, its traceback goes
+    to standard error, and a Fault that says so is raised in the same way.
     """
     waiting = list(enumerate(items))
     running: Running = {}
@@ -56,8 +57,8 @@ def begin(work: Callable[[Item, Tell], object], place: int, item: Item, running:
 
 
 def do(work: Callable[[Item, Tell], object], item: Item, pipe: Connection) -> None:
-    """Runs inside the process: ends by signals as programs do, and sends what the work tells, and its result or a
-    Fault, to the pipe."""
+    """Runs inside the process: ends by signals as programs do, leaves Ctrl-C to the process that began it, and sends
+    what the work tells, and its result or a Fault, to the pipe."""
     signal.signal(signal.SIGINT, signal.SIG_IGN)
     for number in (signal.SIGTERM, signal.SIGHUP):
         signal.signal(number, signal.SIG_DFL)
@@ -68,8 +69,8 @@ def do(work: Callable[[Item, Tell], object], item: Item, pipe: Connection) -> No
 
 
 def hear(pipe: Connection, running: Running, results: dict[int, Result], told: Told) -> None:
-    """Takes one message of a process: notes its result, or passes on what it tells; raises its Fault, or one where it
-    ended without a result."""
+    """Takes one message of a process: notes its result and takes it from `running`, or passes on what it tells; raises
+    its Fault, or one where it ended without a result."""
     place, process = running[pipe]
     try:
         kind, value = pipe.recv()

@@ -51,7 +51,7 @@ def within(least: int, most: int) -> Callable[[str], int]:
     otherwise."""
 
     def number(text: str) -> int:
-        """The number of a text; ArgumentTypeError where it is out of the range."""
+        """The number of a text; ArgumentTypeError where it is no whole number of the range."""
         if not text.isdecimal() or not least <= int(text) <= most:
             raise argparse.ArgumentTypeError(f"{text!r} is not {least} to {most:,}")
         return int(text)

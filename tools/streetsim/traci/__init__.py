@@ -1,8 +1,9 @@
 """TraCI's calls over streetsim: `import streetsim.traci as traci` in place of `import traci`.
 
-`start` takes the words of SUMO's command line, imports the network and its routes as streetsim-import does, and
-runs them with the program that STREETSIM_PROGRAM names. Steps are of one second. What streetsim has nothing for
-says what to do instead.
+`start` takes the words of SUMO's command line, imports the network and its routes as streetsim-import does, and runs
+them with the program that STREETSIM_PROGRAM names, else the one that is installed with the tools. Steps are of one
+second. Calls on the run raise FatalTraCIError where none is under way. What streetsim has nothing for raises NotHere,
+which says what to do instead.
 """
 import sys
 from collections.abc import Sequence
@@ -41,9 +42,10 @@ def start(
 ) -> tuple[int, str]:
     """Starts a run, by the words of SUMO's command line (the first, SUMO's name, is passed over): -c, or -n, -r and -a,
     --seed and --begin, the outputs --tripinfo-output, --summary-output, --fcd-output and --queue-output, and the words
-    of streetsim-import (--classes, --dawdle, --joint, ..). Warnings of the import, and options of SUMO's that are not
-    done here, are told on standard error. Gives what getVersion gives, as SUMO does; FatalTraCIError where the run
-    cannot start, TraCIException where one is under way."""
+    of streetsim-import (--classes, --dawdle, --joint, ..). label: what getLabel gives; all other arguments have no
+    effect. Warnings of the import, and options of SUMO's that are not done here, are told on standard error. Gives what
+    getVersion gives, as SUMO does; FatalTraCIError where the run cannot start, TraCIException where one is under
+    way."""
     if _running:
         raise TraCIException("a run is under way: close() it first; there is one at a time")
     try:
@@ -55,7 +57,7 @@ def start(
 
 
 def _now() -> Session:
-    """The run; FatalTraCIError where none is under way."""
+    """The session of the run; FatalTraCIError where none is under way."""
     if not _running:
         raise FatalTraCIError("Not connected.")
     return _running[0]
@@ -69,8 +71,8 @@ def simulationStep(step: float = 0) -> None:
 
 
 def close(wait: bool = True) -> None:
-    """Ends the run: output files are written under their names, and all subscriptions and listeners are forgotten. wait
-    has no effect."""
+    """Ends the run: output files are written under their names, and all subscriptions, parameters and listeners are
+    forgotten. wait has no effect. FatalTraCIError where no run is under way."""
     session = _now()
     _running.clear()
     for domain in _domains:
@@ -80,7 +82,8 @@ def close(wait: bool = True) -> None:
 
 
 def load(args: Sequence[str]) -> None:
-    """Ends the run and starts another one; args: the words of SUMO's command line without SUMO's name."""
+    """Ends the run and starts another one, as close and start do, with the label "default"; args: the words of SUMO's
+    command line without SUMO's name. FatalTraCIError where no run is under way, or the other one cannot start."""
     close()
     start(["sumo", *args])
 
@@ -102,13 +105,13 @@ def getLabel() -> str:
 
 
 def switch(label: str) -> None:
-    """TraCIException where a label is not the run's; there is one run at a time, so nothing is switched."""
+    """TraCIException where no run of this label is under way; there is one run at a time, so nothing is switched."""
     if not _running or label != _label[0]:
         raise TraCIException(f"connection '{label}' is not known.")
 
 
 def getConnection(label: str = "default") -> ModuleType:
-    """This module, with all its domains and calls; TraCIException where a label is not the run's."""
+    """This module, with all its domains and calls; TraCIException where no run of this label is under way."""
     switch(label)
     return sys.modules[__name__]
 

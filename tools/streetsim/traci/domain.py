@@ -42,17 +42,19 @@ class Domain(Calls[Session]):
     # Parameters that a script keeps with an object
 
     def setParameter(self, objectID: str, param: str, value: object) -> None:
-        """Keeps a value, as text, under a key; only getParameter reads it. NotHere for keys of SUMO's models."""
+        """Keeps a value, as text, under a key (param); only getParameter reads it. TraCIException for an unknown
+        object, NotHere for keys of SUMO's models."""
         self.check_key(objectID, param)
         self.parameters[objectID, param] = str(value)
 
     def getParameter(self, objectID: str, param: str) -> str:
-        """The text that was kept under a key; empty where none was."""
+        """The text that was kept under a key (param); empty where none was. TraCIException for an unknown object,
+        NotHere for keys of SUMO's models."""
         self.check_key(objectID, param)
         return self.parameters.get((objectID, param), "")
 
     def getParameterWithKey(self, objectID: str, key: str) -> tuple[str, str]:
-        """(key, the text that was kept under it)."""
+        """(key, the text that was kept under it); raises as getParameter does."""
         return key, self.getParameter(objectID, key)
 
     def check_key(self, name: str, key: str) -> None:
@@ -66,14 +68,16 @@ class Domain(Calls[Session]):
     def subscribe(
         self, name: str, varIDs: Sequence[int] | None = None, begin: object = None, end: object = None
     ) -> None:
-        """Has variables of an object, by number, told from now on; None: those that SUMO tells by default. begin and
-        end have no effect. TraCIException for an unknown object, NotHere for a variable that cannot be told."""
+        """Has variables of an object, by number, told by getSubscriptionResults from now on, in place of those of an
+        earlier subscription; None: those that SUMO tells by default. begin and end have no effect. TraCIException for
+        an unknown object, NotHere for a variable that cannot be told."""
         self.check(name, self.subjects())
         self.note(name, varIDs)
 
     def note(self, name: str, numbers: Sequence[int] | None) -> None:
-        """Subscribes an object to the variables of these numbers; None: those that SUMO tells by default. From now on
-        the run is looked at after each step. NotHere for a variable that cannot be subscribed to."""
+        """Subscribes an object, whose name is not checked, to the variables of these numbers; None: those that SUMO
+        tells by default. From now on the run is looked at after each step. NotHere for a variable that cannot be
+        subscribed to."""
         variables = tuple(self.first if numbers is None else numbers)
         self.check_variables(variables)
         self.now().follow()
@@ -85,7 +89,7 @@ class Domain(Calls[Session]):
             raise NotHere(f"{self.name}: variable {unknown[0]:#x} cannot be subscribed to here")
 
     def unsubscribe(self, name: str) -> None:
-        """Ends the subscription to an object; nothing where there is none."""
+        """Ends the subscription to an object; does nothing where there is none."""
         self.subscribed.pop(name, None)
 
     def subjects(self) -> Collection[str]:
@@ -100,7 +104,8 @@ class Domain(Calls[Session]):
         return self.values(name, self.subscribed[name])
 
     def values(self, name: str, variables: Iterable[int]) -> Values:
-        """What an object's calls give now, by the variables' numbers."""
+        """{number: what the call of that variable gives now for an object}; variables: numbers that `check_variables`
+        lets pass."""
         return {variable: getattr(self, self.variables[variable])(name) for variable in variables}
 
     def getAllSubscriptionResults(self) -> dict[str, Values]:
@@ -121,7 +126,7 @@ class Placed(Domain):
     vehicles: Domain  # that are looked for; the package sets it
 
     def outline(self, name: str) -> Line:
-        """The points of the object's line, in metres, or its one point."""
+        """The line from which distances to the object are measured: points (x, y), in metres, or its one point."""
         raise NotImplementedError
 
     def subscribeContext(
@@ -134,8 +139,9 @@ class Placed(Domain):
         end: object = None,
     ) -> None:
         """Has variables of all vehicles told, from now on, that are at most dist metres from the object. domain: must
-        be that of vehicles, else NotHere; varIDs: numbers, None: edge and metres on the lane; begin and end have no
-        effect. TraCIException for an unknown object."""
+        be that of vehicles (CMD_GET_VEHICLE_VARIABLE); varIDs: numbers, None: edge and metres on the lane; begin and
+        end have no effect. TraCIException for an unknown object; NotHere for another domain, or a variable that
+        vehicles do not tell."""
         self.check(objectID, self.subjects())
         if domain != tc.CMD_GET_VEHICLE_VARIABLE:
             raise NotHere(f"{self.name}.subscribeContext: of domain {domain:#x} nothing is looked for, but of vehicles")

@@ -1,14 +1,15 @@
 """What scripts have called after each step."""
 
 class StepListener:
-    """Is called after each step. Scripts derive their own class from it, as with SUMO's traci."""
+    """Is called after each simulationStep. Scripts derive their own class from it, as with SUMO's traci."""
 
     def step(self, t: float = 0) -> bool:
-        """Is called after a simulationStep; t: that call's argument. False takes the listener off."""
+        """Is called after a simulationStep; t: that call's argument. Gives whether to be called again: False takes the
+        listener off."""
         return True
 
     def cleanUp(self) -> None:
-        """Is called at the end of the run."""
+        """Is called at the end of the run, where the listener was not taken off before."""
 
     def setID(self, ID: int) -> None:
         """Sets the listener's number, as addStepListener does."""

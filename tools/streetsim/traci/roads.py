@@ -56,7 +56,8 @@ class Stretches(Places, StretchCalls[Session]):
 
 
 class Lane(LaneCalls[Session], Stretches):
-    """As SUMO's traci.lane: metres, metres a second, seconds, percent."""
+    """As SUMO's traci.lane: metres, metres a second, seconds, percent. TraCIException for a lane that the import does
+    not have."""
 
     kind, name = "Lane", "lane"
     variables = {
@@ -66,11 +67,12 @@ class Lane(LaneCalls[Session], Stretches):
     }
 
     def outline(self, name: str) -> Line:
-        """The points of its link, in metres."""
+        """The points (x, y) of its link's line, which lanes side by side share, in metres."""
         return self.now().map.links[self.places(name)[0][0]].shape
 
     def cars(self, name: str) -> list[int]:
-        """The numbers in the program of the vehicles on it, from the stop line."""
+        """The numbers in the program of the vehicles on its cells, not in the junction behind, from the stop line; of
+        an edge, lane after lane."""
         places, on_lane = self.places(name), self.now().follow().view.on_lane
         return [car for place in places for car in on_lane.get(place, ())]
 
@@ -84,7 +86,8 @@ class Lane(LaneCalls[Session], Stretches):
         return sum(links[link].metres for link, _ in self.places(name))
 
     def getWaitingTime(self, name: str) -> float:
-        """Seconds for which the vehicles on it have stood without a break, summed over them."""
+        """Seconds for which the vehicles on it have stood without a break, summed over them; counted from the first
+        call that looks at vehicles."""
         cars = self.cars(name)
         return float(sum(self.now().tally.waiting.get(car, 0) for car in cars))
 
@@ -153,7 +156,8 @@ class Lane(LaneCalls[Session], Stretches):
 
 
 class Edge(Lane):
-    """As SUMO's traci.edge, of all lanes of an edge together."""
+    """As SUMO's traci.edge, of all lanes of an edge together. TraCIException for an edge that the import does not
+    have."""
 
     kind, name = "Edge", "edge"
 
@@ -172,7 +176,7 @@ class Edge(Lane):
         return len(self.places(name))
 
     def getMaxSpeed(self, name: str) -> float:
-        """The limit of its first lane in SUMO's file, metres a second."""
+        """The limit of the first of its lanes that the import kept, in SUMO's file, metres a second."""
         return self.now().facts.lanes[self.now().map.lane_name(*self.places(name)[0])].speed
 
     def getStreetName(self, name: str) -> str:
@@ -208,12 +212,13 @@ class Edge(Lane):
     getLinks = not_of_edges  # type: ignore[assignment]
 
     def close(self, lane: str) -> None:
-        """Closes one lane of the edge, by name, without asking whether one stays open beside it, as all are closed."""
+        """Closes one lane of the edge, not the edge; lane: its name. It is not asked whether one stays open beside it,
+        as setDisallowed closes all."""
         self.now().close_lane(lane)
 
 
 class Detectors(Places):
-    """Detectors of additional files."""
+    """Detectors of additional files. TraCIException for one that is unknown or of another sort."""
 
     sort = ""
 
@@ -232,7 +237,7 @@ class Detectors(Places):
         return self.now().map.lane_name(one.link, one.lane)
 
     def outline(self, name: str) -> Line:
-        """The point where it begins, in metres."""
+        """A line of one point, where it begins, in metres."""
         one = self.detector(name)
         link = self.now().map.links[one.link]
         return [along(link.shape, one.first / link.cells)]
@@ -272,7 +277,8 @@ class InductionLoop(Detectors):
         return min(100.0, sum(100 * metres / max(METRES, speed) for metres, speed in ways))
 
     def getTimeSinceDetection(self, name: str) -> float:
-        """Seconds since a vehicle was on it; the clock where none ever was."""
+        """Seconds since a vehicle was on it; the clock where none was. Steps count from the first call that looks at
+        vehicles."""
         last = self.now().follow().loops[self.detector(name).name].last
         return self.now().clock - last if last >= 0 else float(self.now().clock)
 
@@ -326,7 +332,7 @@ class LaneArea(Stretches, Detectors):
 
 
 class Junction(Placed):
-    """As SUMO's traci.junction: names, points and shapes."""
+    """As SUMO's traci.junction: names, points and shapes. TraCIException for an unknown junction."""
 
     kind, name = "Junction", "junction"
     variables = {tc.VAR_POSITION: "getPosition", tc.VAR_SHAPE: "getShape"}

@@ -17,7 +17,7 @@ from streetsim.traci.shapes import Point, along, nearest
 
 @dataclass
 class Stage:
-    """A part of a way, as SUMO's scripts read it: seconds and metres."""
+    """A part of a way, as SUMO's scripts read it: seconds and metres; SUMO's value for "none" in what is not told."""
 
     type: int = tc.INVALID_INT_VALUE
     vType: str = ""
@@ -35,7 +35,8 @@ class Stage:
 
 
 class Simulation(Domain, SimulationCalls[Session]):
-    """As SUMO's traci.simulation: seconds, metres; counts and lists are of the last step."""
+    """As SUMO's traci.simulation: seconds, metres; counts and lists are of the last step. Who departed and arrived is
+    known from the first call on that looks at vehicles."""
 
     kind, name = "Simulation", "simulation"
     variables = {
@@ -62,7 +63,8 @@ class Simulation(Domain, SimulationCalls[Session]):
         return 1.0
 
     def getEndTime(self) -> float:
-        """The end that the command's words name, seconds; it ends nothing under a script. -1 where they name none."""
+        """The end that the command's words or the configuration name, seconds; it ends nothing under a script. -1 where
+        they name none."""
         return float(self.now().options.get("end", -1.0))
 
     def getScale(self) -> float:
@@ -70,15 +72,16 @@ class Simulation(Domain, SimulationCalls[Session]):
         return 1.0
 
     def getOption(self, option: str) -> str:
-        """What the words or the configuration say of an option of SUMO's, as text; TraCIException where they do not
-        name it."""
+        """What the words or the configuration say of an option of SUMO's, as text; option: its long name without "--",
+        as net-file. TraCIException where they do not name it."""
         if option not in self.now().options:
             raise TraCIException(f"Option '{option}' was not given.")
         return self.now().options[option]
 
     def getLoadedIDList(self) -> tuple[str, ...]:
-        """The vehicles that the program was told of for the last step: those that would depart in it, and those that
-        the script added."""
+        """The vehicles of the files of which the program was told for the last step, as they would depart in it, and
+        those that the script has added since; not those that it added before that step. Until vehicles are looked at,
+        those of several steps that were made at once."""
         return tuple(self.now().loaded)
 
     def getLoadedNumber(self) -> int:
@@ -134,7 +137,8 @@ class Simulation(Domain, SimulationCalls[Session]):
 
     def convert2D(self, edgeID: str, pos: float, laneIndex: int = 0, toGeo: bool = False) -> Point:
         """The point (x, y) in metres of a place on a lane, by edge and laneIndex; pos: metres from its begin, those
-        beyond the lane count as its ends. NotHere for degrees (toGeo)."""
+        beyond the lane count as its ends. TraCIException for a lane that the import does not have, NotHere for degrees
+        (toGeo)."""
         if toGeo:
             raise NotHere("simulation.convert2D: degrees are not here; streetsim-export writes them")
         lane = self.lane(edgeID, laneIndex)
@@ -170,8 +174,9 @@ class Simulation(Domain, SimulationCalls[Session]):
         return self.getDistanceRoad(edge1, pos1, edge2, pos2, True)
 
     def getDistanceRoad(self, edgeID1: str, pos1: float, edgeID2: str, pos2: float, isDriving: bool = False) -> float:
-        """Metres between two places on edges; pos1, pos2: metres from their begins. In a straight line, or (isDriving)
-        on the shortest way, through its junctions; TraCIException where there is none."""
+        """Metres between two places on edges; pos1, pos2: metres from their begins, on the lanes of index 0. In a
+        straight line, or (isDriving) on the shortest way, through its junctions. TraCIException where there is no way,
+        or the import does not have such a lane."""
         if not isDriving:
             return self.getDistance2D(*self.convert2D(edgeID1, pos1), *self.convert2D(edgeID2, pos2))
         if edgeID1 == edgeID2 and pos1 <= pos2:
@@ -181,8 +186,9 @@ class Simulation(Domain, SimulationCalls[Session]):
     def findRoute(
         self, fromEdge: str, toEdge: str, vType: str = "", depart: float = -1.0, routingMode: int = 0
     ) -> Stage:
-        """The way between two edges that is quickest by the present travel times, as a Stage (edges, seconds, metres);
-        TraCIException where there is none. depart and routingMode have no effect."""
+        """The way between two edges that is quickest by the present travel times, or those of edge.adaptTraveltime, as
+        a Stage (edges, seconds, metres); TraCIException where there is none, or an edge is unknown. vType is only noted
+        in the Stage; depart and routingMode have no effect."""
         session = self.now()
         links, seconds = session.router().way(fromEdge, toEdge)
         edges = session.edges(links)
@@ -192,12 +198,13 @@ class Simulation(Domain, SimulationCalls[Session]):
     # States
 
     def saveState(self, fileName: str) -> None:
-        """Writes the state to a file of streetsim's own form, which loadState reads."""
+        """Writes the state to a file of streetsim's own form, which loadState reads; Fault (streetsim.files) where it
+        cannot be written. Merging before works begins anew from here."""
         save_state(self.now(), fileName)
 
     def loadState(self, fileName: str) -> None:
-        """Brings the run to a state that was saved in a run of the same files and words; TraCIException for another, or
-        while output files are being written."""
+        """Brings the run to a state that saveState wrote in a run of the same files and words; TraCIException where the
+        file cannot be read or is of another run, or while output files are being written."""
         load_state(self.now(), fileName)
 
     def writeMessage(self, msg: str) -> None:
@@ -210,7 +217,7 @@ class Simulation(Domain, SimulationCalls[Session]):
         self, varIDs: Sequence[int] | None = None, begin: object = None, end: object = None
     ) -> None:
         """Has variables of the simulation, by number, told from now on; None: those that SUMO tells by default. begin
-        and end have no effect."""
+        and end have no effect. NotHere for a variable that cannot be told."""
         self.note("", varIDs)
 
     def unsubscribe(self) -> None:  # type: ignore[override]
@@ -218,7 +225,8 @@ class Simulation(Domain, SimulationCalls[Session]):
         self.subscribed.clear()
 
     def getSubscriptionResults(self) -> Values:  # type: ignore[override]
-        """The values that were subscribed to, as they are now, by the variables' numbers."""
+        """The values that were subscribed to, as they are now, by the variables' numbers; empty without a
+        subscription."""
         return {variable: getattr(self, self.variables[variable])() for variable in self.subscribed.get("", ())}
 
     def getAllSubscriptionResults(self) -> dict[str, Values]:
@@ -238,7 +246,8 @@ class Route(Domain):
         return tuple(dict.fromkeys((*self.now().facts.routes, *self.now().routes)))
 
     def add(self, name: str, edges: Iterable[str]) -> None:
-        """Names a route along edges; TraCIException where the name is taken, or two edges have no connection."""
+        """Names a route along edges; TraCIException where the name is taken, an edge is unknown, or two edges have no
+        connection."""
         session = self.now()
         if name in session.routes or name in session.facts.routes:
             raise TraCIException(f"Route '{name}' exists already.")

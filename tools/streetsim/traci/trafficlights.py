@@ -86,7 +86,7 @@ class TrafficLight(Domain):
         return float(min(timers)) if timers else float(self.now().clock + self.at(name)[2])
 
     def getProgram(self, name: str) -> str:
-        """The name of the program that runs."""
+        """The name of the program that runs; "online" after setRedYellowGreenState."""
         return self.now().control.light(name).program
 
     def getControlledLanes(self, name: str) -> tuple[str, ...]:
@@ -119,19 +119,19 @@ class TrafficLight(Domain):
         return light.names[index] if index < len(light.names) else ""
 
     def setPhaseName(self, name: str, text: str) -> None:
-        """Names the present phase."""
+        """Names the present phase, for getPhaseName, which tells the own names of a light of type NEMA all the same."""
         light, index, _ = self.at(name)
         light.names = [*light.names, *[""] * (len(light.phases) - len(light.names))]
         light.names[index] = str(text)
 
     def setPhase(self, name: str, index: int) -> None:
         """Shows the phase of an index of the program from now on, from its begin; the program goes on from there.
-        TraCIException for a wrong index."""
+        TraCIException for a wrong index, or where a program of type NEMA drives the light."""
         self.now().control.go_to(name, index)
 
     def setPhaseDuration(self, name: str, seconds: float) -> None:
         """Has the present phase end so many seconds from now (rounded); the next ones last as in the program.
-        TraCIException below 0."""
+        TraCIException below 0, or where a program of type NEMA drives the light."""
         control = self.now().control
         control.light(name)
         if not seconds >= 0:
@@ -139,8 +139,8 @@ class TrafficLight(Domain):
         control.end_phase(name, self.now().clock + round(seconds))
 
     def setRedYellowGreenState(self, name: str, state: str) -> None:
-        """Shows a state, SUMO's letter for each signal, until another call sets the light; TraCIException for one of
-        another length or with other letters."""
+        """Shows a state, SUMO's letter for each signal, until another call sets the light, which detectors drive no
+        more; who has g drives as with G. TraCIException for a state of another length or with other letters."""
         self.now().control.hold(name, state)
 
     def setLinkState(self, name: str, index: int, state: str) -> None:
@@ -167,8 +167,9 @@ class TrafficLight(Domain):
         session.control.show_cycle(name)
 
     def setProgramLogic(self, name: str, logic: Program) -> None:
-        """Sets a whole program and runs it from the begin of its current phase; setProgram can choose it again by its
-        name. TraCIException without phases, or for wrong states or a wrong current phase."""
+        """Sets a whole program of phases of fixed seconds (minDur, maxDur and next have no effect, and detectors drive
+        the light no more) and runs it from the begin of its current phase; setProgram can choose it again by its name.
+        TraCIException without phases, or for wrong states, seconds not above 0 or a wrong current phase."""
         phases = [(float(phase.duration), phase.state) for phase in logic.phases]
         if not phases:
             raise TraCIException(f"Traffic light '{name}': a program without phases")

@@ -19,8 +19,8 @@ BRAKING = 4.5  # metres a second squared, of SUMO's usual vehicle: how far it lo
 
 
 class Vehicle(VehicleCalls[Session], Placed):
-    """As SUMO's traci.vehicle: metres, metres a second, seconds; SUMO's value for "nowhere" before it departs.
-    TraCIException for a vehicle that is not known or has ended."""
+    """As SUMO's traci.vehicle: metres, metres a second, seconds; SUMO's value for "nowhere" (-1073741824) before it
+    departs. TraCIException for a vehicle that is not known or has ended."""
 
     kind, name = "Vehicle", "vehicle"
     variables = {
@@ -70,11 +70,12 @@ class Vehicle(VehicleCalls[Session], Placed):
         return car, place
 
     def place(self, name: str) -> Place | None:
-        """Where a vehicle is; None before it departs."""
+        """Where a vehicle is; None before it departs. TraCIException where it is not known or has ended."""
         return self.where(name)[1]
 
     def known(self, name: str) -> Session:
-        """The session; TraCIException where the vehicle is not known."""
+        """The session, for a call on a vehicle, after making sure of this: TraCIException where it is not known or has
+        ended."""
         self.where(name)
         return self.now()
 
@@ -84,7 +85,7 @@ class Vehicle(VehicleCalls[Session], Placed):
         return -1 if car is None else car
 
     def outline(self, name: str) -> Line:
-        """The point of its front, in metres."""
+        """A line of one point, that of its front, in metres."""
         return [self.getPosition(name)]
 
     # Where it is
@@ -94,8 +95,8 @@ class Vehicle(VehicleCalls[Session], Placed):
         return self.getSpeed(name)
 
     def getAcceleration(self, name: str) -> float:
-        """Metres a second squared in the last step, by speeds in whole cells of 7.5 m; 0 in its first step, SUMO's
-        "nowhere" before it departs."""
+        """Metres a second squared in the last step, by speeds in whole cells of 7.5 m; 0 in its first step, and where
+        the step before was not looked at; SUMO's "nowhere" before it departs."""
         place = self.place(name)
         if place is None:
             return NOWHERE
@@ -103,8 +104,8 @@ class Vehicle(VehicleCalls[Session], Placed):
         return (place.speed - before.speed) * METRES if before is not None else 0.0
 
     def getPosition(self, name: str) -> tuple[float, float]:
-        """The point (x, y), in metres, of its front; in a junction the junction's point; SUMO's "nowhere" for both
-        before it departs."""
+        """The point (x, y), in metres, of its front on the line of its link, which lanes side by side share; in a
+        junction the junction's point; SUMO's "nowhere" for both before it departs."""
         place, mapping = self.place(name), self.now().map
         if place is None:
             return NOWHERE, NOWHERE
@@ -124,8 +125,8 @@ class Vehicle(VehicleCalls[Session], Placed):
         return heading(link.shape, (place.cell + 1) / link.cells if place.cell is not None else 1.0)
 
     def getDistance(self, name: str) -> float:
-        """Metres driven since it departed, those on SUMO's lanes inside junctions among them; SUMO's "nowhere" before
-        it departs."""
+        """Metres driven since it departed, those on SUMO's lanes inside junctions among them; edges that it left before
+        the first call that looks at vehicles do not count. SUMO's "nowhere" before it departs."""
         place = self.place(name)
         if place is None:
             return NOWHERE
@@ -183,7 +184,7 @@ class Vehicle(VehicleCalls[Session], Placed):
         return self.parameters.get((name, "color"), YELLOW)
 
     def setColor(self, name: str, color: Sequence[int]) -> None:
-        """Keeps a colour for getColor; nothing shows it."""
+        """Keeps a colour, (red, green, blue, opacity; 0 to 255), for getColor; nothing shows it."""
         self.where(name)
         self.parameters[name, "color"] = tuple(color)
 
@@ -208,8 +209,8 @@ class Vehicle(VehicleCalls[Session], Placed):
         return True
 
     def getNextTLS(self, name: str) -> tuple[tuple[str, int, float, str], ...]:
-        """For each light ahead on its way (light, index of the signal, metres to the stop line, state), the nearest
-        first; empty before it departs."""
+        """For each light ahead on its way (light, index of the signal, metres to the stop line, the signal's letter
+        now), the nearest first; empty before it departs."""
         place, session, found = self.place(name), self.now(), []
         if place is None:
             return ()
@@ -244,8 +245,9 @@ class Vehicle(VehicleCalls[Session], Placed):
 
     def getLeader(self, name: str, dist: float = 0.0) -> tuple[str, float] | None:
         """(vehicle, metres between the two, without the gap that standing vehicles keep) of the next one ahead on its
-        way, within the metres that it needs to brake, or within dist where that is more. None where there is nobody,
-        before it departs, and where it is itself in a junction. One ahead in a junction counts as at its begin."""
+        way: on its own lane at any distance, further on within the metres that it needs to brake, or within dist where
+        that is more. None where there is nobody, before it departs, and where it is itself in a junction. One ahead in
+        a junction counts as at its begin."""
         place = self.place(name)
         if place is None or place.cell is None:
             return None
@@ -261,8 +263,8 @@ class Vehicle(VehicleCalls[Session], Placed):
         return [(car, view.places[car]) for car in view.on_lane.get((place.link, place.lane), ())]
 
     def leader_behind(self, name: str, place: Place, reach: float) -> tuple[str, float] | None:
-        """(vehicle, metres between the two) of the next one ahead on the links after its own, within reach metres; None
-        where there is nobody."""
+        """(vehicle, metres between the two) of the next one ahead, beyond the link where a vehicle (name, place) is, on
+        the links that follow on its way, within reach metres of its front; None where there is nobody."""
         session, plan, lane = self.now(), self.now().fleet.plans[name], place.lane
         metres = session.map.links[place.link].metres - self.front(place)
         for link, following in pairwise(plan[plan.index(place.link) :]):
@@ -322,8 +324,9 @@ class Vehicle(VehicleCalls[Session], Placed):
         self, vehID: str, routeID: str, typeID: str = DEFAULT, depart: str | float | None = None,
         *_: object, **__: object,
     ) -> None:  # fmt: skip
-        """Adds a vehicle on a route of the files or of route.add; it departs now, or at depart seconds (rounded up),
-        and takes as many cells as its type is long. TraCIException where its name is taken, or the route or type is
+        """Adds a vehicle on a route of the files or of route.add; it departs now, or at depart seconds (rounded up), in
+        the first cell of a lane that leads on, and takes as many cells as its type is long. Further arguments, as
+        departLane or departPos, have no effect. TraCIException where its name is taken, or the route or type is
         unknown."""
         session = self.now()
         if routeID not in session.routes and routeID not in session.facts.routes:
@@ -365,8 +368,8 @@ class Vehicle(VehicleCalls[Session], Placed):
         session.types.route_of[name] = routeID
 
     def changeTarget(self, name: str, edgeID: str) -> None:
-        """Sets its route to the way to another edge that is quickest by the present travel times, as setRoute does;
-        TraCIException where there is none."""
+        """Sets its route to the way to another edge that is quickest by the present travel times, or those of
+        edge.adaptTraveltime, as setRoute does; TraCIException where there is none."""
         session, place = self.now(), self.place(name)
         edges = self.getRoute(name)
         here = edges[0] if place is None else session.map.links[place.link].edge
