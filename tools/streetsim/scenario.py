@@ -101,9 +101,9 @@ class Scenario(Running):
     def enter(
         self, name: str, plan: Iterable[int], lane: int, depart: int, size: int = 1, driven: Sequence[int] = ()
     ) -> int:
-        """As Running does, the class above this one: tells the program of a vehicle, and gives its number; getIDList then
-        looks for it from its departure on. A new vehicle comes by add, which refuses a second name and notes what trips
-        and detours need."""
+        """As Running does, the class above this one: tells the program of a vehicle, and gives its number; getIDList
+        then looks for it from its departure on. A new vehicle comes by add, which refuses a second name and notes what
+        trips and detours need."""
         car = super().enter(name, plan, lane, depart, size, driven)
         heappush(self.later, (depart, car, name))
         return car
