@@ -29,8 +29,9 @@ def told(path: str, runs: Runs, found: list) -> str:
 
 
 def features(runs: Runs, places: Places) -> Iterator[dict]:
-    """Each edge and junction in each interval, as GeoJSON's features. Of edges that nobody counted the numbers are
-    none; junctions are there only where the run has junction tables."""
+    """Each edge and junction in each interval, as GeoJSON's features (dicts, as of feature). Of edges that nobody
+    counted the numbers are None; junctions are there only where the run has junction tables. places: as places_of gives
+    it, whose Fault may come."""
     mapping = runs.first.mapping
     names = Names(mapping)
     lines = {edge: places(mapping.links[links[len(links) // 2]].shape) for edge, links in mapping.links_of.items()}
@@ -67,7 +68,7 @@ def of_edge(mapping: Map, edge: str) -> dict:
 
 
 def named(property_: str, name: str, names: Names) -> dict:
-    """{property_: name}, none for an empty name; nothing where the map has no names at all."""
+    """{property_: name}, None for an empty name; an empty dict where the map has no names at all."""
     return {property_: name or None} if names else {}
 
 
@@ -99,8 +100,9 @@ def write_text(path: str, text: str) -> None:
 
 
 def write_package(path: str, text: str) -> None:
-    """Writes a GeoPackage by ogr2ogr of GeoJSON's text: a layer for edges, and one for junctions where there are some.
-    Fault where ogr2ogr fails."""
+    """Writes a GeoPackage, whole or not at all, by ogr2ogr of GeoJSON's text (json without blanks, one edge at least):
+    a layer for edges, and one for junctions where there are some. Fault where ogr2ogr fails; it must be installed (else
+    FileNotFoundError)."""
     with tempfile.TemporaryDirectory() as folder:
         source, made = f"{folder}/all.geojson", f"{folder}/all.gpkg"
         write_text(source, text)

@@ -8,9 +8,9 @@ Places = Callable[[Iterable], list]
 
 
 def places_of(location: dict, projection: str | None, path: str) -> Places:
-    """A function that converts points (x, y) in a network's metres to (longitude, latitude) in degrees; Fault where no
-    projection is known, or pyproj is not installed. location: of the map; projection: what the user says, in place of
-    the map's own, or none; path: for faults."""
+    """A function that converts a list of points (x, y) in a network's metres to a list of [longitude, latitude] in
+    degrees; Fault where no projection is known, or pyproj is not installed. location: of the map; projection: what the
+    user says, in place of the map's own, or None; path: for faults."""
     try:
         from pyproj import CRS, Transformer
         from pyproj.exceptions import CRSError

@@ -1,4 +1,4 @@
-"""Makes a run and its map of SUMO's files."""
+"""Makes a run and its map of SUMO's files. Fault where a file cannot be read or is wrong, or the run cannot be made."""
 import json
 from collections.abc import Sequence
 
@@ -20,7 +20,8 @@ from streetsim.sumo.types import Types
 def read_and_converted(sources: Sources, options: Options, report: Report, told: dict[str, str]) -> Made:
     """What `convert` makes of the sources. told: the options of SUMO's configuration, empty where none was given. The
     routes that a configuration names may be trips without ways: then all get ways, and the sources change to say so
-    (routes empty, trips in their place). Unrouted where trips without ways come from elsewhere."""
+    (routes empty, trips in their place), and the report begins anew. Unrouted where trips without ways come from
+    elsewhere."""
     tell_options(told, report)
     try:
         return convert(sources.net, sources.additional, sources.routes, options, report, sources.trips)
@@ -41,7 +42,8 @@ def write_run(
     output: str, map_output: str, made: Made, report: Report, sources: Sources | None = None, names: str | None = None
 ) -> Map:
     """Writes the run to `output` and its map to `map_output`, and gives the map. made: of `convert`; sources: files
-    that the map is to name, or none; names: a file of names of one's own, or none."""
+    that the map is to name, or none; names: path of a file of names of one's own, or none. Fault where a
+    limit of the simulator is passed, or a file cannot be read or written."""
     lines, mapping = run_and_map(made, report)
     if names:
         read_own(names, mapping)
@@ -62,7 +64,8 @@ def convert(
 ) -> Made:
     """(the network, its lights with their nodes, the commands of the run, the names of its vehicles), of files of SUMO;
     additional, routes, trips: paths. trips: files whose vehicles get ways; where there are some, those of `routes` are
-    read with them. What is left out or otherwise than in SUMO is said in the report."""
+    read with them. Unrouted where there are none and a vehicle has no route. What is left out or otherwise than in SUMO
+    is said in the report."""
     net = read_net(net_path, options.classes, report)
     types = Types(options.seed, report)
     demand = None if trips else Demand(net, types, options.seed, report)

@@ -57,8 +57,9 @@ def draw(pyplot: Pyplot, path: str, what: str, second: int | None) -> Figure:
 
 
 def interval_of(runs: Runs, what: str, second: int | None) -> tuple[int, int]:
-    """The interval (begin, end) that begins at `second`; where that is none the busiest, else the first. Fault where
-    there is none, or `what` needs junction tables and there are none."""
+    """The interval (begin, end), in seconds, that begins at `second`; where that is None the busiest by the junction
+    tables, or without these the first. Fault where none begins then, or `what` needs junction tables and there are
+    none."""
     if what != "flow" and not runs.rows:
         raise Fault(f"{runs.first.path}: a map of {what} needs streetsim-run --junctions")
     found = intervals_of(runs)
@@ -155,7 +156,8 @@ def draw_density(pyplot: Pyplot, folder: Folder) -> Figure:
 
 
 def scale_bar(axes: Axes) -> None:
-    """Draws a bar of a round number of metres, about a fifth of the picture's width, below the streets."""
+    """Draws a bar of a round number of metres, about a fifth of the picture's width, below the streets; the axes'
+    lower limit goes down for it. Called when all else is drawn, as it is placed by the limits."""
     left, right = axes.get_xlim()
     width = max(right - left, 1)
     metres = series.round_length(width / 5.5)

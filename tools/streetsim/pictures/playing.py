@@ -11,9 +11,10 @@ MOST_BYTES = 100_000_000  # of the packed data; browsers are slow with more
 
 
 def data_of(folder: Folder, first: int, last: int) -> Json:
-    """What the page plays of a run from a first to a last second, as JSON: name; links (points in metres); junctions
-    with lights, [name, x, y]; signals, [clock, node, offset, [[seconds, links that may go], ..]]; every; and frames,
-    the polls."""
+    """What the page plays of a run from a first to a last second, as an object for json: "name" of the folder; "links",
+    {"name", "points" in metres, "lanes" and "cells": how many, "end": its node}; "junctions" with lights, [name, x, y];
+    "signals", [clock, node, offset, [[seconds, links that may go], ..]], of the whole run; "every": seconds between
+    polls; and "frames", the polls (none: an empty list)."""
     names = Names(folder.mapping)
     links = [
         {

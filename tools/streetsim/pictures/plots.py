@@ -45,7 +45,7 @@ class Corridor:
 
 def draw_corridor(pyplot: Pyplot, folder: Folder, corridor: Corridor) -> Figure:
     """Where each vehicle is along a path (metres) over time (seconds), the way back below. Fault where the edges make
-    no path, or lanes were not polled every 5 s or oftener."""
+    no path, lanes were not polled every 5 s or oftener, or nothing was polled from first to last."""
     first, last = corridor.first, corridor.last
     refuse_broken(folder, corridor.edges)
     if first >= last:
@@ -95,8 +95,8 @@ def draw_way(axes: Axes, folder: Folder, way: Corridor) -> None:
 
 
 def draw_ring(pyplot: Pyplot, program: str | None, dawdles: Sequence[int], limit: int) -> Figure:
-    """Flow over density in a ring of one lane, measured by the program, for one to six chances of dawdling, of 1,000;
-    limit: cells a step."""
+    """Flow over density in a ring of one lane, measured by the program, for one to six chances of dawdling, of 1,000
+    (further ones are left out); program: its path, None: as Client finds it; limit: cells a step."""
     figure, axes = fundamental(pyplot, f"One lane in a ring, limit {limit * limits.CELL_KMH} km/h")
     for dawdle, marker in zip(dawdles, MARKERS):
         points = [ring.measure(program, count, limit, dawdle) for count in RING]

@@ -207,8 +207,8 @@ class Network:
         self, edges: Sequence[str], stops: Mapping[int, LaneKey] = MappingProxyType({})
     ) -> tuple[int, ...] | None:
         """The links of a route, by least cost over parallel links, and counts that they carry it; turns that are
-        missing between them are added. None where two edges that follow each other have no connection. stops: the lane
-        that it must go over, by the edge's place in the route."""
+        missing between them are added. None where two edges that follow each other have no connection. edges: kept
+        ones; stops: the lane that it must go over, by the edge's place in the route."""
         if any((edge, following) not in self.movements for edge, following in zip(edges, edges[1:])):
             return None
         links = [self.links_of[edge] for edge in edges]

@@ -50,14 +50,15 @@ class LitNode:
         return each_second(self.light, self.program, self.report)
 
     def told(self, states: Sequence[str]) -> Told:
-        """How many seconds of each permissive green are shown, and in how many parts; states: as states gives them."""
+        """How many seconds of each permissive green are shown, and in how many parts, in the form of by_gaps; states:
+        as states gives them."""
         return by_gaps(self.found) if self.found else by_share(self.light, self.turns, states, self.permissive)
 
 
 def movements(net: SumoNet, network: Network, flows: Flows, report: Report) -> dict[str, dict[int, Movement]]:
-    """The connections of each junction with a light over its cycle, {junction: {request: movement}}; empty without
-    flows, and without the junctions of which it is not known who gives way to whom. flows: vehicles an hour by (edge,
-    next edge)."""
+    """The connections of each junction with a light over its cycle, {junction: {request: movement}}, with the seconds
+    that are shown (settle); empty without flows, and without the junctions of which it is not known who gives way to
+    whom. flows: vehicles an hour by (edge, next edge). Fault as of each_second and check_states."""
     limits_of = {link.edge: link.limit for link in network.links}
     found = {}
     for junction, connections in connections_of(net).items() if flows else ():
@@ -74,8 +75,9 @@ def movements_of_junction(
     limits_of: Mapping[str, int],
     report: Report,
 ) -> dict[int, Movement]:
-    """The movements of one junction, {request: movement}; empty where it has no light, or it is not known who gives way
-    to whom. limits_of: cells a step, by edge."""
+    """The movements of one junction, {request: movement}, with the seconds that are shown (settle); empty where no
+    light of it has a program, or it is not known who gives way to whom. flows: vehicles an hour by (edge, next edge);
+    limits_of: cells a step, by edge. Fault as of each_second and check_states."""
     light = light_of(connections, net)
     ours = [connection for connection in connections if connection.light in (light, None)]
     if not light or not net.yields.get(junction) or any(connection.request is None for connection in ours):
@@ -125,7 +127,8 @@ def signals(
 ) -> list[tuple[str, Command]]:
     """The signal commands, (light, command): one for each node with a light, or one for each phase of a program that
     does not fit in one plan. movements_at: as movements gives them; ends: by light the last clock at which it shows
-    this program, where it changes by time of day. What is shown otherwise than in SUMO is reported."""
+    this program, where it changes by time of day; else AFTER seconds behind network.last, which must be set. What is
+    shown otherwise than in SUMO is reported. Fault as of each_second and check_states."""
     made = []
     for node, turns in sorted(turns_at(network).items()):
         lights = {turn.light for *_, turn in turns if turn.light}
@@ -156,8 +159,9 @@ class TooLong(Fault):
 
 
 def signal_lines(own: LitNode, begin: int, last: int) -> list[Command]:
-    """The signal command of a node; of a program that does not fit in one plan, which is reported, a command for each
-    phase, with its clock ("at"), from begin to last (clocks), as a plan of one phase stays until the next."""
+    """The signal command of a node, in a list; of a program that does not fit in one plan, which is reported, a command
+    for each phase, with its clock ("at"; not in the first), from begin to last (clocks), as a plan of one phase stays
+    until the next. Fault as of each_second and check_states."""
     try:
         return [signal(own)]
     except TooLong:
@@ -176,8 +180,8 @@ def cycle_told(own: LitNode) -> str:
 
 
 def phase_lines(own: LitNode, begin: int) -> Iterator[tuple[int, Command]]:
-    """The signal commands of a node's phases from the clock begin on, (clock, command), without end: a plan of one
-    phase stays until the next is sent."""
+    """The signal commands of a node's phases from the clock begin on, (clock, command), without end (one alone where
+    the light never changes): a plan of one phase stays until the next is sent."""
     states = own.states()
     greens = green_seconds(own, states, own.told(states), 1, True)
     place = (begin + round(-own.program.offset)) % len(greens)
@@ -191,8 +195,8 @@ def phase_lines(own: LitNode, begin: int) -> Iterator[tuple[int, Command]]:
 
 
 def signal(own: LitNode) -> Command:
-    """The signal command of one node; TooLong where its program does not fit in one plan. What is shown otherwise than
-    in SUMO is reported."""
+    """The signal command of one node; TooLong where its program does not fit in one plan, Fault as of each_second and
+    check_states. What is shown otherwise than in SUMO is reported."""
     light, report, states = own.light, own.report, own.states()
     check_states(light, states, [turn for *_, turn in own.turns])
     if len(states) > limits.PHASES * limits.PHASE_STEPS:
@@ -237,7 +241,7 @@ def signal(own: LitNode) -> Command:
 
 def each_second(light: str, program: Program, report: Report) -> list[str]:
     """The program's state in each second of its cycle; durations are rounded by their running sum, so that the cycle
-    stays. Fault where the cycle is shorter than half a second, or longer than LONGEST."""
+    stays. report: gets nothing. Fault where the cycle is shorter than half a second, or longer than LONGEST."""
     states: list[str] = []
     clock = 0.0
     if (cycle := sum(duration for duration, _ in program.phases)) > LONGEST:

@@ -47,7 +47,8 @@ class Part:
 
 
 def slow_of(text: str) -> Slow:
-    """The limit that a text EDGE:METRES-METRES:KMH asks for; Fault where it has another form."""
+    """The limit that a text EDGE:METRES-METRES:KMH asks for; Fault where it has another form, the metres do not rise,
+    or the limit is not in LIMITS."""
     found = FORM.fullmatch(text)
     if not found or int(found[2]) >= int(found[3]) or int(found[4]) not in LIMITS:
         many = f"{LIMITS[0]} to {LIMITS[-1]}"
@@ -67,8 +68,9 @@ def parts_of(slow: Slow, metres: float) -> list[Part]:
 def slowed(
     net: SumoNet, vehicles: Sequence[Vehicle], texts: Iterable[str], report: Report
 ) -> tuple[SumoNet, list[Vehicle]]:
-    """(the network with edges in parts, the vehicles with these parts in their routes). texts: limits,
-    EDGE:METRES-METRES:KMH, one for an edge at most; Fault where one cannot be had."""
+    """(a new network with edges in parts, the vehicles with these parts in their routes); net and vehicles stay as they
+    are. texts: limits, EDGE:METRES-METRES:KMH, one for an edge at most; Fault where one has another form or cannot be
+    had. Detectors that are cut are reported. Bus stops and stops of vehicles keep their lane and metres."""
     made, parts = net, dict[str, list[Part]]()
     for slow in map(slow_of, texts):
         check(slow, net, parts)
@@ -103,7 +105,8 @@ def driven_over(vehicle: Vehicle, parts: dict[str, tuple[str, ...]]) -> Vehicle:
 
 
 def with_parts(net: SumoNet, slow: Slow, parts: Sequence[Part], report: Report) -> SumoNet:
-    """The network with one edge in parts; the names of the parts must be free."""
+    """A new network with one edge (slow.edge) in parts, which are joined by connections; the names of the parts must be
+    free, as check sees to. Detectors that are cut are reported."""
     whole, last = net.edges[slow.edge], parts[-1].name
     made = {part.name: part_edge(part, parts, whole, slow) for part in parts}
     edges: dict[str, Edge] = {}

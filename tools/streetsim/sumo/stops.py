@@ -1,4 +1,5 @@
-"""SUMO's stops: bus stops, which vehicle stops where and for how long, and their places on the cells of an import."""
+"""SUMO's stops: bus stops, which vehicle stops where and for how long, and their places on the cells of an import. All
+that reads raises Fault, with file and element, where an attribute is absent or cannot be read."""
 from __future__ import annotations
 
 from collections import defaultdict
@@ -77,8 +78,8 @@ class Found:
 
 
 def read_bus_stop(path: FilePath, element: Element, net: SumoNet) -> None:
-    """Adds a bus stop to the network; Fault where another one has its name, the network has no such lane, or it lies
-    beyond its lane."""
+    """Adds a bus stop to the network (bus_stops); Fault where another one has its name, the network has no such lane,
+    or it lies beyond its lane and is not friendly."""
     name, lane = attribute(path, element, "id", filled), attribute(path, element, "lane", filled)
     if name in net.bus_stops:
         raise Fault(f"{told(path, element)}: a second stop of this name")
@@ -108,13 +109,15 @@ def length_of(lane: str, net: SumoNet, where: str) -> float:
 
 
 def stops_in(path: FilePath, owner: Element, net: SumoNet) -> tuple[Stop, ...]:
-    """The stops that stand directly in an element; those of a route inside it are not among them."""
+    """The stops that stand directly in an element (owner), as stop_of gives them, with its Faults; those of a route
+    inside it are not among them."""
     return tuple(stop_of(path, owner, one, net) for one in owner if one.tag == "stop")
 
 
 def stop_of(path: FilePath, owner: Element, element: Element, net: SumoNet) -> Stop:
-    """The stop of a <stop> in an element (owner); Fault where it names a lane or edge that the network does not have, a
-    place beyond its lane, or no place at all."""
+    """The stop of a <stop> in an element (owner); one that cannot be made has the reason (why) and no place. Fault
+    where it names a lane or edge that the network does not have, a place beyond its lane, or no place at all. Whether
+    there is a bus stop of its name is looked at later (Stops.place)."""
     where = f"{told(path, owner)}: <stop>"
     name = next((element.get(kind, "") for kind in BUS_STOPS if element.get(kind)), "")
     duration = optional(path, element, "duration", seconds, None)
@@ -134,7 +137,7 @@ def stop_of(path: FilePath, owner: Element, element: Element, net: SumoNet) -> S
 
 
 def why_not(element: Element) -> str:
-    """Why a stop cannot be made, by its attributes; empty where it can."""
+    """Why a stop (its <stop> element) cannot be made, by its attributes other than times; empty where it can."""
     if element.get("parking", "false").lower() in (*TRUE, "opportunistic"):
         return IN_BAY
     if kind := next((kind for kind in ELSEWHERE if element.get(kind)), ""):
@@ -170,7 +173,7 @@ def place_of(path: FilePath, element: Element, net: SumoNet, where: str) -> BusS
 
 
 def edge_of(stop: Stop, net: SumoNet) -> str:
-    """The name of the edge where a stop lies; empty where it has no place."""
+    """The name of the edge where a stop lies; empty where neither it nor its bus stop tells a lane or edge."""
     place, told = net.bus_stops.get(stop.name) if stop.name else stop.place, dict(stop.told)
     lane = place.lane if place else told.get("lane", "")
     return lane.rpartition("_")[0] or told.get("edge", "")
@@ -188,7 +191,7 @@ class Stops:
 
     def on(self, name: str, edges: Sequence[str], stops: Iterable[Stop]) -> Found:
         """The stops of a vehicle that have a place on its route (edges), each on the edge of the stop before it or on a
-        later one; the others are kept in unmade, by reason. name: of the vehicle."""
+        later one; the others are kept in unmade, by reason. name: of the vehicle. Fault as of place."""
         found, at, before = Found(), 0, 0.0
         for stop in stops:
             place = self.place(stop)
@@ -216,8 +219,8 @@ class Stops:
         return self.net.bus_stops.get(stop.name) if stop.name else stop.place
 
     def add(self, vehicle: tuple[int, str, str], plan: Sequence[int], found: Found, network: Network) -> None:
-        """Adds the visits of a vehicle (its number in the run file, name and type) on the links of its plan; stops that
-        these links do not reach are kept in unmade, by reason."""
+        """Adds to visits those of a vehicle (its number in the run file, name and type) on the links of its plan;
+        found: as of on. Stops that these links do not reach, or on links of one cell, are kept in unmade, by reason."""
         number, name, kind = vehicle
         for stop, spot in found.stops:
             link, lane = network.place_of[spot.edge, spot.index]
@@ -243,7 +246,8 @@ class Stops:
         return round(speed / 2 / decel, 2), max(0.0, round(speed / 2 / accel - (link.limit - 1) / 2, 2))
 
     def tell(self) -> None:
-        """Reports how many stops are made, by reason those that are not, and accelerations that had no effect."""
+        """Reports how many stops are made, by reason those that are not, and accelerations that had no effect. Called
+        once, after all vehicles."""
         self.types.note_paces(self.kinds, self.report)
         for why, names in self.unmade.items():
             self.report.warn(f"{len(names):,} stops of vehicles are not made, {why}: {some(names)}", names, do_of(why))
@@ -267,8 +271,8 @@ def called(stop: Stop) -> str:
 
 
 def cells_of(link: Link, spot: Spot) -> tuple[int, int] | None:
-    """(first, last) cell in which the front of a vehicle stands at a stop: one cell always lies beyond it, which is
-    closed meanwhile. None where the link has fewer than two cells."""
+    """The (first, last) cell, from 0, both included, in which the front of a vehicle stands at a stop: one cell always
+    lies beyond them, which is closed meanwhile. None where the link has fewer than two cells."""
     size = link.metres / link.cells
     if link.cells < 2:
         return None

@@ -10,8 +10,9 @@ from streetsim.sumo.net import SumoNet, read_net, read_program
 
 
 def timings_of(net: SumoNet) -> Iterator[Timing]:
-    """The program of each light that connections name, in the order of the lights' names; lights without phases, or
-    with states that are too short for their connections, are left out."""
+    """The program in force of each light that connections name, in the order of the lights' names; lights without
+    phases, or with states that are too short for their connections, are left out. Of a light of several junctions, the
+    junction is that of its first connection."""
     at_light = defaultdict(list)
     for connection in net.connections:
         if connection.light:

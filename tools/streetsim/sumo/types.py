@@ -1,4 +1,5 @@
-"""Reads SUMO's vehicle types, and gives vehicles their sizes: how many cells each takes."""
+"""Reads SUMO's vehicle types, and gives vehicles their sizes: how many cells each takes. All that reads raises Fault,
+with file and element, where an attribute is absent or cannot be read."""
 import random
 from collections import Counter, defaultdict
 from collections.abc import Collection
@@ -111,15 +112,15 @@ class Types:
         self.unknown: set[str] = set()
 
     def read(self, path: FilePath, element: Element) -> None:
-        """Adds a <vType> or a <vTypeDistribution>."""
+        """Adds a <vType> or a <vTypeDistribution>; Fault as of read_type and read_mix."""
         if element.tag == "vType":
             self.read_type(path, element)
         else:
             self.read_mix(path, element)
 
     def read_type(self, path: FilePath, element: Element) -> None:
-        """Adds a type; what it does not tell is as SUMO's defaults for its class. Fault where another one has its name,
-        or SUMO has no such class."""
+        """Adds a type; what it does not tell is as SUMO's defaults for its class. Attributes that are not in READ
+        or PACES are reported as ignored. Fault where another one has its name, or SUMO has no such class."""
         vclass = class_of(path, element)
         length, gap = BY_CLASS.get(vclass, USUAL)
         length = optional(path, element, "length", above_zero(number), length)
@@ -136,8 +137,8 @@ class Types:
             self.report.ignored[f"{other} of vTypes"] += 1
 
     def note_paces(self, used: Collection[str], report: Report) -> None:
-        """Reports the accelerations of types that had no effect, as none of their vehicles stops; used: the types whose
-        vehicles do."""
+        """Reports how many types tell an acceleration that had no effect, as none of their vehicles stops; used: the
+        types whose vehicles do. A second call replaces what the first reported."""
         for told in PACES:
             unused = sum(told in paces for name, paces in self.paced.items() if name not in used)
             report.ignored[f"{told} of vTypes"] = unused
@@ -152,8 +153,8 @@ class Types:
         return name
 
     def read_mix(self, path: FilePath, element: Element) -> None:
-        """Adds a distribution, with the types that stand in it; Fault where it names an unknown type, or has no
-        type."""
+        """Adds a distribution, with the types that stand in it; Fault where it names a type that was not read before,
+        has no type, or its name is taken."""
         names, weights = (element.get("vTypes") or "").split(), []
         shares = attribute(path, element, "probabilities", weights_of) if element.get("probabilities") else []
         for place, name in enumerate(names):
@@ -170,7 +171,7 @@ class Types:
 
     def drawn(self, name: str | None) -> str:
         """The type that a vehicle has: the one that is named, or one drawn from the distribution that is named. DEFAULT
-        where name is None, or no file tells it, which is noted in unknown."""
+        where name is None, or no file tells it, which is noted in unknown. Each call for a distribution draws anew."""
         if name in self.mixes:
             names, weights = self.mixes[name]
             return self.draws.choices(names, weights)[0]
@@ -192,7 +193,8 @@ class Sizes:
         self.too_long: Counter[str] = Counter()  # vehicles by type
 
     def of(self, name: str) -> int:
-        """The cells, 1 to the most, that the next vehicle of a type takes; it is counted."""
+        """The cells, 1 to limits.SIZE, that the next vehicle of a type takes; it is counted. name: of the type, as
+        Types.drawn gives it."""
         metres = self.types.metres[name]
         wished = min(limits.SIZE, max(1.0, metres / limits.CELL_METRES)) + self.rests[name]
         size = int(wished + 0.5)

@@ -20,7 +20,8 @@ Day = list[tuple[int, str]]  # the clocks from which on a light shows a program;
 
 
 def read_waut(path: FilePath, element: Element, net: SumoNet) -> None:
-    """Keeps a <WAUT> in the network, its clocks counted from its refTime."""
+    """Keeps a <WAUT> in the network (wauts), its switches by the clock: their times and its refTime. One of the same
+    name is replaced. Fault where an attribute is absent or cannot be read."""
     name = attribute(path, element, "id")
     begin, period = (
         attribute(path, element, key, at_least_zero(seconds)) if element.get(key) else 0.0
@@ -46,9 +47,9 @@ def read_waut_junction(path: FilePath, element: Element, net: SumoNet, report: R
 
 
 def days_of(net: SumoNet, begin: int, last: int, report: Report) -> dict[str, Day]:
-    """By light with a WAUT the programs that it shows from the clock begin to last, [(clock, program)]; its first one
-    is then its program in the network. Lights whose WAUT has them blink (off) keep their program, and are reported.
-    Fault where a light has not a program that its WAUT names."""
+    """By light with a WAUT the programs that it shows from the clock begin to last, [(clock, program's name)]; in the
+    network the first then becomes the light's program, and the others stand in earlier. Lights whose WAUT has them
+    blink (off) keep their program, and are reported. Fault where a light has not a program that its WAUT names."""
     found: dict[str, Day] = {}
     for name, waut in net.wauts.items():
         for light in waut.lights:
@@ -66,8 +67,8 @@ def days_of(net: SumoNet, begin: int, last: int, report: Report) -> dict[str, Da
 
 
 def day_of(waut: Waut, begin: int, last: int) -> Day:
-    """The programs of a WAUT from a clock to another one, [(clock, program)]; those that follow an equal one are left
-    out."""
+    """The programs of a WAUT from the clock begin to last, [(clock, program's name)], the first at begin; those that
+    follow an equal one are left out."""
     changes = takewhile(lambda one: one[0] <= last, changes_of(waut, begin))
     found: Day = [(begin, waut.start)]
     for clock, program in changes:
@@ -91,7 +92,8 @@ def day_lines(
     net: SumoNet, network: Network, days: Mapping[str, Day], flows: Flows, report: Report
 ) -> list[tuple[str, Command]]:
     """The signal lines, (light, command with "at"), by which lights show the listed seconds of the programs to which
-    they change; flows: vehicles an hour by (edge, next edge)."""
+    they change after the first; days: as days_of gives them; flows: vehicles an hour by (edge, next edge). Fault as of
+    signals. network.last must be set."""
     made: list[tuple[str, Command]] = []
     places, at_junction = turns_at(network), connections_of(net) if days else {}
     limits_of = {link.edge: link.limit for link in network.links}
@@ -110,7 +112,9 @@ def day_lines(
 def nodes_of(
     net: SumoNet, network: Network, days: Mapping[str, Day], places: Mapping[int, Sequence]
 ) -> Iterator[tuple[str, int, list[tuple[int, int, Program]]]]:
-    """(light, node, [(clock, clock of the next change, program)] but for the first program) of lights that change."""
+    """(light, node, [(clock, clock of the next change, program)] but for the first program) of lights that change, for
+    each node at which the light is the first by name; places: by node its turns, as signals.turns_at gives them. The
+    last program ends AFTER seconds behind network.last."""
     for light, day in sorted(days.items()):
         known = {one.name: one for one in (*net.earlier.get(light, ()), net.programs[light])}
         ends = [*day, (network.last + AFTER, "")]
@@ -126,7 +130,8 @@ def switches_of(days: Mapping[str, Day]) -> list[tuple[int, str, str]]:
 
 
 def sensing(net: SumoNet, days: Mapping[str, Day]) -> list[str]:
-    """The lights that change to a program which SUMO times by anything but seconds alone."""
+    """The lights with a WAUT of whose programs, the first and those to which they change, SUMO times one by anything
+    but seconds alone (not static)."""
     kinds: defaultdict[str, set[str]] = defaultdict(set)
     for light, day in days.items():
         names = {program for _, program in day}

@@ -48,7 +48,7 @@ LEAST_STOPPED = 0.4  # vehicles in a red, below which none go
 
 def hourly_flows(vehicles: Iterable[Any]) -> dict[Way, float]:
     """Vehicles an hour by (edge, next edge), over the time in which vehicles depart, which counts as 900 s at least.
-    vehicles: anything with edges and depart."""
+    vehicles: a list or the like, as it is gone over twice, of anything with edges and depart (seconds)."""
     flows: Counter[Way] = Counter()
     for vehicle in vehicles:
         flows.update(pairwise(vehicle.edges))
@@ -94,7 +94,7 @@ class Movement:
 
     @property
     def shown_open(self) -> int:
-        """How many seconds of its permissive greens are shown, in all."""
+        """How many seconds of its permissive greens are shown, in all; shown must be set (settle)."""
         return sum(self.shown[start] for start in self.runs)
 
 
@@ -105,9 +105,9 @@ def movements_of(
     flows: Mapping[Way, float],
     limits_of: Mapping[str, int],
 ) -> dict[int, Movement]:
-    """The movements of a junction, by the connections' requests. states: of its light, one for each second; yields: by
-    request those that it gives way to; flows: vehicles an hour by (edge, next edge); limits_of: cells a step, by
-    edge."""
+    """The movements of a junction, by the connections' requests, of which none is None; their shown is set by settle.
+    states: of its light, one for each second; yields: by request those that it gives way to; flows: vehicles an hour by
+    (edge, next edge); limits_of: cells a step, by edge."""
     sharing = Counter((connection.source, connection.target) for connection in connections)
     found = {}
     for connection in connections:
@@ -235,8 +235,8 @@ def red_before(states: str, start: int) -> int:
 
 
 def meetings(movement: Movement, start: int, length: int) -> list[Meeting]:
-    """The seconds (as bits) of a permissive green of length seconds from start, grouped by the foes that have green in
-    them."""
+    """The seconds of a permissive green of length seconds from start, [(seconds as bits, foes that have green in
+    them)]; the movement's foes must be set."""
     found: defaultdict[tuple[Movement, ...], int] = defaultdict(int)
     for second in range(start, start + length):
         place = second % movement.cycle
@@ -492,16 +492,17 @@ def hidden_start(length: int, speed: float, limit: int) -> int:
 
 @cache
 def hidden_middle(length: int, speed: float, limit: int) -> tuple[int, int]:
-    """The (begin, end) of the seconds that are not shown from half of a green of length seconds on, so that as many
-    pass here as in SUMO: who has waited alone for its begin then goes at once, as in SUMO. As a queue starts twice they
-    are more seconds than at the begin. A green below TWO_PARTS has them at its begin. speed: metres a second; limit:
-    cells a step."""
+    """The seconds that are not shown in a green of length seconds, (begin, end) counted from its begin: from its half
+    on, so that as many pass here as in SUMO; who has waited alone for its begin then goes at once, as in SUMO. As a
+    queue starts twice they are more seconds than at the begin. A green below TWO_PARTS has them at its begin. speed:
+    metres a second; limit: cells a step."""
     if length < TWO_PARTS:
         return 0, hidden_start(length, speed, limit)
     half, vehicles = length // 2, leaving(length, speed)
 
     def off(pause: int) -> float:
-        """How many vehicles more or fewer than in SUMO pass here, where pause seconds in the middle are left out."""
+        """How far the vehicles that pass here, with pause seconds in the middle left out, are from SUMO's; not below
+        0."""
         passing = passing_here(length, limit)
         if pause:
             passing = passing_here(half, limit) + passing_here(length - half - pause, limit)
@@ -511,8 +512,9 @@ def hidden_middle(length: int, speed: float, limit: int) -> tuple[int, int]:
 
 
 def equivalents(movements: Iterable[Movement]) -> dict[Way, float]:
-    """For how many vehicles one counts on its lane that waits for a gap, {(edge, next edge): vehicles}: as many others
-    could pass in its green for each that passes."""
+    """For how many vehicles (1 to MOST_EQUIVALENT) one counts on its lane that waits for a gap, {(edge, next edge):
+    vehicles}: as many others could pass in its green for each that passes. Movements that do not wait are left out;
+    shown must be set (settle)."""
     found: dict[Way, float] = {}
     for movement in movements:
         if movement.waits:

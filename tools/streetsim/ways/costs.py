@@ -38,7 +38,7 @@ def nothing_observed(movements: int, slices: int) -> Observed:
 
 
 def mean_of(runs: Sequence[Observed]) -> Observed:
-    """The mean of what some runs showed; one run at least."""
+    """The mean of what some runs showed, one at least; of one run its Observed itself, no copy."""
     if len(runs) == 1:
         return runs[0]
     seconds, counts = (
@@ -98,7 +98,8 @@ class Table:
         return made
 
     def at(self, movement: int, clock: float) -> float:
-        """The seconds of a movement that begins at a clock; after the last slice those of its last part."""
+        """The seconds of a movement that begins at a clock (seconds from 0, where the first slice begins); after the
+        last slice those of its last part."""
         row, part = self.rows[movement], int(clock * self.inverse)
         if row is None:
             row = self.row(movement)
@@ -109,8 +110,9 @@ def costs_of(
     graph: Graph, free: Sequence[float], observed: Observed, width: float, minor: Minor | None = None
 ) -> Costs:
     """The costs that follow from what was observed. free: seconds of each movement without traffic; width: seconds of a
-    slice; minor: who gives way, None: nobody. A movement has the mean delay of its vehicles in a slice, together with
-    AS_MOVEMENT further ones that have the mean of its edge, or the wait of those who give way where that is more."""
+    slice; minor: who gives way, None: nobody. A movement has its free seconds, TURN_BACK more where it turns back, and
+    the mean delay of its vehicles in a slice, together with AS_MOVEMENT further ones that have the mean of its edge, or
+    the wait of those who give way where that is more. Costs fall by FALL seconds a second at most."""
     slices, counts = observed.slices, observed.counts
     delays = array("d", [
         seconds - counts[place] * free[place // slices] for place, seconds in enumerate(observed.seconds)

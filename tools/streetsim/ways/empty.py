@@ -1,4 +1,4 @@
-"""A network before any route is known: its map, and the times of its movements."""
+"""A network before any route is known: the map of its streets, and the times of its movements."""
 from array import array
 
 from streetsim.base.report import Report
@@ -12,13 +12,15 @@ from streetsim.ways.seconds import capacities, free_seconds
 
 
 def map_without_routes(net: SumoNet, options: Options) -> Map:
-    """The map that an import without vehicles would make."""
+    """The map that an import without vehicles would make, but without lights and their programs, who gives way, and
+    detectors: for its links and turns. Fault as of Network."""
     report = Report()
     return map_of(Network(net, options, report, {}), [], [], report)
 
 
 def times_without_routes(net: SumoNet, graph: Graph, options: Options) -> tuple[array, list[float]]:
-    """(seconds of each movement without traffic, vehicles an hour that each lets pass), before any route is known."""
+    """(seconds of each movement without traffic, with the mean wait at its signal; vehicles an hour that each lets
+    pass), both by movement of the graph, before any route is known. Fault as of Network and signals."""
     report = Report()
     network = Network(net, options, report, {})
     made = [command for _, command in signals(net, network, {}, report, {}) if "at" not in command]

@@ -13,8 +13,8 @@ class Graph:
     so bans on turning hold."""
 
     def __init__(self, edges: Iterable[str], ways: Iterable[tuple[str, str]], ends: dict[str, tuple[str, str]]) -> None:
-        """ways: (edge, next edge); ends: for each edge the junctions where it begins and ends, by which it is known who
-        turns back."""
+        """edges: names; ways: (edge, next edge), by names; ends: for each edge the junctions where it begins and ends,
+        by which it is known who turns back."""
         self.edges = list(edges)
         self.number = {name: at for at, name in enumerate(self.edges)}
         found = dict.fromkeys((self.number[edge], self.number[following]) for edge, following in ways)
@@ -31,7 +31,7 @@ class Graph:
         ]
 
     def names(self, path: Iterable[int]) -> tuple[str, ...]:
-        """The names of the edges of a path."""
+        """The names of the edges of a path, which has their numbers."""
         return tuple(self.edges[edge] for edge in path)
 
 
@@ -42,7 +42,7 @@ def graph_of_net(net: SumoNet) -> Graph:
 
 
 def graph_of_map(mapping: Map) -> Graph:
-    """The graph of the edges of a run's map, by its turns."""
+    """The graph of the edges of a run's map, by its turns, those that the import added too."""
     links = mapping.links
     ways = ((links[turn.link].edge, links[turn.next].edge) for turn in mapping.turns)
     return Graph(mapping.links_of, ways, {link.edge: (str(link.begin), str(link.end)) for link in links})

@@ -24,8 +24,8 @@ class Minor:
             self.foes[number_of(graph, way)] = [(number_of(graph, foe), gap) for foe, gap in foes.items()]
 
     def wait(self, movement: int, hourly: Hourly) -> float:
-        """The mean seconds until a gap comes for a movement in traffic that comes at random; hourly: gives vehicles an
-        hour of a movement. 0 where nobody goes first, MOST_WAIT at most."""
+        """The mean seconds until a gap comes for a movement (its number) in traffic that comes at random; hourly: gives
+        vehicles an hour of a movement, by number. 0 where nobody goes first, MOST_WAIT at most."""
         flows = [(min(MOST_HOURLY, hourly(foe)), gap) for foe, gap in self.foes.get(movement, ())]
         every = sum(flow for flow, _ in flows)
         if not every:

@@ -17,8 +17,8 @@ Shut = Mapping[int | Way, Sequence[tuple[float, float]]]
 
 
 class Wish(NamedTuple):
-    """What the router is asked: a trip, by its number, from an edge to another from a clock on, and the path that it
-    has (empty: none)."""
+    """What the router is asked: a trip, by its number, from an edge to another (by numbers of the graph) from a clock
+    (seconds) on, and the path that it has (empty: none)."""
 
     trip: int
     origin: int
@@ -42,8 +42,8 @@ class Router:
     another target is asked for."""
 
     def __init__(self, graph: Graph, costs: Costs, shut: Shut | None = None) -> None:
-        """costs: seconds of the graph's movements by time; shut: edges and movements that cannot be used at times,
-        None: none."""
+        """costs: seconds of the graph's movements by time; shut: edges and movements, with the clocks (begin, end)
+        between which they cannot be used; None: none."""
         self.graph, self.table, self.shut = graph, Table(costs), shut or {}
         ways = [way for way in self.shut if isinstance(way, tuple)]
         # By edge: those to which one may not turn at times.
@@ -53,7 +53,7 @@ class Router:
         self.target, self.bounds = END, [FAR]
 
     def arcs_of(self, edge: int) -> list[tuple[int, array]]:
-        """(next edge, seconds by part of a slice) for each edge that follows an edge."""
+        """(next edge, the row of seconds of the movement to it, as of Table.row) for each edge that follows an edge."""
         made = self.arcs[edge]
         if made is None:
             made = self.arcs[edge] = [
@@ -121,7 +121,8 @@ class Router:
         return tuple(reversed(path))
 
     def clocks(self, path: Path, clock: float) -> list[float]:
-        """The clocks at which one who begins a path at a clock reaches each of its edges, and at last the end of it."""
+        """The clocks at which one who begins a path at a clock reaches each of its edges, and at last the end of it;
+        where an edge or movement is shut, one waits until it is open."""
         found, movement_of = [clock], self.graph.movement_of
         for way in pairwise((*path, END)):
             reached = found[-1] + self.table.at(movement_of[way], found[-1])
@@ -134,7 +135,8 @@ class Router:
         return next((end for begin, end in self.shut.get(what, ()) if begin <= clock < end), clock)
 
     def entered(self, way: Way, clock: float) -> float:
-        """The clock at which one comes to the second edge of a way, who without works would reach it at a clock."""
+        """The clock at which one comes to the second edge of a way (edge, next edge) who would reach it at a clock if
+        nothing were shut: the same clock where both are open."""
         return max(self.opened(way[1], clock), self.opened(way, clock))
 
     def met(self, path: Path, clock: float) -> int | None:
@@ -152,7 +154,7 @@ class Router:
         return None
 
     def own(self, wish: Wish) -> float:
-        """The seconds of the path that a trip has; FAR where it has none."""
+        """The seconds of the path that a trip has, with waits where it is shut; FAR where it has none."""
         return self.clocks(wish.path, wish.clock)[-1] - wish.clock if wish.path else FAR
 
     def found(self, wish: Wish) -> Found:
@@ -167,7 +169,8 @@ def in_order(wishes: Sequence[Wish]) -> list[Wish]:
 
 
 def parts_of(wishes: Sequence[Wish], count: int) -> list[list[Wish]]:
-    """The wishes in count parts at most, sorted by target, so that few targets lie in two parts."""
+    """The wishes in count parts (1 or more) at most, of equal size but the last, sorted by target, so that few targets
+    lie in two parts."""
     order = in_order(wishes)
     size = max(1, -(-len(order) // count))
     return [order[at : at + size] for at in range(0, len(order), size)]

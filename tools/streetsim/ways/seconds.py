@@ -1,4 +1,5 @@
-"""Seconds of movements where nobody is in the way, and what their greens let pass."""
+"""Seconds of movements where nobody is in the way, and what their greens let pass. Signals are the signal commands of a
+run, of which the phases count and the offsets do not; edges and movements go by their numbers in the graph."""
 from array import array
 from collections import defaultdict
 from collections.abc import Iterable, Iterator
@@ -26,8 +27,8 @@ def free_seconds(graph: Graph, mapping: Map, signals: Iterable[dict], dawdle: fl
 
 
 def mean_waits(graph: Graph, mapping: Map, signals: Iterable[dict]) -> dict[tuple[int, int], float]:
-    """The mean seconds, by (edge, next edge), for which signals hold a vehicle that comes at any time; of several lanes
-    the least, and NEVER where the movement is never green."""
+    """The mean seconds, by (edge, next edge), for which signals hold a vehicle that comes at any time; of parallel
+    links the least, and NEVER where the movement is never green. Movements at nodes without a signal are left out."""
     signals = list(signals)
     lit = {command["node"] for command in signals}
     at_signals = (turn for turn in mapping.turns if mapping.links[turn.link].end in lit)
@@ -41,8 +42,8 @@ def mean_waits(graph: Graph, mapping: Map, signals: Iterable[dict]) -> dict[tupl
 
 
 def greens(graph: Graph, mapping: Map, command: dict) -> Iterator[tuple[tuple[int, int], int]]:
-    """((edge, next edge), green seconds of the cycle as bits) for each link and next link that a signal command ever
-    lets go."""
+    """((edge, next edge), green seconds of the cycle as bits, second 0 the lowest) for each link and next link of which
+    a signal command ever lets a lane go; a pair of edges comes more than once where links are parallel."""
     shown: dict[tuple[int, int], int] = defaultdict(int)
     clock = 0
     for duration, turns in command["phases"]:
@@ -54,7 +55,7 @@ def greens(graph: Graph, mapping: Map, command: dict) -> Iterator[tuple[tuple[in
 
 
 def edges_of(graph: Graph, mapping: Map, link: int, following: int) -> tuple[int, int]:
-    """(edge of a link, edge of the next link), by their numbers in the graph."""
+    """(edge of a link, edge of a next link, following), by their numbers in the graph."""
     return graph.number[mapping.links[link].edge], graph.number[mapping.links[following].edge]
 
 

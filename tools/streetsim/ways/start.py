@@ -58,7 +58,7 @@ def volumes(graph: Graph, trips: Iterable[Trip]) -> list[int]:
 
 
 def no_way(graph: Graph, trip: Trip) -> Fault:
-    """The Fault of a trip for which there is no way."""
+    """The Fault, for the caller to raise, of a trip for which there is no way."""
     return Fault(f"trip {trip.name!r}: no way from {graph.edges[trip.origin]} to {graph.edges[trip.target]}")
 
 

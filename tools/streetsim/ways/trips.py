@@ -58,8 +58,8 @@ class TripDemand(Demand):
         self.told_types: list[str] = []  # vehicle types as they stand in the files
 
     def read(self, path: FilePath) -> None:
-        """Adds what a file of trips, flows or routes has; Fault where persons drive in it. Persons who do not drive,
-        and containers, are reported as skipped."""
+        """Adds what a file of trips, flows or routes has; Fault where it cannot be read or is wrong, or persons drive
+        in it. Persons who do not drive, and containers, are reported as skipped, unknown elements as ignored."""
         readers = {
             "route": self.read_route,
             "vehicle": self.read_vehicle,
@@ -85,7 +85,8 @@ class TripDemand(Demand):
 
     def add(self, path: FilePath, element: ElementTree.Element, departures: Sequence[tuple[str, float]]) -> None:
         """Adds the vehicles of an element, one for each (name, departure in seconds), with its route or with the edges
-        where it begins and ends. Fault where there are more vehicles than may enter a run."""
+        where it begins and ends (its name then goes into without). Fault where there are more vehicles than may enter a
+        run, and as of ends and Demand.add."""
         count = len(self.vehicles) + len(departures)
         if count > limits.VEHICLES:
             raise Fault(f"{path}: {count:,} trips, and at most {limits.VEHICLES:,} vehicles enter in a run")
@@ -143,8 +144,9 @@ class Trips:
 def read_trips(
     paths: Iterable[str], net: SumoNet, graph: Graph, types: Types, options: Options, report: Report
 ) -> Trips:
-    """The trips of files (their paths), in order of departure, and the types that these files tell. Those that cannot
-    drive are left out and reported by reason; Fault where none is left."""
+    """The trips of files (their paths), in order of departure, and the types that these files tell, which `types` gets
+    too. Those that cannot drive are left out and reported by reason; Fault where a file cannot be read or is wrong, or
+    no trip is left."""
     demand = TripDemand(net, types, options.seed, report)
     for path in paths:
         demand.read(path)
@@ -202,13 +204,15 @@ def reason_against(vehicle: Vehicle, net: SumoNet, begin: int) -> str | None:
 
 
 def vehicles_of(trips: Iterable[Trip], graph: Graph) -> list[Vehicle]:
-    """The trips, with their present ways, as vehicles of an import."""
+    """The trips, with their present ways, as vehicles of an import, without stops, names of routes and further
+    attributes."""
     return [Vehicle(trip.name, trip.depart, graph.names(trip.path), trip.type, line=trip.line) for trip in trips]
 
 
 def write_routes(path: str, trips: Trips, graph: Graph) -> None:
-    """Writes a file of routes, with the trips' types, as SUMO and streetsim-import take it. Trips keep the attributes
-    of their files, and those of their stops that lie on their ways, one after the other."""
+    """Writes a file of routes, with the trips' types, as SUMO and streetsim-import take it (gzip where the name ends
+    with .gz); Fault where it cannot be written. Trips keep the attributes of their files, and those of their stops that
+    lie on their ways, one after the other."""
     with whole_file(path) as file:
         file.write("<routes>\n" + "".join(f"    {one}\n" for one in trips.types))
         for trip in trips.all:
@@ -228,7 +232,7 @@ def attributes_in(trip: Trip) -> dict[str, str]:
 
 def calls_on(trip: Trip, edges: Sequence[str]) -> Iterator[str]:
     """The elements, XML texts, of a trip's stops that lie on a way (edges), each on the edge of the one before it or
-    further on; SUMO refuses others."""
+    further on, or whose edge is not known; SUMO refuses others."""
     at = 0
     for edge, text in trip.calls:
         if edge in edges[at:]:
