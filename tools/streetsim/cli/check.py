@@ -136,7 +136,8 @@ def made_again(words: argparse.Namespace, seal: Seal, place: str) -> str:
 
 
 def check_folder(words: argparse.Namespace, study: bool) -> int:
-    """Checks a folder of a run, or of a study, and prints the result; gives the status as `main` does."""
+    """Checks a folder of a run, or of a study, and prints the result; gives the status as `main` does. Fault where the
+    folder does not keep what made it."""
     counts = Compared()
     with tempfile.TemporaryDirectory() as place, Slow(f"running again what made {words.target}"):
         with contextlib.redirect_stdout(io.StringIO()), contextlib.redirect_stderr(io.StringIO()):

@@ -47,8 +47,8 @@ def is_study(folder: str) -> bool:
 
 
 def study_again(words: argparse.Namespace, out: str) -> str:
-    """Makes the study of the folder `words.target` again, into `out`, which it gives; Fault where its file has changed
-    since."""
+    """Makes the study of the folder `words.target` again, into `out`, which it gives; Fault where its file is gone or
+    has changed since."""
     made = read_json(f"{words.target}/{MADE}", ("study", "sum", "words"))
     path = words.study or os.path.join(words.target, made["study"])
     if sum_of(path) != made["sum"]:

@@ -8,8 +8,8 @@ from typing import NoReturn
 
 
 def start(module: str) -> NoReturn:
-    """Imports a tool's module, by its name below cli, and runs it. A Ctrl-C before that ends the command in silence:
-    nothing is begun."""
+    """Imports a tool's module, by its name below cli, runs it, and ends the process with its status. A Ctrl-C before
+    that ends the command in silence, with status 130: nothing is begun."""
     # A command that a script has put into the background does not hear interrupts.
     hears = signal.getsignal(signal.SIGINT) is signal.default_int_handler
     if hears:

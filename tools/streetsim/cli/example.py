@@ -48,7 +48,7 @@ def counted(files: int) -> str:
 
 def main(arguments: list[str]) -> int:
     """Runs streetsim-example: copies the files of the example and prints how many, or prints which examples there are;
-    gives status 0. Fault for an unknown one."""
+    gives status 0. Fault for an unknown one, and where a file would be written over."""
     words = parser().parse_args(arguments)
     known = examples()
     if words.name is None:

@@ -27,8 +27,8 @@ def parser() -> Parser:
 
 
 def main(arguments: list[str]) -> int:
-    """Runs streetsim-export: writes the file, and prints what is in it; gives status 0. Fault for a name with another
-    ending, and where ogr2ogr or a projection is lacking."""
+    """Runs streetsim-export: writes the file, and prints what is in it; gives status 0. Fault for a folder of no run,
+    for a name with another ending, and where ogr2ogr or a projection is lacking."""
     words = parser().parse_args(arguments)
     ending = os.path.splitext(words.output)[1].lower()
     if ending not in (".geojson", ".gpkg"):

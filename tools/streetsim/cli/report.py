@@ -215,7 +215,7 @@ def sheets_told(plans: Sequence[Runs], timings: Sequence[Timings], asked: str) -
 
 def interval_of(all_runs: Sequence[Runs], words: argparse.Namespace) -> tuple[int, int]:
     """The interval (begin, end), in seconds, that is shown and that all plans have: the one of --begin, else the
-    busiest, else the first. Fault where there is none."""
+    busiest of the first plan, else the first. Fault where there is none."""
     common = set(all_runs[0].intervals()).intersection(*(runs.intervals() for runs in all_runs))
     if not common:
         raise Fault("the runs have no interval in common")

@@ -74,7 +74,8 @@ def run_by(words: argparse.Namespace, given: Sequence[str], again: Sequence[str]
 
 
 def refuse_unused(words: argparse.Namespace, run: Run, mapping: Map) -> None:
-    """Fault for words of road works in a run that has none, and for --merge none where there are no stops either."""
+    """Fault for --lost and --works-limit without --close, and for --merge none in a run that has neither works nor
+    stops."""
     for name in ("lost", "works_limit"):
         if getattr(words, name) and not words.close:
             raise Fault(f"--{name.replace('_', '-')} is of road works: give --close too")
@@ -91,7 +92,8 @@ def write_inputs(words: argparse.Namespace, folder: str, run: Run, mapping: Map)
 
 def with_priority(words: argparse.Namespace, run: Run, mapping: Map, settings: Settings) -> Settings:
     """The settings with lights that wait for the vehicles of --priority, unchanged where it is not given; Fault where a
-    word of it means nothing."""
+    name has no vehicle, for --seen without it, and for --lights listed beside it in a map with lights that detectors
+    drive."""
     names = listed(words.priority)
     if not names:
         if words.seen is not None:
@@ -118,7 +120,8 @@ def settings_of(words: argparse.Namespace, run: Run) -> Settings:
 
 
 def making_of(words: argparse.Namespace) -> Making:
-    """How the words ask for a run to be made: by which program, and with which outputs."""
+    """How the words ask for a run to be made: by which program, and with which outputs; Fault where there is no
+    program."""
     simulator = program.find_program(words.program)
     return Making(simulator, words.rounds, words.workers, words.jobs, words.sumo_output, words.junctions)
 

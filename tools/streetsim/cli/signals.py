@@ -191,7 +191,7 @@ def bounds_found(
 
 def changes_of(words: argparse.Namespace) -> tuple[list[str], range]:
     """(what may be changed, of CHANGES; cycles to try, in seconds), an empty range where cycles stay; Fault where the
-    words name others."""
+    words name others, and for --cycle where cycles stay or that is no S-S."""
     changed = listed(words.change)
     if unknown := [name for name in changed if name not in CHANGES]:
         raise Fault(f"--change: {unknown[0]!r} is none of {', '.join(CHANGES)}")
@@ -272,7 +272,8 @@ def corridor_of(words: argparse.Namespace, town: Town) -> Corridor | None:
 
 def search_seeds(words: argparse.Namespace, runner: Runner, tried: Sequence[int]) -> Sequence[int]:
     """The seeds of the search: those of --seeds, else the first of `tried`, as many as the spread of runs of the given
-    plan asks for. Makes these runs; prints which, and why. Fault where --budget is below them."""
+    plan asks for. Makes these runs, with the seeds `tried`, in both cases; prints which seeds, and why. Fault where
+    --budget is below them."""
     means = list(runner.means([runner.town.plan], tried))
     needed = seeds_for(means)
     seeds = seeds_of(words.seeds, "--seeds") if words.seeds else tried[:needed]

@@ -66,15 +66,17 @@ class Folder:
         return tables.read_table(f"{self.path}/{tables.PHASES_FILE}", tables.PHASES)
 
     def polls(self) -> Iterator[Frame]:
-        """What stood on the lanes at each poll, rising: {"clock", "lanes": [link, lane, [[car, cell, speed], ..], [cars
-        in the buffer], closed stretches]}; the size of a car stands after its speed where it is above 1. Lanes with
-        nothing on them, behind them and closed are left out, as are those that were not polled."""
+        """What stood on the lanes at each poll, rising: {"clock", "lanes": [[link, lane, [[car, cell, speed], ..], [car
+        in the buffer, ..], [[first, last cell closed], ..]], ..]}; car: its number in the run file; the size of a car
+        stands after its speed where it is above 1. Lanes with nothing on them, behind them and closed are left out, as
+        are those that were not polled. Fault where the file is not there."""
         path = f"{self.path}/lanes.jsonl.gz"
         with reading(path), open_text(path) as file:
             yield from map(json.loads, file)
 
     def links_along(self, edges: Iterable[str]) -> list[list[int]]:
-        """For each edge of a path, in its order, the numbers of its links; Fault where the map has no such edge."""
+        """For each edge of a path, in its order, the numbers of its links; Fault where the map has no such edge. edges:
+        a list or tuple, as it is read twice."""
         for edge in edges:
             if edge not in self.mapping.links_of:
                 raise Fault(f"{self.path}: the map has no edge {edge!r}")

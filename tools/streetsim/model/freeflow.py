@@ -11,8 +11,9 @@ FAR = 1_000  # cells, after which a vehicle alone has its mean speed
 
 
 class FreeFlow:
-    """Seconds of plans: cells at the free speed, and the residence at each node crossed. It leaves out the part of a
-    second that is lost at a link's end, and how a vehicle gains speed: what routes and searches reckon with."""
+    """Seconds of plans: cells at the free speed (driving, by link), and the residence at each node crossed (crossing,
+    by the link before it). It leaves out the part of a second that is lost at a link's end, and how a vehicle gains
+    speed: what routes and searches reckon with."""
 
     def __init__(self, mapping: Map, dawdle: float) -> None:
         """dawdle: the chance, 0 to 1, to go on by a cell a step less."""

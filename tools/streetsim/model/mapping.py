@@ -110,7 +110,7 @@ class Map:
         return [(number, lane) for number, link in enumerate(self.links) for lane in range(len(link.lanes))]
 
     def written(self) -> Json:
-        """The content of the map's file, as JSON, which `map_from` reads."""
+        """The content of the map's file, a dict to be dumped as JSON, which `map_from` reads."""
         return {
             "nodes": self.nodes,
             "links": [list(asdict(link).values()) for link in self.links],
@@ -141,7 +141,7 @@ def read_map(path: FilePath) -> Map:
 
 
 def map_from(path: FilePath, value: Json) -> Map:
-    """The map of the content of its file; path: for the Fault where it is no map."""
+    """The map of the content of its file, as `Map.written` gives it; path: for the Fault where it is no map."""
     try:
         detectors = [Detector(*detector) for detector in value.get("detectors", ())]
         links, turns = [MapLink(*link) for link in value["links"]], [MapTurn(*turn) for turn in value["turns"]]

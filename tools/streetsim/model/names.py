@@ -19,7 +19,7 @@ class Names:
     """The names behind the ids of a map."""
 
     def __init__(self, mapping: Map) -> None:
-        """mapping: whose names they are, those of one's own (`read_own`) among them."""
+        """mapping: whose names they are; those of one's own are among them where `read_own` put them there before."""
         self.mapping = mapping
         self.edges: Mapping[str, str] = mapping.names.get(EDGES, {})
         self.junctions: Mapping[str, str] = mapping.names.get(JUNCTIONS, {})
@@ -101,7 +101,7 @@ def wind(begin: Sequence[float], end: Sequence[float]) -> str:
 
 def write_named(path: FilePath, header: Sequence[str], rows: Iterable[Entry], names: Names) -> None:
     """Writes a table as CSV; where the map has names, beside each column of ids stands one of names, with _name at its
-    end."""
+    end. Fault where it cannot be written."""
     columns = {header.index(name): called for name, called in names.columns().items() if name in header and names}
     head = [text for at, name in enumerate(header) for text in ([name, name + SUFFIX] if at in columns else [name])]
     named = ([one for at, own in enumerate(row) for one in beside(columns.get(at), own)] for row in rows)
@@ -115,8 +115,8 @@ def beside(called: Callable[[str], str] | None, cell: object) -> list[object]:
 
 def read_own(path: FilePath, mapping: Map) -> None:
     """Adds names of one's own to a map, in place of those that it has; an empty name takes one away. The file is a CSV
-    with the columns id (of an edge, junction or light) and name; Fault where an id is unknown or stands twice, and
-    where a line has another number of columns."""
+    with the columns id (of an edge, a junction, or a light for its junction) and name; Fault where it cannot be read,
+    has other columns, or an id is unknown or stands twice."""
     edges, junctions = dict(mapping.names.get(EDGES, {})), dict(mapping.names.get(JUNCTIONS, {}))
     nodes = {name for name, *_ in mapping.nodes} | {light for light, _ in mapping.signals}
     lights = {light: mapping.nodes[node][0] for light, node in mapping.signals}

@@ -46,15 +46,15 @@ class Run:
 
 
 def read_run(path: FilePath) -> Run:
-    """The run of a file; Fault where its first line is no load, or any is no command of a run; blank lines are left
-    out."""
+    """The run of a file; Fault where it cannot be read, its first line is no load, or any is no command of a run; blank
+    lines are left out."""
     with reading(path), open_text(path) as file:
         return run_of_texts(path, file)
 
 
 def read_with_map(run_path: FilePath, map_path: FilePath) -> tuple[Run, Map]:
-    """(run, map of its names); Fault where the map belongs to another run, by the links, how many vehicles there are,
-    and where these begin and end."""
+    """(run, map of its names); Fault where a file is none of its kind, or the map belongs to another run, by the links,
+    how many vehicles there are, and where these begin and end."""
     run, mapping = read_run(run_path), read_map(map_path)
     links = [
         [at, link.begin, link.end, len(link.lanes), link.cells, link.limit] for at, link in enumerate(mapping.links)
@@ -91,7 +91,8 @@ def run_of_texts(path: FilePath, texts: Iterable[str]) -> Run:
 
 
 def run_of(path: FilePath, lines: Sequence[Line]) -> Run:
-    """The run of some lines, of which the first is the load; others may stand in any order. path: for faults."""
+    """The run of some lines, of which the first is the load; others may stand in any order. path: of the file, kept for
+    faults."""
     run = Run(path, lines[0])
     for line in lines[1:]:
         if line.command["cmd"] == "enter":
@@ -135,8 +136,8 @@ def timed_text(clock: int, line: Line) -> str:
 
 
 def line_of(path: FilePath, number: int, text: str) -> Line:
-    """The line of a text; number: in the file, from 1, which is 0 where the line is marked as one of works. Fault where
-    it is no command, or one that streetsim-run sends itself."""
+    """The line of a text; number: in the file, from 1; a line that is marked as one of works gets 0. Fault where it is
+    no command, or one that streetsim-run sends itself."""
     try:
         command = json.loads(text)
         if (

@@ -24,7 +24,8 @@ class Sources:
 
     def written(self, map_path: str, lines: Iterable[str]) -> dict:
         """What a map keeps of them: net, additional, routes and trips, the paths as seen from the map's folder; sums,
-        the SHA-256 of each file's bytes in the order of `paths`; run, that of the run's lines."""
+        the SHA-256 of each file's bytes in the order of `paths`; run, that of the run's lines. Fault where a file
+        cannot be read."""
         beside = partial(os.path.relpath, start=os.path.dirname(os.path.realpath(map_path)))
         return {
             "net": beside(self.net),
@@ -38,7 +39,7 @@ class Sources:
 
 def sources_of(kept: dict, map_path: FilePath, run_path: FilePath) -> Sources:
     """The sources that a map keeps (`kept`, of `Sources.written`). Fault where it keeps none, or one of the files, or
-    the run, has changed since the import."""
+    the run, is gone or has changed since the import."""
     if not kept:
         raise Fault(f"{map_path}: does not name the files that it was imported from")
     beside = partial(os.path.join, os.path.dirname(os.path.realpath(map_path)))

@@ -45,7 +45,8 @@ JUNCTIONS = ("begin", "end", "junction", "control", *LOST, "queue_max_m", "v_c",
 
 
 def write_table(path: FilePath, header: Sequence[str], rows: Iterable[Iterable[object]]) -> None:
-    """Writes a table as CSV, whole or not at all; empty cells stand for what is not known."""
+    """Writes a table as CSV; empty cells stand for what is not known. Fault, and the file as it was, where it cannot be
+    written."""
     with whole_file(path) as file:
         writer = csv.writer(file, lineterminator="\n")
         writer.writerow(header)
@@ -53,8 +54,8 @@ def write_table(path: FilePath, header: Sequence[str], rows: Iterable[Iterable[o
 
 
 def read_table(path: FilePath, header: Sequence[str]) -> list[dict[str, str]]:
-    """The rows of a CSV table, as texts by column; Fault where it has other columns than `header` (columns of names,
-    which end in _name, may stand among them), or a text where a number belongs."""
+    """The rows of a CSV table, as texts by column; Fault where it cannot be read, has other columns than `header`, a
+    tuple (columns of names, which end in _name, may stand among them), or a text where a number belongs."""
     with reading(path), open_text(path) as file:
         rows = csv.DictReader(file)
         if tuple(name for name in rows.fieldnames or () if name in header or not name.endswith("_name")) != header:

@@ -70,7 +70,7 @@ class Timing:
                 yield one, other, count
 
     def written(self) -> Json:
-        """The program as JSON, which `timing_of` reads."""
+        """The program as a dict to be dumped as JSON, which `timing_of` reads."""
         return {
             "light": self.light, "junction": self.junction, "offset": self.offset,
             "phases": [[*phase] for phase in self.phases],
@@ -80,7 +80,7 @@ class Timing:
 
 
 def timing_of(value: Json) -> Timing:
-    """The program of the JSON that `Timing.written` gave."""
+    """The program of the dict that `Timing.written` gave."""
     return Timing(
         value["light"], value["junction"], value["offset"], [(seconds, state) for seconds, state in value["phases"]],
         value["kind"], [Movement(edge, to, tuple(places)) for edge, to, places in value["movements"]],
@@ -101,8 +101,8 @@ def runs_of(signs: str, those: str) -> list[tuple[int, int]]:
 
 
 def intergreen(first: str, second: str) -> int | None:
-    """The least seconds from the end of any green of one movement to the next begin of the other's; first, second: a
-    letter for each second of the cycle. None where both have green together, or one has none."""
+    """The least seconds from the end of any green of the first movement to the next begin of a green of the second;
+    first, second: a letter for each second of the cycle. None where both have green together, or one has none."""
     count = len(first)
     if any(one in OPEN and other in OPEN for one, other in zip(first, second, strict=True)):
         return None

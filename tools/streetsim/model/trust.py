@@ -88,8 +88,9 @@ def due_at(clock: int, run: Run, mapping: Map) -> int:
 
 
 def of_missing(arrived: Mapping[str, float], due: float) -> list[str]:
-    """What speaks against the means of several runs, because many vehicles that had the time to arrive have not, and
-    count until the end in such means. arrived: {name of the runs: vehicles}; due: how many had the time to arrive."""
+    """What speaks against the means of several runs, a text each, because more than a tenth of the vehicles that had
+    the time to arrive have not, and count until the end in such means. arrived: {name of the runs: vehicles}; due: how
+    many had the time to arrive."""
     late = {name: due - count for name, count in arrived.items() if due - count > MOST_LATE * due}
     told = "vehicles that had the time to arrive have not"
     return [f"{name} {missing:,.0f} of {due:,.0f} {told}".strip() for name, missing in late.items()]
@@ -98,9 +99,8 @@ def of_missing(arrived: Mapping[str, float], due: float) -> list[str]:
 def doubts(
     trips: Trips, rescues: int, censuses: Sequence, run: Run, mapping: Map, listed: Sequence[str]
 ) -> list[str]:
-    """What speaks against a run, each in some words; empty where it is to be trusted. rescues: of all vehicles
-    together; censuses: of each minute; listed: lights that SUMO times by detectors and that show their listed
-    seconds."""
+    """What speaks against a run, each in some words; empty where it is to be trusted. rescues: how many in all;
+    censuses: of each minute; listed: lights that SUMO times by detectors and that show their listed seconds."""
     found = [*of_rescues(trips, rescues), *of_arrivals(trips), *of_entries(trips, censuses)]
     found += of_works(works_in(run, mapping), [(trips.clock, trips.gone())])
     return [*found, *of_lengths(trips.clock, run, mapping), *of_actuated(trips.clock, run, mapping, listed)]
@@ -133,8 +133,9 @@ def of_entries(trips: Trips, censuses: Sequence) -> Iterator[str]:
 
 
 def of_waiting(waiting: Mapping[str, Sequence[tuple[int, int]]], vehicles: int) -> Iterator[str]:
-    """What speaks against the means of several runs, because at their worst minute more than a twentieth of the
-    vehicles waited to enter. waiting: {name of the runs: (vehicles that waited, clock) of each}."""
+    """What speaks against the means of several runs, a text each, because at their worst minutes more than a twentieth
+    of the vehicles, by the mean over the runs, waited to enter. waiting: {name of the runs: (vehicles that waited,
+    clock) of each}; vehicles: how many a run has."""
     for name, runs in waiting.items():
         count, clock = (fmean(column) for column in zip(*runs, strict=True))
         if count > MOST_WAITING * vehicles:
@@ -143,7 +144,8 @@ def of_waiting(waiting: Mapping[str, Sequence[tuple[int, int]]], vehicles: int) 
 
 
 def works_in(run: Run, mapping: Map) -> Iterator[tuple[str, int]]:
-    """For each line of a run that closes lanes for works: (SUMO's id of the lane, clock at which it is sent)."""
+    """For each line by which the tools close a lane for works: (SUMO's id of the lane, clock at which it is sent).
+    Closures that the author of a run file wrote are passed over."""
     for clock, line in run.timed:
         if line.number == 0 and line.command["cmd"] == "close":
             yield mapping.lane_name(line.command["link"], line.command["lane"]), clock
@@ -168,8 +170,8 @@ def plans_before(clock: int, run: Run) -> list[list[int]]:
 
 
 def of_actuated(clock: int, run: Run, mapping: Map, lights: Sequence[str]) -> Iterator[str]:
-    """A doubt where more than a tenth of the vehicles pass `lights`, which SUMO times by detectors and which show their
-    listed seconds here."""
+    """A doubt where more than a tenth of the vehicles that wish to depart before a clock pass `lights`, which SUMO
+    times by detectors and which show their listed seconds here."""
     ways = {(turn.link, turn.next): turn.light for turn in mapping.turns if turn.light and turn.light in lights}
     plans = plans_before(clock, run) if ways else []
     passed = [{ways[pair] for pair in pairwise(plan) if pair in ways} for plan in plans]
@@ -193,8 +195,8 @@ def of_crowded(vehicles: int, crowded: Mapping[str, int]) -> Iterator[str]:
 
 
 def of_lengths(clock: int, run: Run, mapping: Map) -> Iterator[str]:
-    """A doubt where the routes of those that departed are by more than a tenth longer or shorter than in SUMO, as edges
-    are whole cells."""
+    """A doubt where the routes of those that wish to depart before a clock are, together, by more than a tenth longer
+    or shorter than in SUMO, as edges are whole cells."""
     here = [link.cells * link.cell_metres for link in mapping.links]
     there = [link.metres for link in mapping.links]
     plans = plans_before(clock, run)
@@ -209,11 +211,12 @@ def of_lengths(clock: int, run: Run, mapping: Map) -> Iterator[str]:
 
 
 def write_doubts(folder: str, found: Sequence[str]) -> None:
-    """Writes to a folder why a study or a search is not to be trusted, in a setting.json as that of a run."""
+    """Writes to a folder why a study or a search is not to be trusted (found, empty where it is), in a setting.json as
+    that of a run."""
     with whole_file(f"{folder}/{NAME}") as file:
         json.dump({"not_trusted": list(found)}, file, separators=(",", ":"))
 
 
 def verdict(found: Sequence[str]) -> str:
-    """The line that says that a run is not to be trusted, and why."""
+    """The line that says that a run is not to be trusted, and why; found: the reasons, one at least."""
     return f"not to be trusted: {'; '.join(found)}"

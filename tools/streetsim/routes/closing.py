@@ -44,8 +44,8 @@ def shut_edges(
     works: Iterable[Works], graph: Graph, mapping: Map, dawdle: float
 ) -> dict[int, list[tuple[float, float]]]:
     """{number of an edge in the graph: the (first, last) seconds in which it is not to be entered}: while all its lanes
-    are closed, and so shortly before that one would not come past the works. dawdle: the chance, 0 to 1, to go on by a
-    cell less."""
+    are closed, and so shortly before that one would not come past the works; edges that keep an open lane are left out.
+    dawdle: the chance, 0 to 1, to go on by a cell less."""
     driving, links = FreeFlow(mapping, dawdle).driving, shut_links(sites_of(works, mapping), mapping)
     found = {}
     for edge in dict.fromkeys(mapping.links[link].edge for link in links):
@@ -79,8 +79,8 @@ def knows(name: str, share: float, seed: int) -> bool:
 
 def turn_off(trips: Iterable[Trip], closing: Closing, graph: Graph, costs: Costs, strict: bool) -> int:
     """Gives other ways to trips that would come to something shut: they turn off before it and go on by the way that is
-    shortest without traffic. Gives how many trips have other ways now. strict: Fault where a trip has no such way;
-    without it the trip keeps its way and waits."""
+    shortest without traffic. Gives how many trips have other ways now. costs: by which it is reckoned when a trip comes
+    where; strict: Fault where a trip has no such way; without it the trip keeps its way and waits."""
     router, without, turned = Router(graph, costs, closing.shut), flat_costs(graph, closing.free), 0
     free = {what: Router(graph, without, {**closing.shut, what: [(-FAR, FAR)]}) for what in closing.shut}
     for trip in trips:

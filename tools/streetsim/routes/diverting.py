@@ -72,7 +72,7 @@ class Diverted:
             yield from trust.of_works([(one.lane, one.first) for one in works], ends)
 
     def named_doubts(self) -> list[str]:
-        """The texts of doubts, each after the label where there are works."""
+        """The texts of doubts, each after the label where these runs have works; those of "before" stand alone."""
         return [f"{self.label}: {text}" if self.search.town.works else text for text in self.doubts()]
 
 
@@ -105,9 +105,9 @@ def give_ways(trips: Sequence[Trip], before: Trips, graph: Graph, where: str) ->
 
 
 def check_works(texts: Sequence[str], signs: Sequence[str], trips: Sequence[Trip], town: Town, until: int) -> None:
-    """Refuses by a Fault, before anything runs, works that end by the start or begin after until (clocks, seconds),
-    signs on unknown edges, and trips that begin on an edge while it is closed. Which trips end on a closed edge is
-    known only after the runs without works."""
+    """Refuses by a Fault, before anything runs, works (texts, as --close takes them) that name no lane of the network,
+    end by the start or begin at until (a clock in seconds) or later, signs on unknown edges, and trips that begin on an
+    edge while it is closed. Which trips end on a closed edge is known only after the runs without works."""
     mapping = map_without_routes(town.net, town.options)
     works = [works_of(text, mapping) for text in texts]
     if over := [one.text for one in works if one.last <= town.options.begin]:
@@ -151,7 +151,7 @@ def diverted(
 ) -> Iterator[Diverted]:
     """For each share (0 to 1) of drivers who know of the works, what a search of its own gives; each begins with the
     ways before and is judged by the check seeds. told: gets a label and an iteration, and gives whether the user asks
-    for an end."""
+    for an end. Fault where a trip has no way round the works."""
     first = before.search
     town = town_with_works(first.town, closing.asked)
     for share in shares:

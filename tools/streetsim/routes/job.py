@@ -66,7 +66,8 @@ class Job:
 def found_routes(job: Job, workers: Team, stopping: Stopping) -> list[Diverted]:
     """Searches, and judges what was found by the check seeds; gives the ways without works, and after them one result
     for each share of drivers who know of the works. Without works there is the first alone. The trips of the job get
-    the ways without works; iterations and warnings are printed on standard error."""
+    the ways without works; iterations and warnings are printed on standard error. Fault where a trip has no way, or
+    none round the works."""
     works, count = job.works, len(job.trips.all)
 
     def told(label: str, iteration: Iteration) -> bool:
@@ -93,8 +94,9 @@ def found_routes(job: Job, workers: Team, stopping: Stopping) -> list[Diverted]:
 
 
 def write(job: Job, all_: Sequence[Diverted]) -> None:
-    """Writes the routes, the run with its map where they are asked for, and the folder of tables and pictures, whole or
-    not at all; where there are many shares, routes, runs and tables of each."""
+    """Writes the routes, the run with its map where they are asked for, and the folder of tables and pictures, one
+    after the other, each whole or not at all (Fault); where there are many shares, routes, runs and tables of each.
+    all_: as found_routes gives it."""
     target, many = job.target, len(all_) > 2
     for one in all_[len(all_) > 1 :]:
         write_routes(placed(target.routes, one.share, many), Trips(list(one.trips), job.trips.types), job.town.graph)
@@ -122,8 +124,8 @@ def write_run_of(one: Diverted, run_path: str, map_path: str) -> None:
 
 
 def setting_of(job: Job, one: Diverted, before: Diverted) -> dict:
-    """What setting.json has: what was asked for, what the search came to, and why it is not to be trusted. before: the
-    result without works."""
+    """What setting.json has beside `figures` of the check runs: what was asked for, what the search came to, and why it
+    is not to be trusted. before: the result without works."""
     works, setting = job.works, job.words | {"import": asdict(job.town.options)}
     setting |= {"until": job.ground.until, "iteration": one.search.best.number, "not_trusted": list(one.doubts())}
     if works.close:

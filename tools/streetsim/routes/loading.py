@@ -50,7 +50,8 @@ class Town:
 
     def loaded(self, trips: Sequence[Trip]) -> Loaded:
         """The run of trips that have ways, with the town's works. Permissive greens and the choice of lanes follow the
-        routes, so it is imported anew each time; Fault where a trip cannot drive."""
+        routes, so it is imported anew each time; Fault where a trip cannot drive, or a limit of the program is
+        passed."""
         run, mapping = self.imported(trips, ())
         if self.works:
             run, mapping, _ = self.with_works(trips, run, mapping)
@@ -89,8 +90,9 @@ class Town:
 
 
 def read_town(net_path: str, additional: Sequence[str], options: Options, report: Report) -> Town:
-    """The network of a file, with the signal programs and vehicle types of additional files. Fault where the options
-    cut edges in parts (--slow), since ways are searched on whole edges."""
+    """The network of a file, with the signal programs and vehicle types of additional files. Fault where a file cannot
+    be read, and where the options cut edges in parts (--slow), since ways are searched on whole edges. report: gets
+    what is to be told of the files."""
     if options.slow:
         raise Fault("ways are searched on whole edges: import the run without --slow")
     net, types = read_net(net_path, options.classes, report), Types(options.seed, report)
@@ -100,7 +102,8 @@ def read_town(net_path: str, additional: Sequence[str], options: Options, report
 
 
 def write_loaded(loaded: Loaded, run_path: str, map_path: str) -> None:
-    """Writes a run and its map to files, as streetsim-import makes them, with the lines of its works."""
+    """Writes a run and its map to files, as streetsim-import makes them, with the lines of its works; Fault where one
+    cannot be written."""
     run = loaded.run
     timed = [json.dumps({"at": clock, **line.command}, separators=(",", ":")) for clock, line in run.timed]
     texts = [run.load.text, *(line.text for line in run.first), *timed, *(line.text for line in run.enters)]

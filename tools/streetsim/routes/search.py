@@ -136,7 +136,7 @@ class Search:
         self.passed: list[Passed] = []  # by seed, when those passed who go first, in the last run
 
     def start(self, seed: int) -> None:
-        """Gives first ways to all trips where any has none; Fault where a trip has no way. seed: of the choices among
+        """Gives first ways to the trips that have none; Fault where there is no way for one. seed: of the choices among
         them."""
         if any(not trip.path for trip in self.trips):
             free, capacity = times_without_routes(self.town.net, self.town.graph, self.town.options)

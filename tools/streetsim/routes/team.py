@@ -29,8 +29,8 @@ class Team:
     def runs(
         self, cases: Sequence[Loaded], expected: Costs, seeds: Sequence[int], passed: Sequence[Passed | None]
     ) -> list[list[Outcome]]:
-        """What runs of some cases with each seed show, by case and then by seed. passed: for each seed, when those who
-        go first passed in the run before; None where nobody waits for them."""
+        """What runs of some cases with each seed show, by case and then by seed. expected: as of watched; passed: for
+        each seed, when those who go first passed in the run before; None where nobody waits for them."""
         pairs = list(zip(seeds, passed, strict=True))
         tasks = [
             (f"the run with seed {seed}", watched, 0, loaded.run, loaded.mapping, expected, seed, before)
@@ -41,7 +41,7 @@ class Team:
 
     def checks(self, loaded: Loaded, expected: Costs, seeds: Sequence[int]) -> list[Outcome]:
         """The outcomes of runs with each seed, each of which first finds its own gaps for those who give way without a
-        light."""
+        light. expected: as of watched."""
         tasks = [
             (f"the run with seed {seed}", checked, 0, loaded.run, loaded.mapping, expected, seed) for seed in seeds
         ]

@@ -144,15 +144,16 @@ class Watcher(Recorder):
 
 
 def watched(ground: Ground, run: Run, mapping: Map, expected: Costs, seed: int, passed: Passed | None) -> Outcome:
-    """Makes one run with a seed and gives what it showed. expected: costs by which time lost between two sights is
-    dealt out; passed: when those who go first passed in the run before, None: nobody waits for them."""
+    """Makes one run with a seed and gives what it showed; a task of a worker. expected: costs by which time lost
+    between two sights is dealt out; passed: when those who go first passed in the run before, None: nobody waits for
+    them. Fault as of observed_run."""
     lines = waiting_lines(passed, mapping, run.start()) if passed else []
     return observed_run(ground, with_lines(seeded(run, seed), lines), mapping, expected, seed)
 
 
 def checked(ground: Ground, run: Run, mapping: Map, expected: Costs, seed: int) -> Outcome:
     """Makes one run with a seed, in which vehicles give way by rounds with this seed alone, as in streetsim-run, and
-    gives what it showed. expected: as of watched."""
+    gives what it showed; a task of a worker. expected, Fault: as of watched."""
     run, serve = seeded(run, seed), partial(serving, ground.program, run.path)
     settings = Settings(ground.until, lights=ground.lights(run, mapping))
     lines, _ = gaps_of(run, mapping, settings, ground.rounds, serve, lambda *_: None)
@@ -160,8 +161,8 @@ def checked(ground: Ground, run: Run, mapping: Map, expected: Costs, seed: int) 
 
 
 def observed_run(ground: Ground, run: Run, mapping: Map, expected: Costs, seed: int) -> Outcome:
-    """Makes a run as it is and gives what it showed; Fault where the program refuses it. seed: named in the Fault, no
-    more; expected: as of watched."""
+    """Makes a run as it is and gives what it showed; Fault where the program refuses it or ends. seed: named in the
+    Fault, no more; expected: as of watched."""
     before, giving = resource.getrusage(resource.RUSAGE_CHILDREN), bool(ground.rounds and mapping.yields)
     try:
         with Client(ground.program) as sim:

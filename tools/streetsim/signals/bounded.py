@@ -49,8 +49,9 @@ class Ground:
 
 
 def ground_of(reading: Reading, town: Town) -> Ground:
-    """The ground of a search for bounds. Names on standard error the lights that detectors drive and whose bounds stay
-    as they are; Fault where no light has bounds that may be changed."""
+    """The ground of a search for bounds. Names on standard error the lights that show their listed seconds, with the
+    reasons, and those that detectors drive and whose bounds stay as they are; Fault where no light has bounds that may
+    be changed."""
     lights = driven_lights(town.run, town.mapping)
     given = given_bounds(lights, reading.keep)
     print(*lights.notes(), sep="\n", end="\n" if lights.listed else "", file=sys.stderr)
@@ -69,7 +70,8 @@ def outcomes(
     workers: Machines, tried: Sequence[Bounded], seeds: Sequence[int], place: int = EXACT
 ) -> Iterator[Outcome]:
     """What runs under some bounds gave: the outcomes of the first bounds with each seed, then of the second, and so on.
-    place: of the session that runs them, EXACT or CAREFUL."""
+    workers: with the sessions of a ground; place: of the session that runs them, EXACT or CAREFUL. Fault where a run
+    fails."""
     tasks = [(f"the run with seed {seed}", bounded_outcome, place, one, seed) for one in tried for seed in seeds]
     return workers.ordered(tasks)
 
@@ -77,8 +79,9 @@ def outcomes(
 def searched_bounds(
     asked: Asked, workers: Machines, ground: Ground, tried: Sequence[int]
 ) -> tuple[Search, bool]:
-    """Searches for bounds; gives (search when it has ended, whether the user ended it). tried: seeds for first runs of
-    the given bounds, which say how many of them the search uses; used only where asked.seeds is empty."""
+    """Searches for bounds; gives (search when it has ended, whether the user ended it). workers: with the sessions of
+    the ground; tried: seeds for first runs of the given bounds, which say how many of them the search uses; used only
+    where asked.seeds is empty."""
     cars, meanwhile = len(ground.town.session.departs), Meanwhile("simulations", asked.budget)
     seeds = asked.seeds
     if not seeds:
@@ -104,8 +107,8 @@ def searched_bounds(
 
 
 def verified_bounds(in_sumo: InSumo, ground: Ground, found: Bounded, seeds: Sequence[int], jobs: int) -> Verified:
-    """What SUMO says of the bounds given and of those found, by runs with each seed; jobs: how many run side by
-    side."""
+    """What SUMO says of the bounds given and of those found, by runs with each seed; jobs: how many run side by side.
+    Fault where SUMO fails."""
     with tempfile.TemporaryDirectory() as folder:
         paths = [f"{folder}/{name}.add.xml" for name in ("given", "found")]
         for path, bounded in zip(paths, (ground.given, found), strict=True):
@@ -127,7 +130,7 @@ class Found:
 
     def rows(self, cars: int) -> list[Compared]:
         """The rows of before-after.csv: mean trips (s) as given and as found, under the best plan of seconds and as
-        found, and those of SUMO where it was run. cars: vehicles that depart before the end."""
+        found, and those of SUMO where it was run; of two seeds or more. cars: vehicles that depart before the end."""
         named = {"mean_trip_s": (self.before, self.after), "mean_trip_of_best_fixed_s": (self.fixed, self.after)}
         made: list[Compared] = []
         for name, pair in named.items():
@@ -152,9 +155,9 @@ class Found:
 
 
 def write_found_bounds(output: str, out: str, ground: Ground, found: Found) -> int:
-    """Writes bounds (to the file output) and tables (into the folder out), or nothing where one cannot be written, and
-    prints what was found. Gives the exit status: 0 where the bounds are shown to be better wherever they were run, else
-    1."""
+    """Writes bounds (to the file output) and tables (into the folder out), and prints what was found; Fault, and no
+    table, where one cannot be written. Gives the exit status: 0 where the bounds are shown to be better wherever they
+    were run, else 1."""
     best, rows, doubts = found.search.best[1], found.rows(len(ground.town.session.departs)), [*found.doubts(ground)]
     with whole_folder(out, LAST, ()) as folder:
         told = [(name, *(f"{value:.3f}" for value in values), runs) for name, *values, runs in rows]

@@ -70,7 +70,8 @@ def given_bounds(lights: Lights, keep: Collection[str]) -> Bounded:
 
 
 def of_phases(light: Driven) -> Bounds:
-    """The bounds of an actuated light, without greens whose most is above 600 s."""
+    """The bounds of an actuated light, without greens whose most is above 600 s; its one gap is the greatest of its
+    detectors' gaps, 3 s where it has none."""
     own = ((at, phase.least, phase.most) for at, phase in enumerate(light.phases) if phase.is_extended)
     greens = tuple((at, least, most) for at, least, most in own if most <= limits.PHASE_STEPS)
     return Bounds(greens, (max(light.gaps, default=GAP),))
@@ -86,8 +87,8 @@ def of_rings(light: DrivenRings) -> Bounds:
 
 
 def kept_with(kept: Json, bounds: Bounds) -> Json:
-    """A program as a map keeps it, with other bounds; of a NEMA light the extensions (vehext) too. The one given stays
-    as it is."""
+    """What a map keeps of a program, with other bounds: of an actuated light one max-gap in place of all that it had,
+    those of single lanes too; of a NEMA light the extension (vehext) of each green. The one given stays as it is."""
     phases, timing = ([list(one) for one in kept.get(key, ())] for key in ("phases", "timing"))
     names = [digits(text) for text, *_ in timing]
     for at, (phase, least, most) in enumerate(bounds.greens):
@@ -126,8 +127,9 @@ def key_of(bounded: Bounded) -> tuple[Any, ...]:
 
 
 def search_bounds(search: Search, given: Bounded, lowest: int) -> None:
-    """Searches from given bounds until nothing helps or the search has ended; search.best is then the best. lowest:
-    seconds below which no least green is brought."""
+    """Searches from given bounds: those of for_all, then gaps, mosts and leasts light by light, by both of STEPS. Ends
+    there, or where the search has ended; search.best then has (mean trip in seconds, the best bounds). lowest: seconds
+    below which no least green is brought."""
     try:
         search.cost("given", given)
         best = given
@@ -146,8 +148,8 @@ def search_bounds(search: Search, given: Bounded, lowest: int) -> None:
 
 
 def for_all(given: Bounded, lowest: int) -> Iterator[tuple[str, Bounded]]:
-    """Bounds that are tried for all lights at once, (name of the step, bounds): each gap of GAPS, then all mosts
-    shorter and longer. lowest: as of Bounds.with_green."""
+    """Bounds that are tried for all lights at once, (name of the step, bounds): each gap of GAPS, then all mosts times
+    SHORTER, and times LONGER; a most that Bounds.with_green forbids stays. lowest: as of Bounds.with_green."""
     for gap in GAPS:
         all_ = {name: replace(own, gaps=tuple(gap for _ in own.gaps)) for name, own in given.items()}
         yield f"gaps of {gap:g} s", all_
@@ -176,13 +178,14 @@ def change_of(name: str, change: Change) -> Callable[[Bounded, int], Bounded | N
 
 
 def gap_by(at: int, seconds: float) -> Change:
-    """A change that makes the gap at a place of gaps so many seconds longer (sign 1) or shorter (sign -1)."""
+    """A change that makes the gap at a place of gaps so many seconds longer (sign 1) or shorter (sign -1); it gives
+    None outside GAP_RANGE."""
     return lambda own, sign: own.with_gap(at, own.gaps[at] + sign * seconds)
 
 
 def most_by(at: int, seconds: int, lowest: int) -> Change:
     """A change that makes the most of the green at a place of greens so many seconds longer (sign 1) or shorter (sign
-    -1). lowest: as of Bounds.with_green."""
+    -1); it gives None where Bounds.with_green does. lowest: as there."""
     def change(own: Bounds, sign: int) -> Bounds | None:
         """The bounds with another most; None where Bounds.with_green gives none."""
         _, least, most = own.greens[at]
@@ -193,7 +196,7 @@ def most_by(at: int, seconds: int, lowest: int) -> Change:
 
 def least_by(at: int, seconds: int, lowest: int) -> Change:
     """A change that makes the least of the green at a place of greens so many seconds longer (sign 1) or shorter (sign
-    -1). lowest: as of Bounds.with_green."""
+    -1); it gives None where Bounds.with_green does. lowest: as there."""
     def change(own: Bounds, sign: int) -> Bounds | None:
         """The bounds with another least; None where Bounds.with_green gives none."""
         _, least, most = own.greens[at]
@@ -203,8 +206,9 @@ def least_by(at: int, seconds: int, lowest: int) -> Change:
 
 
 def write_bounds(path: str, mapping: Map, bounded: Mapping[str, Bounds], program: str = "streetsim") -> None:
-    """Writes the programs of some actuated and NEMA lights of a map with other bounds, as SUMO and streetsim-import
-    take them, whole or not at all. program: the programID of each."""
+    """Writes to the file path the programs of some actuated and NEMA lights of a map with other bounds, as SUMO and
+    streetsim-import take them; Fault, and the file as it was, where it cannot be written. program: the programID of
+    each."""
     kept = in_force(mapping.programs)
     with whole_file(path) as file:
         file.write("<additional>\n")
@@ -224,14 +228,16 @@ def write_bounds(path: str, mapping: Map, bounded: Mapping[str, Bounds], program
 def phase_words(
     seconds: float, state: str, least: float | None, most: float | None, following: Sequence[int]
 ) -> list[str]:
-    """The attributes of a <phase>, of what a map keeps of it: seconds; least and most: of minDur and maxDur, seconds,
-    None where not written; following: places of the phases that may come next, empty: the next one."""
+    """The attributes of a <phase> as texts (duration="30" state="GGrr", ..), of what a map keeps of it: seconds; least
+    and most: of minDur and maxDur, seconds, None where not written; following: places of the phases that may come next,
+    empty: the next one."""
     words = [f'duration="{seconds:g}" state="{state}"']
     words += [f'{name}="{value:g}"' for name, value in (("minDur", least), ("maxDur", most)) if value is not None]
     return words + ([f'next="{" ".join(map(str, following))}"'] if following else [])
 
 
 def ring_words(name: str, extension: float, yellow: float, red: float) -> list[str]:
-    """The further attributes of a <phase> of a NEMA light, of what a map keeps of it; times in seconds."""
+    """The further attributes of a <phase> of a NEMA light as texts (name="2", ..), of what a map keeps of it: extension
+    (vehext), yellow and red in seconds."""
     times = (("vehext", extension), ("yellow", yellow), ("red", red))
     return [f"name={quoteattr(name)}", *(f'{key}="{value:g}"' for key, value in times)]

@@ -204,9 +204,9 @@ def waved(plan: Plan, streets: Streets) -> Plan:
 def proposals(
     plan: Plan, lights: Mapping[str, Light], streets: Streets, changed: Collection[str], cycles: Iterable[int]
 ) -> Iterator[tuple[str, Plan]]:
-    """Plans by formula, (name, plan), made only of what may be changed (changed, of CHANGES): each cycle of cycles in
-    seconds, and the given one, with the given splits and with splits by flow, with the given offsets and with a
-    wave."""
+    """Plans by formula, (name, plan): each cycle of cycles in seconds, and the given one, with the given splits and
+    with splits by flow, with the given offsets and with a wave. Splits and offsets are changed only where changed, of
+    planning.CHANGES, has them. cycles: empty where cycles may not change."""
     for cycle in (None, *cycles):
         for loads in (None, streets.loads) if "splits" in changed else (None,):
             if cycle is None and loads is None:

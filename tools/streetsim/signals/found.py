@@ -33,8 +33,9 @@ TRIALS = ("simulations", "step", "mean_trip_s", "best_s")
 def compared(
     town: Town, before: Sequence[Outcome], after: Sequence[Outcome], sumo: Verified | None = None
 ) -> list[Compared]:
-    """The rows of before-after.csv, of runs of the plan given and the plan found with equal seeds: means over all
-    vehicles; one that has not arrived counts until the end. With sumo a last row has SUMO's mean trips."""
+    """The rows of before-after.csv, of runs of the plan given and the plan found with equal seeds, two or more: mean
+    trip and mean loss over all vehicles, in seconds (one that has not arrived counts until the end); how many arrived,
+    and how many waited to enter at the worst minute. With sumo a last row has SUMO's mean trips."""
     cars, free = len(town.session.departs), free_trip(town)
     figures: dict[str, Callable[[Outcome], float]] = {
         "mean_trip_s": lambda one: one.seconds / cars,
@@ -71,8 +72,9 @@ class Target:
 
 
 def write_found(target: Target, town: Town, search: Search, rows: Sequence[Compared], doubts: Sequence[str]) -> None:
-    """Writes the plan to its file, and the tables and pictures into the folder of the target, or nothing where one
-    cannot be written. rows: of before-after.csv; doubts: why the result is not to be trusted, empty where it is."""
+    """Writes the plan to its file, and the tables and pictures, of runs that it makes, into the folder of the target;
+    Fault, and no table, where one cannot be written. rows: of before-after.csv; doubts: why the result is not to be
+    trusted, empty where it is."""
     plan = search.best[1]
     with whole_folder(target.folder, LAST, ("before.png", "after.png")) as folder:
         told = [(name, *(f"{value:.3f}" for value in values), runs) for name, *values, runs in rows]
@@ -87,8 +89,8 @@ def write_found(target: Target, town: Town, search: Search, rows: Sequence[Compa
 
 
 def light_rows(town: Town, plan: Plan) -> Iterator[Entry]:
-    """The rows of lights.csv, as LIGHTS has the columns: each light's cycle, offset and greens that may be stretched,
-    seconds, as given and as found."""
+    """The rows of lights.csv, as LIGHTS has the columns: each light's cycle, offset and greens that may be stretched
+    (one text with blanks between), seconds, as given and as found."""
     for name, light in sorted(town.lights.items()):
         pair = town.plan[name], plan[name]
         greens = (" ".join(str(one.durations[at]) for at in light.free) for one in pair)
@@ -96,8 +98,8 @@ def light_rows(town: Town, plan: Plan) -> Iterator[Entry]:
 
 
 def draw(target: Target, town: Town, plan: Plan, path: str) -> None:
-    """Runs a plan and draws the ways of the vehicles along the target's corridor, with the signals, as a picture at
-    path."""
+    """Runs a plan and draws the ways of the vehicles along the target's corridor, which must not be None, with the
+    signals, as a picture at path."""
     run, shown = replace(town.run, first=town.first_lines(plan)), target.corridor
     assert shown is not None
     settings = Settings(until=min(shown.last + 1, target.until), every=1, rescue=0, edges=tuple(shown.edges))
@@ -114,8 +116,9 @@ def tell(
     doubts: Sequence[str],
     sumo: Verified | None = None,
 ) -> int:
-    """Prints what was found, of the rows of before-after.csv. stopped: the user ended the search; sumo: None where SUMO
-    was not run. Gives the exit status: 0 where the plan is shown to be better wherever it was run, else 1."""
+    """Prints what was found, of the rows of before-after.csv, and warnings on standard error. stopped: the user ended
+    the search; doubts: why the result is not to be trusted, empty where it is; sumo: None where SUMO was not run. Gives
+    the exit status: 0 where the plan is shown to be better wherever it was run, else 1."""
     _, before, after, difference, half, runs = rows[0]
     for text in warnings_of(town, search.best[1]):
         print(f"warning: {text}", file=sys.stderr)
@@ -154,7 +157,8 @@ def verdict(found: Mapping[str, tuple[float, float]], worse: Sequence[str], sear
 
 
 def doubts_of(town: Town, before: Sequence[Outcome], after: Sequence[Outcome], sumo: Verified | None) -> Iterator[str]:
-    """Why a result is not to be trusted, of the runs of the plan given and the plan found; nothing where it is."""
+    """Why a result is not to be trusted, of the runs of the plan given and the plan found; nothing where it is. sumo:
+    None where SUMO was not run, so that greens in which turns find their gaps by formula are a doubt."""
     until, named = town.session.clocks[-1], {"as given": before, "as found": after}
     arrived = {name: fmean(one.arrived for one in runs) for name, runs in named.items()}
     yield from trust.of_missing(arrived, trust.due_at(until, town.run, town.mapping))

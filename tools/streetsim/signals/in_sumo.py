@@ -31,7 +31,7 @@ class Verified:
     teleports: tuple[int, int]
 
     def difference(self) -> tuple[float, float]:
-        """(mean difference, after less before; half the width of its 95 % interval), seconds."""
+        """(mean difference, after less before; half the width of its 95 % interval), seconds; of two seeds or more."""
         mean, half = paired(self.before, self.after)
         assert half is not None
         return mean, half
@@ -68,7 +68,8 @@ class InSumo:
 
     def trips(self, plan: str, seed: int) -> tuple[dict, int]:
         """Runs SUMO with a plan, a file of signal programs, and a seed; gives {vehicle: (wished departure, arrival)} in
-        seconds, of those who arrived, and the number of teleports. Fault where SUMO fails."""
+        seconds, of those who arrived, and the number of teleports. Fault where SUMO fails, or what it wrote cannot be
+        read."""
         with tempfile.TemporaryDirectory() as folder:
             trips, statistic = f"{folder}/trips.xml", f"{folder}/statistic.xml"
             words = self.words(plan, seed, trips, statistic)
@@ -94,13 +95,15 @@ def first_error(text: str) -> str:
 
 
 def teleports_of(path: str) -> int:
-    """The number of vehicles that SUMO moved out of the way (teleports), of its statistic output at path."""
+    """How many times SUMO moved a vehicle out of the way (teleports; one vehicle may count more than once), of its
+    statistic output at path; Fault where that cannot be read."""
     return sum(attribute(path, one, "total", int) for one in elements(path, ["statistics"]) if one.tag == "teleports")
 
 
 def sumo_for(reading: Reading, mapping: Map, run: Run) -> InSumo:
-    """SUMO with the files of the import. Fault where SUMO is not installed, where the files are not those that were
-    imported, or where the first of --plans is another network."""
+    """SUMO with the files of the import, but for those of trips, and the further files of --plans. Fault where SUMO is
+    not installed, where the map names no files or they are not those that were imported, or where the first of --plans
+    is another network."""
     program = shutil.which("sumo")
     if program is None:
         raise Fault("--verify-sumo: SUMO is not installed here (Debian: apt install sumo)")
@@ -116,7 +119,8 @@ def sumo_for(reading: Reading, mapping: Map, run: Run) -> InSumo:
 
 
 def verified(in_sumo: InSumo, town: Town, plan: Plan, seeds: Sequence[int], jobs: int) -> Verified:
-    """What SUMO says of the plan given and of a plan found, by runs with each seed; jobs: how many run side by side."""
+    """What SUMO says of the plan given and of a plan found, by runs with each seed; jobs: how many run side by side.
+    Fault where SUMO fails."""
     with tempfile.TemporaryDirectory() as folder:
         paths = [f"{folder}/{name}.add.xml" for name in ("given", "found")]
         for path, lights in zip(paths, (town.plan, plan), strict=True):
@@ -126,7 +130,7 @@ def verified(in_sumo: InSumo, town: Town, plan: Plan, seeds: Sequence[int], jobs
 
 def verified_files(in_sumo: InSumo, town: Town, paths: Sequence[str], seeds: Sequence[int], jobs: int) -> Verified:
     """What SUMO says of two files of signal programs, by runs with each seed: paths has the file of what was given and
-    that of what was found; jobs: how many run side by side."""
+    that of what was found; jobs: how many run side by side. Fault where SUMO fails."""
     enters = zip(town.mapping.cars, (line.command["depart"] for line in town.run.enters), strict=True)
     departs = {name: depart for name, depart in enters if depart < in_sumo.until}
 
@@ -155,8 +159,8 @@ def add(done: set, place: int) -> int:
 
 
 def mean_trip(trips: dict, departs: dict, until: int) -> float:
-    """The mean trip, in seconds, over the vehicles of departs, {vehicle: wished departure}; one without an arrival in
-    trips counts until the end, as in streetsim."""
+    """The mean trip, in seconds, over the vehicles of departs, {vehicle: wished departure}, one at least; a vehicle
+    that is not in trips, as InSumo.trips gives them, counts until the end (until), as in streetsim."""
     return fmean(
         trips[name][1] - trips[name][0] if name in trips else until - depart for name, depart in departs.items()
     )

@@ -26,7 +26,7 @@ class Flowing:
 
 def read_plans(paths: Sequence[str], mapping: Map) -> SumoNet:
     """The network of the first file, with the signal programs of all files, of which the last of a light counts; edges
-    are in parts as in the map."""
+    are in parts as in the map. Fault where a file cannot be read."""
     report = Report()
     net = read_net(paths[0], tuple(mapping.options["classes"]), report)
     types = Types(mapping.options.get("seed", 1), report)
@@ -57,8 +57,9 @@ class LightLines:
         self.report = Report()  # of what was made, where a light needs more phases than there may be
 
     def of(self, plan: Mapping[str, Timing], lights: Mapping[str, Light]) -> bytes:
-        """The signal lines of a plan as bytes, one for each node of each of its lights; lights: the states of each by
-        name. Notes lights with permissive turns in self.permissive."""
+        """The signal lines of a plan as bytes, one for each node of each of its lights; lights: by name. Notes in
+        self.permissive the lights at which turns must find gaps in a green, and in self.report where one needs more
+        phases than there may be."""
         lines = []
         for name, timing in plan.items():
             key = name, timing.durations

@@ -115,8 +115,7 @@ def bounded(value: Seconds, bound: tuple[int, int]) -> Seconds | int:
 
 
 def light_of(name: str, program: Program, least: int = LEAST) -> tuple[Light, Timing]:
-    """(light of a SUMO program, its timing in whole seconds); least: a green of so many seconds or more may be
-    stretched."""
+    """(light of a SUMO program, its timing in whole seconds); least: as of bounds_of."""
     durations = whole(duration for duration, _ in program.phases)
     given = program.bounds or [(None, None)] * len(durations)
     phases = zip(program.phases, durations, given, strict=True)
@@ -127,8 +126,8 @@ def light_of(name: str, program: Program, least: int = LEAST) -> tuple[Light, Ti
 
 def bounds_of(state: str, given: int, bound: tuple[float | None, float | None], least: int) -> tuple[int, int]:
     """The (least, most) seconds of a phase of given seconds. One with green and no yellow that lasts least seconds or
-    more may be stretched, as far as bound (minDur, maxDur; None: not written) and 600 s allow; each other keeps its
-    length."""
+    more may be changed, from least to 600 s, as far as bound (minDur, maxDur; None: not written) allows; each other
+    keeps its length."""
     low = least if bound[0] is None else round(bound[0])
     high = limits.PHASE_STEPS if bound[1] is None else round(bound[1])
     if not is_green(state) or given < least:
@@ -158,8 +157,9 @@ def why_kept(name: str, program: Program, asked: Collection[str], timed: Collect
 def write_additional(
     path: str, lights: Mapping[str, Light], plan: Mapping[str, Timing], program: str = "streetsim"
 ) -> None:
-    """Writes a plan as SUMO and streetsim-import take it, a whole program for each of its lights, or nothing. program:
-    the programID of each."""
+    """Writes a plan to the file path as SUMO and streetsim-import take it, a whole program for each of its lights;
+    Fault, and the file as it was, where it cannot be written. lights: by name, for the states; program: the programID
+    of each."""
     with whole_file(path) as file:
         file.write("<additional>\n")
         for name, timing in sorted(plan.items()):

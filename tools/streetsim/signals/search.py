@@ -58,7 +58,7 @@ class Search:
     def values(self, steps: Sequence[tuple[str, Any]]) -> list[float]:
         """The values of plans, in their order; steps: (what was tried, plan). Those that are new are run, noted and
         told; a plan that was seen before costs nothing. Raises Ended where the budget does not reach for all of them,
-        after those that it does reach for, or where the user ends it."""
+        after those that it does reach for (spent is then True), or where the user ends it."""
         new: dict[Any, tuple[str, Any]] = {}
         for step, plan in steps:
             if self.key_of(plan) not in self.seen:
@@ -103,8 +103,9 @@ def search_plan(
     changed: Collection[str],
     cycles: Iterable[int],
 ) -> None:
-    """Searches from a given plan until nothing helps or the search has ended; search.best is then the best. changed:
-    what may change, of CHANGES; cycles: those that are proposed, in seconds."""
+    """Searches from a given plan: the proposals by formula, then climb_all from the best of them. Ends there, or where
+    the search has ended; search.best then has (mean trip in seconds, the best plan). changed: what may change, of
+    planning.CHANGES; cycles: those that are proposed, in seconds."""
     try:
         search.cost("given", plan)
         proposed = list(proposals(plan, lights, streets, changed, cycles))
@@ -119,7 +120,8 @@ def climb_all(
     search: Search, plan: Plan, lights: Mapping[str, Light], streets: Streets, changed: Collection[str]
 ) -> None:
     """Climbs from a plan: each light alone, by the four steps of SHARES and SECONDS, then by the last three again,
-    where the offset of a light is first moved together with all lights behind it in the tree."""
+    where the offset of a light is first moved together with all lights behind it in the tree. The best is then in
+    search.best; raises Ended as Search.values does. changed: as of search_plan."""
     passes = [(share, seconds, False) for share, seconds in zip(SHARES, SECONDS, strict=True)]
     passes += [(share, seconds, True) for share, seconds in zip(SHARES[1:], SECONDS[1:], strict=True)]
     for share, seconds, with_groups in passes:
@@ -131,7 +133,8 @@ def climb_all(
 
 def climb_offsets(search: Search, plan: Plan, streets: Streets, share: float, with_groups: bool) -> Plan:
     """Tries other offsets, later and earlier by a share (0 to 1) of the cycle, of each light, the heaviest flow first;
-    where with_groups, first of the light with all that hang behind it, and then of it alone. Gives the best plan."""
+    where with_groups, first of the light with all that hang behind it, and then of it alone. Gives the best plan;
+    raises Ended as Search.values does."""
     for light in streets.order:
         seconds = max(1, round(share * plan[light].cycle))
         if with_groups and len(streets.behind[light]) > 1:
@@ -141,8 +144,8 @@ def climb_offsets(search: Search, plan: Plan, streets: Streets, share: float, wi
 
 
 def climb_splits(search: Search, plan: Plan, lights: Mapping[str, Light], order: Iterable[str], seconds: int) -> Plan:
-    """Tries to move so many seconds of green between any two phases of each light, either way; the cycle stays. Gives
-    the best plan."""
+    """Tries to move so many seconds of green between any two phases of each light, either way; the cycle stays. order:
+    of the lights. Gives the best plan; raises Ended as Search.values does."""
     for name in order:
         free = lights[name].free
         for place, source in enumerate(free):

@@ -70,8 +70,8 @@ def signal_node(line: Line) -> int | None:
 
 
 def read_pair(run_path: str, map_path: str, until: int | None = None) -> tuple[Run, Map]:
-    """(run, its map). Fault where nothing departs: at all, or with until (a clock in seconds) before that, and where
-    the run starts no earlier than until."""
+    """(run, its map). Fault where one cannot be read, the map is another run's, nothing departs: at all, or with until
+    (a clock in seconds) before that, or the run starts no earlier than until."""
     run, mapping = read_with_map(run_path, map_path)
     if until is None and not run.enters:
         raise Fault(f"{run_path}: no vehicle in it")
@@ -85,8 +85,9 @@ def read_pair(run_path: str, map_path: str, until: int | None = None) -> tuple[R
 
 
 def read_town(reading: Reading) -> Town:
-    """Reads the town of a search; warns on standard error where the run's signals differ from the plans, which count.
-    Fault where a file is wrong or no light may be changed."""
+    """Reads the town of a search. Tells on standard error which lights stay as they are, and why; where signals of the
+    run differ from those of the plans, which count; and that stops are not made. Fault where a file is wrong, nobody
+    departs before the end, or no light may be changed."""
     run, mapping = read_pair(reading.run, reading.map, reading.until)
     net = read_plans(reading.plans, mapping)
     lights, plan = searched_lights(reading, run, mapping, net)
@@ -104,7 +105,8 @@ def read_town(reading: Reading) -> Town:
 
 def searched_lights(reading: Reading, run: Run, mapping: Map, net: SumoNet) -> tuple[dict[str, Light], Plan]:
     """({name: light that is searched}, their plan as given); which lights are left as they are, and why, is written to
-    standard error. Fault where --keep names no light of the map, or no light may be changed."""
+    standard error. Fault where a light of the map has no program in the plans, --keep names no light of the map, or no
+    light may be changed."""
     names, asked = lights_of(reading, mapping, net), set(reading.keep)
     if unknown := sorted(asked - set(names)):
         raise Fault(f"--keep: the map has no light {unknown[0]!r}")
@@ -162,8 +164,8 @@ class Runner:
 
     def means(self, plans: Iterable[Plan], seeds: Sequence[int]) -> Iterator[float]:
         """For each plan with each seed, in this order, the mean trip in seconds by the session of the search, with
-        merging before works; where vehicles give way without a light, by the gaps that were found under the given
-        plan."""
+        merging before works; where vehicles give way without a light, by the gaps that were found under the given plan:
+        workers then have the sessions of sessions_of."""
         for seconds in self.ordered(seconds_at_works, plans, seeds, self.town.giving, CAREFUL):
             yield seconds / self.cars
 
@@ -172,8 +174,8 @@ class Runner:
         return list(self.ordered(outcome_giving_way, [plan], seeds))
 
     def gaps(self, seeds: Sequence[int]) -> list[Any]:
-        """For each seed (signal lines by which vehicles without a light give way under the given plan, how many
-        junctions and lines these are)."""
+        """For each seed (signal lines, (clock, line), by which vehicles without a light give way under the given plan;
+        at how many junctions and by how many lines)."""
         return list(self.ordered(gaps, [self.town.plan], seeds))
 
     def ordered(
@@ -184,8 +186,9 @@ class Runner:
         places: Mapping[int, int] = MappingProxyType({}),
         place: int = EXACT,
     ) -> Iterator[Any]:
-        """What a function of a worker gives for each plan with each seed, in this order. A seed is run by the session
-        at places[seed], or at place where places does not have the seed."""
+        """What a function of a worker, of (session, signal lines of a plan as bytes, seed), gives for each plan with
+        each seed, in this order. A seed is run by the session at places[seed], or at place where places does not have
+        the seed."""
         made = ((self.town.signals(plan), seed) for plan in plans for seed in seeds)
         tasks = [
             (f"the run with seed {seed}", function, places.get(seed, place), signals, seed) for signals, seed in made
