@@ -168,8 +168,8 @@ def write_tables(made: Recorded, trips: Sequence[Entry]) -> None:
 
 
 def write_sumo_outputs(made: Recorded, kinds: Iterable[str], trips: Iterable[Entry]) -> None:
-    """Writes SUMO's output files of some kinds to a new folder sumo, by a second run that looks at all lanes in every
-    second; trips: rows of trips.csv."""
+    """Writes SUMO's output files of some kinds to a new folder sumo in the run's, by a second run that looks at all
+    lanes in every second; trips: rows of trips.csv."""
     os.mkdir(f"{made.folder}/sumo")
     paths = {kind: f"{made.folder}/sumo/{kind}.xml" for kind in kinds}
     start, dawdle = made.run.start(), made.run.load.command["dawdle"] / 1000

@@ -10,8 +10,9 @@ from streetsim.sumo.timings import timings_of_files
 
 
 def write_lights(folder: str, mapping: Map, map_path: FilePath) -> None:
-    """Writes lights.json, the programs of the lights by the files that were imported. Writes nothing, and says nothing,
-    where these are gone, changed or cannot be read, or there is no light."""
+    """Writes lights.json, the programs of the lights by the files that were imported, to a folder; map_path: from which
+    these are found. Writes nothing, and says nothing, where these are gone, changed or cannot be read, or there is no
+    light."""
     if not mapping.sources or not mapping.signals:
         return
     beside = os.path.dirname(os.path.realpath(map_path))

@@ -137,7 +137,8 @@ class Follower:
 
 
 def note_standing(trip: Trip, at: At) -> None:
-    """Adds to a trip, by where it is in this second, a second of standing and maybe a halt."""
+    """Adds to a trip a second of standing, and a halt where that begins, if it stands where it is now (at); else its
+    standing is over."""
     if at.speed:
         trip.standing = 0
         return

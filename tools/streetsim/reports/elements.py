@@ -62,7 +62,8 @@ class Reader(HTMLParser):
         return ", ".join(filter(None, [*heads, self.row, column])) or "the page's head"
 
     def handle_starttag(self, tag: str, attributes: list[tuple[str, str | None]]) -> None:
-        """Adds the begin of an element, and notes that it is the place now; attributes: (name, value)."""
+        """Adds the begin of an element, and notes the heading, table, row or cell that begins with it; attributes:
+        (name, value)."""
         self.begin("row" if tag == "th" and ("scope", "row") in attributes else tag)
         told = "".join(f' {name}="{value}"' for name, value in attributes)
         self.found.append(Element(f"<{tag}{told}>", self.place))

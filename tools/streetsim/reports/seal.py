@@ -115,7 +115,8 @@ def write_beside(page: str, large: Mapping[str, bytes]) -> None:
 
 
 def seal_of(page: str, text: str) -> Seal:
-    """The seal in a page's text; page: its path, for faults. Fault where it has none, or one that cannot be read."""
+    """The seal in a page's text; page: its path, for faults and the name of the file beside it. Fault where it has
+    none, or one that cannot be read."""
     found = DATA.search(text)
     if not found:
         raise Fault(f"{page}: not sealed: streetsim-report --sealed makes a page that can be checked")

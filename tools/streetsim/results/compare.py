@@ -48,8 +48,9 @@ def trips_of(folder: Folder) -> dict[str, Trip]:
 
 
 def edges_of(folder: Folder) -> dict[EdgeKey, tuple[int, float | None]]:
-    """A run's edges in the form of `read_edges`: those of which all lanes have counts, in whole periods. The seconds
-    are none where the density is not known."""
+    """A run's edges in the form of `read_edges`, {(begin, end, edge): (vehicles that left it, seconds of all vehicles
+    on it)}: those of which all lanes have counts, in whole periods. The seconds are none where the density is not
+    known."""
     edges = {}
     for row in folder.edges():
         if int(row["end"]) - int(row["begin"]) == folder.period:

@@ -34,8 +34,8 @@ def files_in(folder: str) -> list[str]:
 
 def compared(said: str, found: str, counts: Compared) -> Iterator[tuple[str, str, str]]:
     """Where the files of the folder `said` differ from those of `found`, made anew: (file and place in it, said,
-    found). Files that only `said` has, made.json and lights.json are passed over. Adds to `counts`. Fault where a
-    setting or a packed file cannot be read."""
+    found). Files that only `said` has, made.json and lights.json are passed over. Adds to `counts`. Fault where one of
+    the settings holds none, or a packed file is none or cut."""
     for name in (one for one in files_in(found) if one not in PATHS):
         counts.files += 1
         if not os.path.exists(f"{said}/{name}"):
@@ -62,8 +62,8 @@ def settings(path: str) -> Any:
 
 
 def lines_of(path: str) -> list[bytes]:
-    """The lines of a file, as bytes, unpacked where its name ends in .gz; Fault where unpacking fails, OSError where
-    the file is not there."""
+    """The lines of a file, as bytes, unpacked where its name ends in .gz; Fault where that is no gzip file or a cut
+    one, OSError where the file is not there."""
     content = Path(path).read_bytes()
     try:
         return (gzip.decompress(content) if path.endswith(".gz") else content).split(b"\n")

@@ -23,8 +23,8 @@ class Stretch:
 
 @dataclass(slots=True)
 class Place:
-    """Works at one place. lengths: metres of the queue before them, by clock; standing: (clock, metres before the
-    works) of each vehicle that stands at a poll."""
+    """Works at one place. lengths: metres of the queue before them, by clock, without clocks at which nobody queued;
+    standing: (clock, metres before the works) of each vehicle that stands at a poll."""
 
     edge: str
     lane: str

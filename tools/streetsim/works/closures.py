@@ -19,8 +19,8 @@ class Closure:
     beyond: float = 0.0  # metres for which it goes on, on the next part of the edge
 
     def metres(self, mapping: Map) -> tuple[float, float]:
-        """(begin, end) of the closed stretch, in metres from the begin of its link, what is beyond its end among
-        them."""
+        """(begin, end) of the closed stretch, in metres from the begin of its link; end with the metres for which it
+        goes on beyond the link."""
         link = mapping.links[self.link]
         size = link.metres / link.cells
         return self.first * size, (self.last + 1) * size + self.beyond

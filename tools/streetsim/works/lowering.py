@@ -52,7 +52,7 @@ def parts_on(slow: Slow, mapping: Map) -> list[Part]:
 
 def moved(works: Iterable[Works], slow: Sequence[Slow], mapping: Map) -> Iterator[Works]:
     """The works on the parts of their edges: each as one that begins before the limit, and one that goes on along it.
-    mapping: from before the cut."""
+    slow: one for each edge with works, as limits_of gives them; mapping: from before the cut."""
     limited = {one.edge: one for one in slow}
     for one in works:
         limit = limited[edge_of(one, mapping)]

@@ -24,8 +24,8 @@ class Merges:
     reopen, calls done after it, and at each clock that next names calls told for the links of due."""
 
     def __init__(self, cells: Mapping[int, int]) -> None:
-        """cells: how many a link has, by link, for each of two lanes on which vehicles are to merge; other links are
-        left alone."""
+        """cells: {link: how many cells it has}, for the links of two lanes on which vehicles are to merge; other links
+        are left alone."""
         self.cells = cells
         self.links: dict[int, Closed] = {}
 
@@ -36,7 +36,8 @@ class Merges:
         return [change.on(command["link"]) for change in closed.merging.end()] if closed else []
 
     def done(self, clock: int, command: Command) -> None:
-        """Notes a command of others that was sent at a clock; commands other than close and reopen are passed over."""
+        """Notes a command of others that was sent at a clock; commands other than close and reopen, and those on links
+        that are left alone, are passed over."""
         if command["cmd"] not in CLOSING or command["link"] not in self.cells:
             return
         link: int = command["link"]

@@ -252,9 +252,9 @@ def round_works(run: Run, mapping: Map, shut: dict, stay: Collection[Way] = ()) 
 
 
 def plan_round(command: dict, mapping: Map, shut: dict, ways: dict, use: Counter, free_flow: FreeFlow) -> list[int]:
-    """The plan of an enter command, with other links of the same edges in place of links that are shut when it may
-    come, where there are any. shut: as shut_links gives it; ways: the lanes of each turn, by (link, next link); use:
-    how many were led over each link so far, to which it adds."""
+    """The plan of an enter command, with other links of the same edges, which are never shut, in place of links that
+    are shut when it may come, where there are any. shut: as shut_links gives it; ways: the lanes of each turn, by
+    (link, next link); use: how many were led over each link so far, to which it adds."""
     plan = list(command["plan"])
     for at, link in enumerate(plan):
         soonest, latest = free_flow(plan[:at]), 2 * free_flow(plan[: at + 1]) + LATE
@@ -275,8 +275,8 @@ def plan_round(command: dict, mapping: Map, shut: dict, ways: dict, use: Counter
 
 
 def all_closed(run: Run, mapping: Map, shut: dict) -> Iterator[str]:
-    """Says, a text each, where all lanes of an edge are closed at once: nobody takes another way. shut: as shut_links
-    gives it."""
+    """Says, a text each, where all links of an edge are shut, at one time or one after the other: nobody takes another
+    way. shut: as shut_links gives it."""
     for edge in dict.fromkeys(mapping.links[link].edge for link in shut):
         links = mapping.links_of[edge]
         if all(link in shut for link in links):
