@@ -76,7 +76,7 @@ class Bridge(ThreadingHTTPServer):
 
     def join_lanes(self, names: Iterable[str]) -> None:
         """Has the run imported anew with further lanes (names) joint, and ends what the engines run; the page gets it
-        when it is loaded again. Refusal for a session that is kept."""
+        when it is loaded again. Refusal for a session that is kept, Fault where they cannot be joint."""
         if self.join is None:
             raise Refusal(
                 HTTPStatus.NOT_FOUND,
@@ -107,9 +107,10 @@ class Bridge(ThreadingHTTPServer):
 
 class Handler(BaseHTTPRequestHandler):
     """A request: GET /TOKEN/ is the page; POST /TOKEN/PAGE/VERB is what the page of that name sends. begin and lines go
-    to an engine, which a number behind them names; stay is answered for as long as the page is the one that is served;
-    take makes it that one in the place of another; join has lanes joint, which the request names. Of a session that is
-    kept known tells the changes and the clock, know keeps changes, and settle ends what `anew` of begin has begun."""
+    to an engine, which a number behind them names; begin makes the page the one that is served, unless another one is;
+    take makes it that one in the place of another, and leave has none served; stay is answered for as long as it is
+    that one; join has lanes joint, which the request names. Of a session that is kept known tells the changes and the
+    clock, know keeps changes, and settle ends what `anew` of begin has begun."""
 
     protocol_version = "HTTP/1.1"
     # An answer goes out at once and in one piece: the system else holds the second piece back for 40 ms.
@@ -188,8 +189,8 @@ class Handler(BaseHTTPRequestHandler):
         return b"", "text/plain"
 
     def keeping(self, verb: str, engine: Engine, body: bytes) -> tuple[bytes, str]:
-        """(body, type) of what a page asks of a session that is kept; verb: known, know or settle. Refusal where this
-        session is not kept."""
+        """Does what a page asks of a session that is kept, and gives (body, type); verb: known, know or settle. Refusal
+        where this session is not kept, or changes are no list."""
         if not isinstance(engine, KeptEngine):
             raise Refusal(HTTPStatus.NOT_FOUND, "this session is not kept")
         if verb == "known":
@@ -261,7 +262,8 @@ def changes_of(body: bytes) -> list[Any]:
 
 
 def lines_of(body: bytes) -> list[bytes]:
-    """The lines of a request, each with its LF. Refusal where one is blank, has a CR, or is longer than MOST_LINE."""
+    """The lines of a request, each with its LF. Refusal where there is none, the last has no LF, or one is blank, has a
+    CR, or is longer than MOST_LINE."""
     lines = body.splitlines(keepends=True) if b"\r" not in body else []
     if not lines or not body.endswith(b"\n"):
         raise Refusal(HTTPStatus.BAD_REQUEST, "lines end with LF and have no CR")

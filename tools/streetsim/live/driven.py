@@ -10,7 +10,7 @@ from streetsim.live.engine import Engine
 from streetsim.model.mapping import Map
 from streetsim.model.runs import Command, Run
 
-Made = Callable[[], tuple[Run, Map, list[str]]]  # the run that the page shows, and its map
+Made = Callable[[], tuple[Run, Map, list[str]]]  # the run that the page shows, its map, and texts to tell
 ADVANCE, SIGNAL = b'{"cmd":"advance"', b'{"cmd":"signal"'
 CLOCK = b'{"clock":'  # how the reply to an advance begins that made steps
 

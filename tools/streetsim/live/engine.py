@@ -7,7 +7,8 @@ from streetsim.base.files import Fault
 
 
 class Engine:
-    """One run of the program at a time, for a page. Each begin starts it from nothing and sends the run's own lines."""
+    """One run of the program at a time, for a page. Each begin starts it from nothing and sends the run's own lines.
+    ProgramEnded, from begin and ask, where the program ends before it replied."""
 
     def __init__(self, program: str, lines: list[bytes]) -> None:
         """lines: the run's own, each with its LF."""

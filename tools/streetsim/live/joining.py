@@ -43,7 +43,7 @@ class Joining:
 
     def page(self, engine: bytes | None = None) -> tuple[bytes, list[bytes], list[str]]:
         """(the page, the run's own lines, the texts to tell). engine: the program for browsers, with which the page is
-        one file; None: it asks the bridge."""
+        one file; None: it asks the bridge. Fault as of made and page_of, or where the rounds cannot be made."""
         run, mapping, told = self.giving_way(*self.made())
         page = page_of(run, mapping, engine, self.map_path, self.proved, self.kept, self.driven)
         return page, own_lines(run), told

@@ -76,8 +76,8 @@ class KeptEngine(Engine):
                 raise Fault(f"{self.file}: line {number} is not of this run: it has another session")
 
     def begin(self, anew: bool = False) -> list[bytes]:
-        """Begins the session where it was left, or from nothing, in its place (anew); gives the replies to the run's
-        own lines."""
+        """Begins the session where it was left, or (anew) one from nothing in FILE.new, which settle then puts in its
+        place; gives the replies to the run's own lines. Fault where the file cannot be read."""
         with self.lock:
             self.stop()
             self.making.unlink(missing_ok=True)
@@ -207,7 +207,8 @@ def lines_of_file(path: Path) -> list[bytes]:
 
 
 def read_notes(path: Path) -> tuple[list[Any], list[Any] | None]:
-    """(the page's changes by its last note, those of a session that was in the making or None)."""
+    """(the page's changes by its last note, those of a session that was in the making or None); Fault where
+    the file cannot be read."""
     changes: list[Any] = []
     coming = None
     for line in whole_lines(path).splitlines():

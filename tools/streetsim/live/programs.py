@@ -13,7 +13,8 @@ AT = {NATIVE: f"libexec/streetsim/{NATIVE}", MODULE: f"share/streetsim/{MODULE}"
 
 
 def beside(name: str) -> Path:
-    """The path of a file that ./build --page makes: the one installed with the tools, else that of the repository."""
+    """The path of a file that ./build --page makes (NATIVE or MODULE): the one installed with the tools, else that of
+    the repository, which may not be there."""
     return installed(AT[name]) or TOP / BUILT / name
 
 
@@ -39,12 +40,12 @@ def module_of(given: str | None) -> bytes:
 
 
 def is_whole_built(program: str) -> bool:
-    """Whether a program is the one that ./build made and proved."""
+    """Whether a program is the one that ./build made and proved, by its path alone."""
     return Path(program).resolve() == Path(__file__).resolve().parents[3] / program_built.BUILT
 
 
 def is_built(given: str | None, as_module: bool) -> bool:
-    """Whether a page's program is the one that ./build --page made and proved; given: as of program_of, or (as_module)
-    as of module_of."""
+    """Whether a page's program is the one that ./build --page made and proved, by its path alone; given: as of
+    program_of, or (as_module) as of module_of."""
     path = Path(given or (not as_module and os.environ.get(VARIABLE)) or beside(MODULE if as_module else NATIVE))
     return path.resolve() == beside(MODULE if as_module else NATIVE).resolve()

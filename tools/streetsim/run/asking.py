@@ -34,8 +34,9 @@ def asking_of(
     run: Run, settings: Settings, places: Sequence[Place], polled: Collection[Place], detectors: int
 ) -> Asking:
     """What a run asks. places: all (link, lane) of the map; polled: those of them that are looked at at each poll;
-    detectors: how many detectors of SUMO's the map has, for which as many lanes get none. Where there are more lanes
-    than detectors left, the most used lanes come first."""
+    detectors: how many detectors of SUMO's the run places. A run has 1,024 detectors: what these and the lights do not
+    take is for lanes, the most used first; those that get none are in `further`, where the settings want all
+    counted."""
     every = EVERY if settings.every is None else settings.every
     here = limits.METERS - detectors - settings.lights.meters
     use = Counter(link for line in run.enters for link in line.command["plan"])

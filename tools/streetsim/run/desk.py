@@ -69,7 +69,8 @@ class Desk:
 
     def send_timed(self, clock: int) -> None:
         """Sends the run's timed lines that are due at a clock or before, each after those that merging needs ahead of
-        it. A light for which the run has a signal line is driven by detectors no more."""
+        it. A light for which one of them is a signal line is driven by detectors no more, until it changes, now or
+        later, by time of day to a program that they drive; what this one shows is sent then."""
         due: list[Line] = []
         while self.sent < len(self.run.timed) and self.run.timed[self.sent][0] <= clock:
             line = self.run.timed[self.sent][1]
@@ -154,8 +155,8 @@ class Desk:
         return sampled, ended and bool(asking.samples or rich)
 
     def measure(self, clock: int, lanes: Mapping[Place, Lane], sampled: bool, ended: bool) -> None:
-        """Adds what lanes show to speeds and densities of edges and to SUMO's lane areas; sampled, ended: as
-        wants_samples gives them."""
+        """Adds what lanes show, by (link, lane), to speeds and densities of edges and to SUMO's lane areas; sampled,
+        ended: as wants_samples gives them."""
         seen = [(place[0], reply.cells) for place, reply in lanes.items() if place in self.measured]
         if sampled:
             self.records.edgedata.sample(clock, seen)

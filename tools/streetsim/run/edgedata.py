@@ -30,7 +30,8 @@ class Samples:
         return min(time for part in (at, at + 1) for time in self.within(part) if time > clock)
 
     def within(self, at: int) -> list[int]:
-        """The clocks of the samples in a period, by its number from 0; they rise, and lie after its begin."""
+        """The clocks of the samples in a period, by its number from 0; they rise, and lie after its begin. Not for a
+        count of 0."""
         size = self.period / self.count
         shares = ((place + at * self.count) * GOLDEN % 1 for place in range(self.count))
         return [self.start + at * self.period + 1 + floor((place + share) * size) for place, share in enumerate(shares)]
@@ -71,7 +72,8 @@ class Edgedata:
         self.taken[(clock - self.start) // self.period, link] += 1
 
     def finish(self, places: Iterable[Place]) -> Edgedata:
-        """Turns the sums into means of a sample; places: the (link, lane) that were sampled. Gives itself."""
+        """Turns the sums into means of a sample, which is to be done once; places: the (link, lane) that were sampled.
+        Gives itself."""
         for sums in (self.vehicles, self.speeds):
             for period, link in sums:
                 # The stubs have whole counts alone.
@@ -106,7 +108,8 @@ def edge_rows(counts: Mapping[Place, Mapping[int, Row]], data: Edgedata, mapping
 
 def entered_on(data: Edgedata, links: Sequence[int], begin: int, end: int, left: int) -> int | None:
     """How many vehicles came to an edge, by its links, in a period: those who left it, who are there at the end and
-    were not at the begin, and who were taken out. None where its begin or end was not looked at."""
+    were not at the begin, and who were taken out. begin, end: clocks; left: how many left it. None where its begin or
+    end was not looked at."""
     if end not in data.standing or (begin != data.start and begin not in data.standing):
         return None
     before, after = (

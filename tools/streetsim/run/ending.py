@@ -63,7 +63,8 @@ class Ending:
         return max((sum(duration for duration, _ in one["phases"]) for one in signals), default=0)
 
     def look(self, record: UnderWay, clock: int) -> None:
-        """Looks at a run at a full minute: ends it where it is over, or puts its end off where that has come."""
+        """Looks at a run at a full minute, or at its end, after a census of this clock was added to its records: ends
+        it where it is over, or puts its end off where that has come."""
         census = record.records.censuses[-1]
         if record.entered == len(record.run.enters) and census.admitted == census.arrived + census.taken:
             self.end(record, clock, ALL)

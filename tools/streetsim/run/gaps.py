@@ -66,7 +66,8 @@ def by_turn(passed: Passed) -> dict[TurnKey, list[float]]:
 
 
 def held_of(yields: Iterable[Waiting], times: Times, wished: Times) -> Held:
-    """The parts of AROUND seconds in which those are held up who give way, by turn."""
+    """By turn that gives way the parts of AROUND seconds, by their numbers, in which it is held up. times: when
+    vehicles passed; wished: when they passed where nobody gave way."""
     waits = {turn for one in yields for turn in one.turns}
     return {turn: held_parts(times.get(turn, ()), wished.get(turn, ())) for turn in waits}
 

@@ -36,8 +36,9 @@ class Recorder(Desk):
         lanes_file: TextFile | None,
         tell: Tell,
     ) -> None:
-        """lanes_file: where polls are written; None: nowhere, and SUMO's detectors are left out too. tell: gets the
-        clock and the last census after each look."""
+        """lanes_file: where polls are written; None, for classes below that have no polls or note them otherwise:
+        SUMO's detectors are left out too. tell: gets the clock and the last census (None: there was none) after each
+        look."""
         detectors = mapping.detectors if lanes_file else ()
         super().__init__(sim, run, mapping, settings, detectors)
         self.lanes_file, self.tell = lanes_file, tell
@@ -105,7 +106,8 @@ class Recorder(Desk):
         return link in self.run.enters[self.owners[car]].command["plan"]
 
     def look(self, clock: int) -> None:
-        """Asks all that is due at a clock: polls, samples, census, rescues, detectors."""
+        """Does all that is due at a clock: polls, samples, a census, rescues, the reading of detectors; a run without a
+        last second ends here, or has its end put off."""
         asking, minute = self.records.asking, clock % MINUTE == 0
         if self.settings.open_end and (minute or clock == self.settings.until):
             self.take_census(clock)
@@ -178,7 +180,7 @@ class Recorder(Desk):
 
     def rescue(self, clock: int, lanes: Mapping[Place, Lane]) -> None:
         """Takes out each vehicle that has stood at a stop line, or first in a buffer, for settings.rescue seconds, and
-        enters it anew on the rest of its plan."""
+        enters it anew on the rest of its plan; one on its last link stays. lanes: the replies of all lanes."""
         standing_now: dict[tuple[int, int], int] = {}
         for (link, _), reply in lanes.items():
             if reply.buffer:
@@ -215,7 +217,8 @@ class Recorder(Desk):
         self.records.rescues[owner] += 1
 
     def departure_lane(self, plan: Sequence[int]) -> int:
-        """The first lane (0 or 1) of a plan's first link that leads to its second link; 0 where no lane does."""
+        """The first lane (0 or 1) of a plan's first link that leads to its second link; 0 where no lane does. The plan
+        must be a tuple: of a list no lane is found."""
         return next(
             (turn.lane for turn in self.mapping.turns if len(plan) > 1 and (turn.link, turn.next) == plan[:2]), 0
         )

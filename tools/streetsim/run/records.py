@@ -32,7 +32,7 @@ class Records:
     uncounted: int = 0  # lanes without a detector, as there are more than 1,024
     queues: list[QueueRow] = field(default_factory=list)
     censuses: list[Census] = field(default_factory=list)
-    # For each vehicle of the file its last reply; None if it never entered.
+    # For each vehicle of the file its last reply; None where the program was never told of it.
     ends: list[Vehicle | None] = field(default_factory=list)
     unsent: int = 0  # timed lines whose clock did not come
     rescues: Counter[int] = field(default_factory=Counter)  # by vehicle

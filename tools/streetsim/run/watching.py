@@ -17,11 +17,11 @@ LOOKS = 1_000_000  # at a lane, of which a further run makes about as many
 
 
 class Watcher(Desk):
-    """Repeats a run up to the last of some clocks, and looks at lanes at each of these."""
+    """Repeats a run up to the last of some clocks, and looks at lanes at each of these; one object makes one run."""
 
     def look(self, rescued: Sequence[Rescue], clocks: Iterable[int], lanes: Sequence[Place]) -> Iterator[Frame]:
         """What stands on lanes at each clock, a frame each, as `frame` gives it. rescued: (clock, car, enter command)
-        of the run that is repeated; clocks: rising."""
+        of the run that is repeated; clocks: rising, after the run's start, and not after its end."""
         self.begin(Asking(0, [], 0))
         self.owners: list[int] = []  # the vehicle of the file by car number
         left, clock = list(reversed(rescued)), self.start
@@ -59,14 +59,15 @@ class Watcher(Desk):
 
 
 def windows(clocks: Sequence[int], lanes: Sequence[Place]) -> list[Sequence[int]]:
-    """The clocks in parts, each of which one further run looks at; a part has about LOOKS looks at a lane."""
+    """The clocks in parts, each of which one further run looks at; a part has LOOKS looks at a lane at most."""
     room = max(1, LOOKS // max(1, len(lanes)))
     return [clocks[at : at + room] for at in range(0, len(clocks), room)]
 
 
 def watch(made: Recorded, clocks: Sequence[int], lanes: Sequence[Place]) -> Iterator[Frame]:
-    """The frames of the clocks, in order, with what stands on lanes. Further runs make them side by side; each writes
-    what it sees to a file, which is removed when it is read."""
+    """The frames of the clocks, in order, with what stands on lanes; made, clocks: a run, and clocks as Watcher.look
+    takes them. Further runs make them side by side; each writes what it sees to a file, which is removed when it is
+    read."""
 
     def look(part: tuple[int, Sequence[int]], _tell: object) -> str:
         """Makes the further run of one part, (its place, clocks); gives the path of the file with its frames."""

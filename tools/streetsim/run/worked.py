@@ -38,7 +38,8 @@ class Works:
 
     def look(self, clock: int, lanes: Look, bound: Bound) -> Iterator[Command]:
         """Looks at what is due at a clock, notes what is seen before works, and gives the commands to send before the
-        next step. lanes: gives what stands on lanes; bound: whether a car has a link in its plan."""
+        next step; it looks as these are taken. lanes: gives what stands on lanes; bound: whether a car has a link in
+        its plan."""
         merging, watched = self.merges.due(clock), [one for one in self.watched if due_after(one, clock - 1) == clock]
         seen = self.seen({*merging, *(one.closure.link for one in watched)}, lanes)
         for one in watched:

@@ -39,13 +39,14 @@ def giving_session(
 
 
 def is_driven(of: Settings | Giving) -> bool:
-    """Whether lines are sent by what is seen while a run goes: for lights that detectors drive, or for buses."""
+    """Whether lines are sent by what is seen while a run goes: for lights that detectors drive, or for stops of buses;
+    merging before works does not count."""
     return bool(of.lights.driven or of.lights.idle or of.buses.visits)
 
 
 def gaps(session: Session, signals: bytes, seed: int) -> tuple[list, Yielding]:
     """(the signal lines, (clock, line), by which vehicles of a session give way without a light; at how many junctions,
-    by how many lines), found by runs with a seed and some signals of its lights, as lines in bytes. None of them where
+    by how many lines), found by runs with a seed and some signals of its lights, as lines in bytes. An empty list where
     the session has no giving."""
     giving = session.giving
     if giving is None:
@@ -99,8 +100,8 @@ def outcome_giving_way(session: Session, signals: bytes, seed: int) -> Outcome:
 
 def open_outcome(session: Session, lines: list, signals: bytes, seed: int) -> Outcome:
     """What a run gave that is asked while it goes: one without a last second, with works, buses, or lights that
-    detectors drive. lines: (clock, line), by which vehicles give way. Fault where the program is another one than the
-    session's."""
+    detectors drive. The session must have a giving; lines: (clock, line), by which vehicles give way. Fault where the
+    program is another one than the session's, or refuses a line."""
     if digest_of(session.program) != session.digest:
         raise Fault(f"{session.program}: another program than the one that the runs were prepared for, or none")
     giving = session.giving

@@ -72,8 +72,8 @@ class Machines:
 
     def ordered(self, tasks: Iterable[Sequence[Any]]) -> Iterator[Any]:
         """What tasks, each (name, function, place, ..), give, in their order, whatever the order in which they end.
-        Where the caller stops asking, tasks that have not begun are cancelled. Fault, with its name, where a task was
-        given up."""
+        They begin when the first result is asked for; where the caller stops asking, those that have not begun are
+        cancelled. What a task raises is raised; Fault, with its name, where its worker was lost."""
         futures = [(name, self.submit(*task)) for name, *task in tasks]
         try:
             for name, future in futures:
@@ -89,7 +89,8 @@ def work(function: Function, session: Any, *arguments: Any) -> Any:
 
 
 def result_of(future: Any, name: str) -> Any:
-    """The result of a task; Fault with its name where its worker was lost."""
+    """The result of a task, waited for; what it raised is raised, and a Fault with its name where its worker was
+    lost."""
     try:
         return future.result()
     except LOST as fault:
@@ -110,8 +111,8 @@ def told_of(fault: BaseException) -> str:
 
 @contextlib.contextmanager
 def machines(jobs: int, cluster: str | None, sessions: Sequence[Held]) -> Iterator[Machines]:
-    """The workers of a cluster (HOST:PORT), or without one (None) so many processes of this machine; both know the
-    sessions."""
+    """The workers of a cluster (HOST:PORT), or without one (None) so many processes of this machine (jobs), until the
+    block ends; both know the sessions. Fault as of cluster_of."""
     if cluster:
         with cluster_of(cluster, sessions) as made:
             yield made
@@ -135,7 +136,8 @@ def end(executor: Executor) -> None:
 
 
 def hold(sessions: Sequence[Held]) -> None:
-    """Begins a process of the pool, which holds sessions. It ignores Ctrl-C, which the main process handles."""
+    """Runs first in each process of the pool: puts the sessions into its HELD. The process ignores Ctrl-C, which the
+    main process handles, and ends by SIGTERM and SIGHUP."""
     HELD[:] = sessions
     signal.signal(signal.SIGINT, signal.SIG_IGN)
     for number in (signal.SIGTERM, signal.SIGHUP):
@@ -144,8 +146,9 @@ def hold(sessions: Sequence[Held]) -> None:
 
 @contextlib.contextmanager
 def cluster_of(address: str, sessions: Sequence[Held]) -> Iterator[Machines]:
-    """The workers of a dask scheduler at an address HOST:PORT. Fault where dask is not installed, nobody answers in
-    PATIENCE seconds, or a worker does not have the program that is here."""
+    """The workers of a dask scheduler at an address, until the block ends. Fault where dask is not installed, the
+    address is not HOST:PORT, no scheduler answers or has a worker in PATIENCE seconds, a worker does not have the
+    program that is here, or the workers cannot be made ready."""
     try:
         from distributed import Client
     except ImportError:
@@ -172,8 +175,8 @@ def cluster_of(address: str, sessions: Sequence[Held]) -> Iterator[Machines]:
 
 
 def prepare(client: Cluster, address: str, sessions: Sequence[Held]) -> None:
-    """Makes the workers of a cluster ready; where one of them is lost meanwhile, again, TRIES times in all, and then a
-    Fault."""
+    """Sends this package to the workers of a cluster, and checks their programs; where one of them is lost meanwhile,
+    again, TRIES times in all, and then a Fault. Fault at once where a program is another one."""
     for left in reversed(range(TRIES)):
         try:
             send_package(client)

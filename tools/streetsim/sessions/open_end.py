@@ -19,7 +19,7 @@ class Summed(Client):
     """A client that keeps the SHA-256 of all replies."""
 
     def __init__(self, *words: Any, **more: Any) -> None:
-        """As Client takes them."""
+        """All arguments are those of Client; `sum` begins empty."""
         super().__init__(*words, **more)
         self.sum = hashlib.sha256()
 
@@ -33,10 +33,10 @@ class Summed(Client):
 
 class Counted(Recorder):
     """A run whose vehicles are counted each minute and asked for at its end; it has no polls and no detectors of its
-    own, and nobody is rescued."""
+    own, whatever its settings say."""
 
     def __init__(self, sim: Client, run: Run, mapping: Map, settings: Settings) -> None:
-        """sim: the program, with nothing loaded; settings: its end, and what is driven or made in it."""
+        """sim: the program, with nothing loaded; settings: its end, rescues, and what is driven or made in it."""
         super().__init__(sim, run, mapping, settings, None, lambda *_: None)
 
     def record(self) -> Records:
@@ -52,7 +52,8 @@ class Counted(Recorder):
 
 
 def outcome_of(program: str, run: Run, mapping: Map, settings: Settings) -> Outcome:
-    """Makes a run and gives its outcome; a vehicle that has not arrived counts until the run's end."""
+    """Makes a run and gives its outcome; a vehicle that has not arrived counts until the run's end. program: its path;
+    settings: as of Counted. Fault where the program refuses a line or ends."""
     with serving(program, run.path, client=Summed) as sim:
         assert isinstance(sim, Summed)
         records = Counted(sim, run, mapping, settings).record()

@@ -34,7 +34,8 @@ REFUSED = re.compile(rb'.*(?:"error":|"starved"|"short":).*')
 
 @dataclass(frozen=True, slots=True)
 class Session:
-    """A run but for its seed and the signals that are given with each run, as bytes."""
+    """A run but for its seed and the signals that are given with each run, as bytes. Only sessions.giving follows its
+    giving: the functions here make the run without rounds, and end it at its last clock."""
 
     program: str
     digest: str | None  # SHA-256 of the program's file
@@ -68,8 +69,8 @@ class Outcome:
 
 
 def session_of(program: str, run: Run, until: int, without: Collection[int] = frozenset(), **load: int) -> Session:
-    """The session of a run up to a clock, but for the signals of the nodes in without; load: fields of the load with
-    other values."""
+    """The session of a run up to a clock, but for the signals that it has before its first step at the nodes in
+    without; load: fields of the load with other values."""
     command = {**run.load.command, **load}
     command.pop("seed", None)
     first = [line for line in run.first if not (line.command["cmd"] == "signal" and line.command["node"] in without)]
