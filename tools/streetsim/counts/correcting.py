@@ -52,7 +52,7 @@ class Attempt:
 
     def order(self) -> tuple[bool, float, float]:
         """What attempts are ranked by, the better one has the greater value: (whether it fits, share of counts with GEH
-        below 5, totals' difference with a minus)."""
+        below 5, 0 to 1 with three decimals, totals' difference, as a share, with a minus)."""
         return self.judged.fits, round(self.judged.share, 3), -self.judged.apart
 
 

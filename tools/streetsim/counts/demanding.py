@@ -227,8 +227,8 @@ def by_ratios(
 
 def bounds_of(counts: Iterable[Count], cells: Iterable[Cell], departs: Sequence[tuple[float, int]]) -> list[int]:
     """The begins and ends of slices in seconds, rising: of counts and of cells, and where there are departures (second,
-    place of the way) too, the first of these if it is sooner; without counts and cells the first and the last
-    departure. Fault where they make no period."""
+    place of the way) too, the first of these if it is sooner; without counts and cells the first departure and the
+    second after the last. Fault where they make no period."""
     periods = [*((one.begin, one.end) for one in counts), *((one.begin, one.end) for one in cells)]
     bounds = {bound for period in periods for bound in period}
     if departs and not bounds:

@@ -12,7 +12,7 @@ from streetsim.ways.trips import Trip
 
 def trips_of(whole: Array, kinds: Sequence[str], ways: Sequence[Way], slices: Slices, seed: int) -> list[Trip]:
     """Trips by departure, with numbers as names. Those of a slice that begin on one edge are spread over all of it, one
-    after another in random order, each at a random second of its part. whole: numbers of vehicles in one row, at the
+    after another in random order, each at a random moment of its part. whole: numbers of vehicles in one row, at the
     place (class * ways + way) * slices + slice; kinds: the classes, an empty text for the usual one; seed: of the
     draws."""
     count = len(slices)

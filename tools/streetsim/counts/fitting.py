@@ -21,8 +21,8 @@ STEPS = 500  # of the search for the least squares, at most
 @dataclass(frozen=True, slots=True)
 class Problem:
     """What is to be fitted. passing: the share of the vehicles of each way and slice (columns) that pass each count
-    (rows); expected: vehicles of each column before anything was counted; counted: vehicles of each row; deviation: how
-    far off each of these is taken to be."""
+    (rows); expected: vehicles of each column before anything was counted; counted: vehicles of each row; deviation: by
+    how many vehicles each of these is taken to be wrong."""
 
     passing: Sparse
     expected: Array

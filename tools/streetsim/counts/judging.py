@@ -22,7 +22,8 @@ GROUPS = ("begin", "end", "group", "counts", "counted", "passed", "difference_pe
 
 @dataclass(frozen=True, slots=True)
 class Compared:
-    """Vehicles of one place in one period, in seconds: those that were counted, and those that passed in a run."""
+    """Vehicles of one place in one period, in seconds: those that were counted, and those that passed in a run or, on
+    paper, in a fit."""
 
     begin: int
     end: int
@@ -72,7 +73,7 @@ class Sums:
 
     @property
     def fits(self) -> bool:
-        """Whether GEH is below 5 for 85 % of its counts, and its totals differ by 5 % at most."""
+        """Whether GEH is below 5 for 85 % of its counts at least, and its totals differ by 5 % at most."""
         return self.share >= SHARE and abs(self.difference) <= TOTAL
 
     def row(self) -> tuple[object, ...]:

@@ -63,7 +63,7 @@ def tried(
     basis: Basis, asked: Asked, wanted: Running, fitted: Fitted, ends: Callable[[], bool], told: demanding.Told
 ) -> list[Attempt]:
     """Runs until the demand fits, all runs are used up, or the user asks for an end (which `ends` tells); prints a line
-    on standard error after each, and gives them all."""
+    on standard error after each, and gives them all. Fault where the program refuses a run."""
     until = min(limits.CLOCK, basis.slices.bounds[-1] + correcting.AFTER)
     program = wanted.program
     ground = Ground(program, digest_of(program), basis.town.graph, SLICE, until, wanted.rounds)
@@ -120,7 +120,7 @@ def write(places: Outputs, made: Made, setting: Json) -> None:
 
 
 def types_of(basis: Basis) -> list[str]:
-    """The vehicle types of the classes that counts tell apart, as XML."""
+    """The vehicle types of the classes that counts and matrices tell apart, each as the XML of a vType."""
     return [f'<vType id="{kind}" vClass="{kind}"/>' for kind in basis.kinds if kind]
 
 

@@ -42,8 +42,8 @@ def refuse_twice(cells: Iterable[Cell]) -> None:
 
 
 def of_table(path: FilePath, period: tuple[int, int] | None) -> Iterator[Cell]:
-    """The cells of a CSV table: from,to,vehicles, and maybe begin,end,class; Fault where a row has no period and none
-    is given."""
+    """The cells of a CSV table: from,to,vehicles, and maybe begin,end,class; Fault for other columns or values, and
+    where a row has no period and none is given."""
     for row in rows_of(path, COLUMNS, MORE):
         if row.text("begin") or row.text("end"):
             begin, end = period_of(row.get("begin", clock_of), row.get("end", clock_of), row.where)

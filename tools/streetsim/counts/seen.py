@@ -22,7 +22,8 @@ Sums = Mapping[Key, Sequence[tuple[int, int, float]]]  # by edges: begin, end an
 
 
 def passed_in(folder: Folder, counts: Sequence[Count]) -> list[float]:
-    """The vehicles that passed in each count's period, in the counts' order; Fault where the folder cannot tell."""
+    """The vehicles that passed in each count's period, in the counts' order; Fault where the run does not have a place
+    or period of theirs, two overlap, or the folder cannot tell."""
     check_places(folder, counts)
     rows = {**edge_rows(folder), **movement_rows(folder)}
     found = [within(rows.get(count.edges, ()), count) if not count.kind else None for count in counts]
@@ -33,7 +34,7 @@ def passed_in(folder: Folder, counts: Sequence[Count]) -> list[float]:
 
 def check_places(folder: Folder, counts: Sequence[Count]) -> None:
     """Fault for counts of edges or turns that the run's map does not have, of periods that it did not reach, and for
-    two counts of one place whose periods overlap."""
+    two counts of one place and class whose periods overlap."""
     links = folder.mapping.links
     ways = {(links[turn.link].edge, links[turn.next].edge) for turn in folder.mapping.turns}
     last = max((float(row["end"]) for row in folder.edges()), default=0.0)

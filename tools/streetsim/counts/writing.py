@@ -35,7 +35,8 @@ def write_judged(folder: str, fit: Judged) -> None:
 
 
 def write_demand(folder: str, basis: Basis, fitted: Fitted, tried: Sequence[Attempt]) -> None:
-    """Writes the tables of a demand, and its candidate ways as routes. tried: its runs, none: no table of runs."""
+    """Writes to a folder pairs.csv, the candidate ways as routes (candidates.rou.xml), contradictions.csv where counts
+    contradict each other, and runs.csv where the demand was run (tried: its runs)."""
     write_table(f"{folder}/pairs.csv", PAIRS, pair_rows(basis, fitted))
     write_candidates(f"{folder}/candidates.rou.xml", basis.ways, basis.town.graph)
     if basis.apart:

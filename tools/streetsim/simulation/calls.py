@@ -34,7 +34,8 @@ class Calls(Generic[Simulated]):
         raise NotImplementedError
 
     def check(self, name: str, names: Container[str]) -> None:
-        """Refuses a name that is not one of names, where a domain does so; here every name may be."""
+        """Refuses a name that is not one of names, where a domain does so, by an exception of its own; here every name
+        may be."""
 
 
 class SimulationCalls(Calls[Simulated]):
@@ -125,7 +126,7 @@ class PlaceCalls(Calls[Simulated]):
     """Calls on a place on the road, by the vehicles that are there."""
 
     def cars(self, name: str) -> list[int]:
-        """The numbers of the vehicles there, from the stop line."""
+        """The numbers, in the program, of the vehicles there, from the stop line."""
         raise NotImplementedError
 
     def speeds(self, name: str) -> list[float]:
@@ -183,8 +184,8 @@ class LaneCalls(StretchCalls[Simulated]):
         return self.now().map.links[self.places(name)[0][0]].metres
 
     def setDisallowed(self, name: str, classes: str | Sequence[str]) -> None:
-        """Closes the lane where all classes of the import are among the classes (or "all" is); else it does nothing.
-        classes: those that may not drive there."""
+        """Closes the lane where all classes of the import are among the classes (or "all" is), and raises what `close`
+        raises of its domain; else it does nothing. classes: those that may not drive there."""
         told = {classes} if isinstance(classes, str) else set(classes)
         lanes = [self.now().map.lane_name(*place) for place in self.places(name)]
         if "all" in told or set(self.now().map.options["classes"]) <= told:

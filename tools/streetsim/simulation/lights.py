@@ -50,7 +50,8 @@ class Light:
 
 
 class Control:
-    """What each light shows, and when phases end that a script has given another end."""
+    """What each light shows, and when phases end that a script has given another end. Clocks are in seconds. Calls that
+    look up a light by its name raise TraCIException where there is none."""
 
     def __init__(
         self, simulation: Simulation, lights: dict[str, Light], offsets: Mapping[tuple[str, str], float]

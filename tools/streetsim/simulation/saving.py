@@ -44,7 +44,8 @@ def save_state(session: Session, path: str) -> None:
 
 
 def files_of(session: Session) -> dict[str, str]:
-    """What a session was made of: {what a state is of where this differs, in words: digest (SHA-256)}."""
+    """What a session was made of, as digests (SHA-256), by which a state of another one is known: {in words, what that
+    state is of where the digest differs: digest}."""
     run, mapping = session.source, session.map
     timed = (line for _, line in run.timed)
     driven = [f"{one.name} {one.light.program}" for one in session.driving.driver.controllers]

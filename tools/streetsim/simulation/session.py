@@ -126,7 +126,7 @@ class Session(Simulation):
 
     def enter_due(self, target: int) -> None:
         """Tells the program of the file's vehicles that depart before the clock target; those that a script took out
-        before are left out."""
+        before are left out. TraCIException where a script has added one of the same name."""
         enters, run, names = [], self.source, []
         while self.entered < len(run.enters) and run.needed[self.entered] < target:
             command = run.enters[self.entered].command

@@ -97,8 +97,8 @@ class Simulation:
             self.show_driven(self.driving.look(self.clock))
 
     def send_timed(self, target: int) -> int:
-        """Sends the lines of the file, the changes of driven lights by time of day and the phases that are due now;
-        gives the clock of the next lines and phases, target at most."""
+        """Sends the lines of the file (but for lights that a script has set), the changes of driven lights by time of
+        day and the phases that are due now; gives the clock of the next lines and phases, target at most."""
         due = []
         while self.sent < len(self.source.timed) and self.source.timed[self.sent][0] <= self.clock:
             line = self.source.timed[self.sent][1]

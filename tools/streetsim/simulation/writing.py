@@ -12,8 +12,8 @@ class Writer(Outputs):
     """Output files that are written while a script runs; they get their names when it closes the run."""
 
     def __init__(self, paths: dict, mapping: Map, dawdle: float, period: int, start: int) -> None:
-        """paths: of the files, by kind; dawdle: the chance, 0 to 1, to go on by a cell less; period: seconds of the
-        rows of edgeData; start: the first clock."""
+        """paths: of the files, by kind, as `output_paths` of opening gives them; dawdle: the chance, 0 to 1, to go on
+        by a cell less; period: seconds of the rows of edgeData; start: the first clock."""
         super().__init__(paths, mapping, dawdle, period, start)
         self.first: dict[int, int] = {}  # the first number of a vehicle that entered anew
 
