@@ -50,10 +50,10 @@ class Scenario(Running):
         self, run: FilePath, mapping: FilePath, program: str | None = None, workers: int = 1,
         joint: Iterable[str] = (), rounds: int = ROUNDS,
     ) -> None:  # fmt: skip
-        """run, mapping: paths of a run file and its map; program: None: the usual one; workers: threads of the program;
-        joint: edges or lanes to be closed later; rounds: runs that are made before, by which vehicles give way. Fault
-        (streetsim.files) where a file cannot be read, they do not belong together, or there is no program. Warns
-        (Python's warnings) of lights and stops that are other than in SUMO."""
+        """run, mapping: paths of a run file and its map; program: as find_program takes it; workers: threads of the
+        program; joint: edges or lanes to be closed later; rounds: runs that are made before, by which vehicles give
+        way. Fault (streetsim.files) where a file cannot be read, they do not belong together, or there is no program.
+        Warns (Python's warnings) of lights and stops that are other than in SUMO."""
         source, read, _ = with_works(*read_with_map(run, mapping), mapping, [], Asking(tuple(joint)))
         super().__init__(source, read, rounds, program, workers)
         for told in filter(None, (*self.driving.lights.notes(), why_unmade(len(self.map.visits)))):
@@ -76,7 +76,8 @@ class Scenario(Running):
         return self
 
     def __exit__(self, kind: type[BaseException] | None, *fault: object) -> None:
-        """Ends the program; after an exception it is killed, and its status is not looked at."""
+        """Ends the program, ProgramEnded (streetsim.client) where its status is not 0; after an exception it is killed,
+        and its status is not looked at."""
         self.client.__exit__(kind, *fault)
 
     def simulationStep(self, time: float = 0) -> None:
@@ -136,7 +137,7 @@ class Scenario(Running):
         return self.detours.begin(edge, until)
 
     def refuse_past(self, until: float) -> None:
-        """ValueError where the second until is over."""
+        """ValueError where the clock is at the second until, or beyond it."""
         if not until > self.clock:
             raise ValueError(f"until {until:g} s nobody can take another way: the clock is at {self.clock} s")
 
@@ -175,7 +176,7 @@ class Part(Calls[Scenario]):
         self.scenario, self.name = scenario, type(self).__name__.lower()
 
     def advice(self, called: str) -> str:
-        """What to do instead of a call that is not here."""
+        """What to do instead of a call that is not here; called: "domain.call"."""
         return ADVICE.get(called, "streetsim has nothing for it; see tools/PYTHON.md")
 
 

@@ -144,7 +144,7 @@ def told(path: FilePath, element: Element) -> str:
 
 @overload
 def attribute(path: FilePath, element: Element, name: str) -> str:
-    """An attribute, converted; Fault where it is absent or where `convert` raises ValueError."""
+    """An attribute, as its text; Fault where the element has none of this name."""
     ...
 
 

@@ -16,8 +16,8 @@ FOLDER = ".half-"
 
 @contextlib.contextmanager
 def half_folder(inside: str | os.PathLike[str]) -> Iterator[str]:
-    """An empty hidden folder to write to inside another one; it is removed when the block ends. First those that killed
-    tools left there are removed."""
+    """The path of an empty hidden folder to write to inside another one; it is removed, with what is in it, when the
+    block ends. First those that killed tools left there are removed."""
     remove_left(os.path.join(glob.escape(os.fspath(inside)), f"{FOLDER}*"))
     path, held = hold_new(lambda: tempfile.mkdtemp(prefix=FOLDER, dir=inside))
     try:

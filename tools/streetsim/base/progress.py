@@ -12,7 +12,8 @@ PAUSE = 0.2  # seconds between two writings of a line
 
 
 class TerminalLine:
-    """A line that is written over and over on a terminal; where the stream is no terminal, nothing is written."""
+    """A line that is written over and over on a terminal, where `is_due` says so: never where the stream is no
+    terminal."""
 
     def __init__(self, stream: IO[str] | None = None) -> None:
         """stream: where the line is written; none: standard error."""
@@ -33,11 +34,12 @@ class TerminalLine:
         return True
 
     def write(self, text: str, end: str = "") -> None:
-        """Writes a text from the left end of the line on, and `end` behind it."""
+        """Writes a text from the left end of the line on, and `end` behind it, on whatever the stream is: ask `is_due`
+        before."""
         print(f"\r{text}", end=end, file=self.stream, flush=True)
 
     def write_over(self, text: str) -> None:
-        """Writes a text, with blanks where the one before was longer."""
+        """Writes a text, with blanks where the one before was longer, as `write` does."""
         self.write(f"{text:{self.width}}")
         self.width = len(text)
 

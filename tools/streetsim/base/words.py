@@ -37,7 +37,8 @@ class Parser(argparse.ArgumentParser):
 
 def naming_nothing(words: Sequence[str]) -> str | None:
     """What is wrong with the first word that has no name in it, as a variable of the shell that is not set leaves one
-    (a tool would go on as if the word were not there); none where all name something."""
+    (a tool would go on as if the word were not there); the text of --title may be empty. None where nothing is
+    wrong."""
     for before, word in zip(("", *words), words):
         name, sign, text = word.partition("=")
         option, value = (name, text) if sign and word.startswith("--") else (before, word)
@@ -106,7 +107,7 @@ def add_run(made: argparse.ArgumentParser) -> None:
 
 
 def add_names(made: argparse.ArgumentParser) -> None:
-    """Adds --names to a parser: a file of names of one's own."""
+    """Adds --names to a parser: a file of names of one's own; None where it is not given."""
     made.add_argument(
         "--names",
         metavar="FILE",
@@ -116,7 +117,8 @@ def add_names(made: argparse.ArgumentParser) -> None:
 
 
 def add_jobs(made: argparse.ArgumentParser) -> None:
-    """Adds --jobs to a parser: how many runs go side by side, 1 to 1,024."""
+    """Adds --jobs to a parser: how many runs go side by side, 1 to 1,024; as many as there are cores where it is not
+    given."""
     made.add_argument(
         "--jobs",
         type=within(1, 1024),
@@ -126,7 +128,7 @@ def add_jobs(made: argparse.ArgumentParser) -> None:
 
 
 def add_merge(made: argparse.ArgumentParser) -> None:
-    """Adds --merge to a parser: how vehicles merge before works."""
+    """Adds --merge to a parser: how vehicles merge before works, "turns" (where it is not given) or "none"."""
     made.add_argument(
         "--merge",
         choices=["turns", "none"],
@@ -137,7 +139,8 @@ def add_merge(made: argparse.ArgumentParser) -> None:
 
 
 def add_lost(made: argparse.ArgumentParser) -> None:
-    """Adds --lost to a parser: what those do who lose their only lane by road works; none where it is not given."""
+    """Adds --lost to a parser: what those do who lose their only lane by road works, "lead", "wait" or "bar"; None
+    where it is not given, which stands for "lead"."""
     made.add_argument(
         "--lost",
         choices=["lead", "wait", "bar"],
@@ -160,7 +163,7 @@ def add_rounds(made: argparse.ArgumentParser, default: int | None = ROUNDS, usua
 
 
 def add_lights(made: argparse.ArgumentParser) -> None:
-    """Adds --lights to a parser: whether detectors drive lights."""
+    """Adds --lights to a parser: whether detectors drive lights, "actuated" (where it is not given) or "listed"."""
     made.add_argument(
         "--lights",
         choices=["actuated", "listed"],

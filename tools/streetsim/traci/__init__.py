@@ -64,8 +64,8 @@ def _now() -> Session:
 
 
 def simulationStep(step: float = 0) -> None:
-    """Makes one step (step 0), or all steps until the clock is at step seconds (none where it is there already); then
-    calls the step listeners."""
+    """Makes one step (step 0), or all steps until the clock is at step seconds, rounded up (none where it is there
+    already); then calls the step listeners, once."""
     _now().step(step)
     _listeners.step(step)
 
@@ -117,8 +117,8 @@ def getConnection(label: str = "default") -> ModuleType:
 
 
 def addStepListener(listener: StepListener) -> int | None:
-    """Has listener.step(time) called after each simulationStep, as long as it gives True. Gives the listener's number;
-    None where it is no StepListener."""
+    """Has listener.step(time) called after each simulationStep, time: that call's argument, as long as it gives True.
+    Gives the listener's number; None where it is no StepListener, which is then not called."""
     _now()
     return _listeners.add(listener)
 

@@ -51,7 +51,8 @@ class Stretches(Places, StretchCalls[Session]):
         raise NotImplementedError
 
     def getLastStepOccupancy(self, name: str) -> float:
-        """The percentage, 0 to 100, of the length that vehicles cover."""
+        """The percentage of the length that vehicles cover. Each whose front is there counts with its whole length, so
+        a long one on a short lane may make it more than 100."""
         return 100 * sum(self.lengths(name)) / self.metres(name)
 
 
@@ -67,7 +68,7 @@ class Lane(LaneCalls[Session], Stretches):
     }
 
     def outline(self, name: str) -> Line:
-        """The points (x, y) of its link's line, which lanes side by side share, in metres."""
+        """The points (x, y) of its link's line, in metres, which the lanes of a joint link share."""
         return self.now().map.links[self.places(name)[0][0]].shape
 
     def cars(self, name: str) -> list[int]:
@@ -134,8 +135,8 @@ class Lane(LaneCalls[Session], Stretches):
 
     def getLinks(self, name: str, extended: bool = True) -> list[tuple[object, ...]]:
         """For each connection of SUMO's from it: next lane, whether it has the right of way, whether it has green,
-        False (whether a foe comes is not known); and extended: lane inside the junction, state, direction, metres
-        inside."""
+        False (whether a foe comes is not known); and extended: lane inside the junction, SUMO's letter of the state now
+        and of the direction, metres inside."""
         control, inside = self.now().control, self.now().facts.inside
         found: list[tuple[object, ...]] = []
         for one in self.facts(name).links:
@@ -243,13 +244,15 @@ class Detectors(Places):
         return [along(link.shape, one.first / link.cells)]
 
     def getPosition(self, name: str) -> float:
-        """Metres from the lane's begin to the detector's."""
+        """Metres from the lane's begin to that of the first cell on which the detector lies, which may be less than the
+        file's pos."""
         one = self.detector(name)
         link = self.now().map.links[one.link]
         return one.first * link.metres / link.cells
 
     def speeds(self, name: str) -> list[float]:
-        """Speeds, metres a second, of the vehicles that it saw; for those that have left, their last one."""
+        """Speeds, metres a second, of the vehicles that it saw, in the order of `cars`; for those that have left, their
+        last one."""
         cars = self.cars(name)
         places = {**self.now().view.before, **self.now().view.places}
         return [places[car].speed * METRES for car in cars if car in places]
@@ -309,8 +312,8 @@ class LaneArea(Stretches, Detectors):
         return self.getLength(name)
 
     def jam(self, name: str) -> list[int]:
-        """The numbers in the program of the vehicles of the longest jam: they stand one behind the other without a
-        gap."""
+        """The numbers in the program of the vehicles of the longest jam: they stand one behind the other without a gap,
+        and one alone is a jam too. Empty where nobody stands."""
         fleet, places, rear = self.now().fleet, self.now().view.places, -1
         longest: list[int] = []
         here: list[int] = []

@@ -64,7 +64,7 @@ class Simulation(Domain, SimulationCalls[Session]):
 
     def getEndTime(self) -> float:
         """The end that the command's words or the configuration name, seconds; it ends nothing under a script. -1 where
-        they name none."""
+        they name none; ValueError where they write it as HH:MM:SS."""
         return float(self.now().options.get("end", -1.0))
 
     def getScale(self) -> float:
@@ -112,12 +112,13 @@ class Simulation(Domain, SimulationCalls[Session]):
         return tuple(session.fleet.names[car] for car in session.view.waiting_to_depart())
 
     def none(self) -> int:
-        """0: under a script nobody is moved away, and there are no collisions, emergency stops, parking, stops or
-        persons."""
+        """0, which the calls below give: under a script nobody is moved away, and there are no collisions, emergency
+        stops, parking, stops or persons."""
         return 0
 
     def nobody(self) -> tuple[str, ...]:
-        """An empty tuple: none of the vehicles or persons that SUMO would name here can exist under a script."""
+        """An empty tuple, which the calls below give: none of the vehicles or persons that SUMO would name there can
+        exist under a script."""
         return ()
 
     getStartingTeleportNumber = getEndingTeleportNumber = getCollidingVehiclesNumber = none

@@ -60,7 +60,7 @@ class TrafficLight(Domain):
         return tuple(sorted(self.now().control.lights))
 
     def at(self, name: str) -> tuple[Light, int, float]:
-        """(the light, the index of its present phase, the seconds left of it by its program)."""
+        """(the light, the index of its present phase, the seconds left of it by its program, or by what drives it)."""
         light, clock = self.now().control.light(name), self.now().clock
         if (driven := self.now().control.driven(name)) is not None:
             return light, driven.logic.index(), float(driven.logic.switch(clock) - clock)
@@ -144,8 +144,8 @@ class TrafficLight(Domain):
         self.now().control.hold(name, state)
 
     def setLinkState(self, name: str, index: int, state: str) -> None:
-        """Sets one signal, by its index, to a letter, and leaves the others as they are now, until another call sets
-        the light. TraCIException for a wrong index or letter."""
+        """Sets one signal, by its index, to a letter (state), and leaves the others as they are now, until another call
+        sets the light, as setRedYellowGreenState does. TraCIException for a wrong index or letter."""
         shown = self.getRedYellowGreenState(name)
         if not 0 <= index < len(shown):
             raise TraCIException(f"Traffic light '{name}' has no signal {index}")

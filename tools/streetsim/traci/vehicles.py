@@ -166,8 +166,8 @@ class Vehicle(VehicleCalls[Session], Placed):
         return self.kind_of(name).vclass
 
     def getMaxSpeed(self, name: str) -> float:
-        """The greatest speed of its type in SUMO's files, metres a second; how fast it drives here is the limit of its
-        link alone."""
+        """The greatest speed of its type in SUMO's files, metres a second, 55.6 where they tell none; how fast it
+        drives here is the limit of its link alone."""
         return speed_of(self.kind_of(name))
 
     def getAllowedSpeed(self, name: str) -> float:
@@ -414,10 +414,10 @@ class VehicleType(Domain):
         return self.of(name).vclass
 
     def getMaxSpeed(self, name: str) -> float:
-        """Its greatest speed in SUMO's files, metres a second."""
+        """Its greatest speed in SUMO's files, metres a second; 55.6 where they tell none."""
         return speed_of(self.of(name))
 
 
 def speed_of(kind: Kind) -> float:
-    """The greatest speed of a type, metres a second; that of SUMO's cars where the type tells none."""
+    """The greatest speed of a type, metres a second; 55.6, that of SUMO's cars, where the type tells none."""
     return FASTEST if kind.speed is None else kind.speed
