@@ -61,7 +61,7 @@ def attempts(
 ) -> Iterator[Attempt]:
     """Runs a demand at most `runs` times, and gives each attempt as it ends: the first of the fit on paper (first), the
     others of what the run before corrects. Ends after one that fits. told: gets what is done just now. Fault where a
-    fit has no vehicle, or the program refuses a run."""
+    fit has no vehicle, or a run cannot be made."""
     graph, fitted, costs = basis.town.graph, first, basis.free_costs()
     counted = made_up = counted_of(basis.counts)
     for number in range(1, runs + 1):
@@ -78,7 +78,7 @@ def attempts(
 
 def attempt(basis: Basis, asked: Asked, ground: Ground, number: int, fitted: Fitted, costs: Costs) -> Attempt:
     """Runs the vehicles of a fit, and judges by what passed; number: of the run, from 1; costs: the seconds of
-    movements by which the fit was made. Fault where the fit has no vehicle, or the program refuses the run."""
+    movements by which the fit was made. Fault where the fit has no vehicle, or the run cannot be made."""
     trips = trips_of_fit(basis, asked, fitted)
     town = basis.town
     loaded = town.loaded(trips)

@@ -63,7 +63,7 @@ def tried(
     basis: Basis, asked: Asked, wanted: Running, fitted: Fitted, ends: Callable[[], bool], told: demanding.Told
 ) -> list[Attempt]:
     """Runs until the demand fits, all runs are used up, or the user asks for an end (which `ends` tells); prints a line
-    on standard error after each, and gives them all. Fault where the program refuses a run."""
+    on standard error after each, and gives them all. Fault where a run cannot be made."""
     until = min(limits.CLOCK, basis.slices.bounds[-1] + correcting.AFTER)
     program = wanted.program
     ground = Ground(program, digest_of(program), basis.town.graph, SLICE, until, wanted.rounds)
@@ -105,7 +105,7 @@ def tell_inputs(basis: Basis, fitted: Fitted) -> None:
 
 def write(places: Outputs, made: Made, setting: Json) -> None:
     """Writes the vehicles, the tables and pictures, and the run with its map where they are asked for; setting: what
-    goes into setting.json."""
+    goes into setting.json. Fault where a file cannot be written."""
     basis = made.basis
     loaded = made.best.loaded if made.best else basis.town.loaded(made.trips)
     write_routes(places.routes, Trips(list(made.trips), types_of(basis)), basis.town.graph)

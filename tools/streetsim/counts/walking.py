@@ -59,7 +59,7 @@ def walked(
     inflows: Sequence[Inflow], turns: Turns, seconds: Sequence[float], net: SumoNet, seed: int
 ) -> Iterator[tuple[float, Path]]:
     """The vehicles of flows, (departure in seconds, way by numbers of edges), flow by flow. Fault where a way has no
-    end, the network lacks the edge of a flow, or `turns` has none of several edges to go on. seconds: of each movement,
+    end, the network lacks the edge of a flow, or no ratio holds where several edges follow. seconds: of each movement,
     by which it is known which ratio holds; seed: of the draws."""
     graph, draws = turns.graph, random.Random(f"ratios {seed}")
     for flow in inflows:

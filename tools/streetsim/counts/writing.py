@@ -26,8 +26,8 @@ AT_WISH = (*JUDGED_AT_WISH, "fit.csv", LAST, "contradictions.csv", "runs.csv")
 
 
 def write_judged(folder: str, fit: Judged) -> None:
-    """Writes the tables of a comparison with counts: fit.csv, hours.csv, and groups.csv where there are screen
-    lines."""
+    """Writes the tables of a comparison with counts to a folder: fit.csv, hours.csv, and groups.csv where there are
+    screen lines. Fault where one cannot be written."""
     write_table(f"{folder}/fit.csv", FIT, (one.row() for one in fit.each))
     write_table(f"{folder}/{LAST}", HOURS, (one.row() for one in fit.hours))
     if fit.groups:
@@ -36,7 +36,8 @@ def write_judged(folder: str, fit: Judged) -> None:
 
 def write_demand(folder: str, basis: Basis, fitted: Fitted, tried: Sequence[Attempt]) -> None:
     """Writes to a folder pairs.csv, the candidate ways as routes (candidates.rou.xml), contradictions.csv where counts
-    contradict each other, and runs.csv where the demand was run (tried: its runs)."""
+    contradict each other, and runs.csv where the demand was run (tried: its runs). Fault where one cannot be
+    written."""
     write_table(f"{folder}/pairs.csv", PAIRS, pair_rows(basis, fitted))
     write_candidates(f"{folder}/candidates.rou.xml", basis.ways, basis.town.graph)
     if basis.apart:

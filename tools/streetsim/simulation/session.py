@@ -23,7 +23,8 @@ from streetsim.simulation.writing import Writer
 
 class Session(Simulation):
     """A simulation for TraCI. From the first call that needs it on, it is looked at after each step. Vehicles of the
-    file are told to the program only when they depart, so that their ways can be changed before."""
+    file are told to the program only when they depart, so that their ways can be changed before; those of a script come
+    by add."""
 
     kind_of_client = Remembering
     client: Remembering

@@ -52,7 +52,8 @@ class Junction:
 
 @dataclass(slots=True)
 class Facts:
-    """What the files of a run say; lanes, edges and junctions by SUMO's names."""
+    """What the files of a run say; lanes, edges and junctions by SUMO's names, routes (their edges) by their own.
+    Places are in metres, periods in seconds."""
 
     lanes: dict[str, LaneFacts] = field(default_factory=dict)
     inside: dict[str, float] = field(default_factory=dict)  # metres of the lanes inside junctions
