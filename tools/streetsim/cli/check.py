@@ -44,7 +44,7 @@ def parser() -> Parser:
 
 def main(arguments: list[str]) -> int:
     """Runs streetsim-check: makes the runs again and prints one line; gives its status: 0 where each number is that of
-    a run, else 1. Fault for words that do not fit."""
+    a run, else 1. Fault for words that do not fit, and for a target that does not keep what made it."""
     words = parser().parse_args(arguments)
     words.program = program.find_program(words.program)
     study = os.path.isdir(words.target) and is_study(words.target)

@@ -28,7 +28,8 @@ def machine_words(words: argparse.Namespace) -> list[str]:
 
 def folder_again(words: argparse.Namespace, out: str) -> str:
     """Makes the runs of the folder `words.target` again, and writes them into `out`; gives the folder that stands for
-    the target: `out`, or below it that of the seed where the target is of one seed of several."""
+    the target: `out`, or below it that of the seed where the target is of one seed of several. Fault where the target
+    does not keep what made it, or its seeds do not follow each other."""
     plan, files = plan_of(read_folders(words.target), 1)
     with tempfile.TemporaryDirectory() as place:
         os.mkdir(f"{place}/plan-1")

@@ -149,7 +149,7 @@ def refuse_no_poll(settings: Settings, start: int) -> None:
 
 
 def report(figures: Figures, name: str) -> None:
-    """Prints what a run gave; name: what each line begins with."""
+    """Prints what a run gave, its notes on standard error; name: what each line begins with."""
     for told in figures.notes:
         print(f"{name}{told}", file=sys.stderr)
     print(f"{name}{figures.told}")

@@ -66,7 +66,7 @@ class MapTurn:
 
 @dataclass(slots=True)
 class Map:
-    """The names behind the numbers of a run: each list by those numbers."""
+    """The names behind the numbers of a run: nodes, links and cars are lists by those numbers."""
 
     nodes: list[tuple[str, float, float, int]]  # junction, x, y, residence
     links: list[MapLink]

@@ -51,7 +51,8 @@ class Target:
 
 @dataclass(frozen=True, slots=True)
 class Job:
-    """What a command of streetsim-route asks for, read and checked."""
+    """What a command of streetsim-route asks for, read and checked. check: the seeds by which what is found is
+    judged."""
 
     town: Town
     trips: Trips

@@ -54,7 +54,7 @@ class Seen:
 @dataclass(frozen=True, slots=True)
 class Iteration:
     """What was seen in an iteration. cost: mean seconds of the ways of those who may change, by the costs of this
-    iteration; calls: of the longest run."""
+    iteration; changed: trips that change after it; calls: of the longest run."""
 
     number: int
     mean: float  # seconds of a trip
@@ -144,7 +144,8 @@ class Search:
                 raise no_way(self.town.graph, lost[0])
 
     def improve(self, asked: Asked) -> None:
-        """Searches, and keeps each iteration and the best one; the trips then have the ways of the best."""
+        """Searches until asked.iterations are done, the gap is well below asked.gap (OWN_SEED of it) or told gives
+        True; keeps each iteration, and the best one, whose ways the trips then have."""
         share = asked.share
         steps: list[Step] = [Step(1.0, [])]
         for number in range(asked.iterations + 1):

@@ -154,7 +154,7 @@ def loads_of(run: Run, mapping: Map, lights: Mapping[str, Light]) -> dict[str, l
 
 def webster_cycle(lost: float, flow_ratio: float) -> float | None:
     """Webster's cycle of the least delay, in seconds; None at capacity. lost: the seconds of a cycle without green;
-    flow_ratio: the sum over its phases of flow by saturation flow."""
+    flow_ratio: the sum over its phases of flow divided by saturation flow."""
     return (1.5 * lost + 5) / (1 - flow_ratio) if flow_ratio < 1 else None
 
 

@@ -199,7 +199,7 @@ class Runner:
 def sessions_of(town: Town, seeds: Sequence[int], runner: Runner) -> list[Session]:
     """The sessions that workers get: that of the report, that of the search, and where vehicles give way without a
     light one for each seed, with the gaps of the given plan, whose place is noted in town.giving; how many give way is
-    said on standard error."""
+    said on standard error. runner: by whose runs, of the session of the report, these gaps are found."""
     sessions = [town.session, town.careful]
     if town.session.giving is None:
         return sessions
