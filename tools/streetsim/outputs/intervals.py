@@ -185,7 +185,7 @@ class Loops(Detectors):
 
     def note(self, one: Detector, sums: LoopSums, second: Second, here: Sequence[tuple[int, At]]) -> None:
         """Adds a second to the sums of an e1: whether its cell is covered, and who has passed it; here: as of
-        Detectors."""
+        Detectors.note."""
         sums.occupied += any(at.cell is not None and at.cell - at.size < one.first <= at.cell for _, at in here)
         for car, last in second.before.items():
             if last.link == one.link and last.cell is not None and last.cell <= one.first:
@@ -248,7 +248,7 @@ class Areas(Detectors):
         return AreaSums(inside=before.inside, halts=before.halts, interval_halts=dict.fromkeys(before.halts, 0))
 
     def note(self, one: Detector, sums: AreaSums, second: Second, here: Sequence[tuple[int, At]]) -> None:
-        """Adds a second to the sums of an e2; here: as of Detectors."""
+        """Adds a second to the sums of an e2; here: as of Detectors.note."""
         inside = {car: at for car, at in here if at.cell is not None and one.first <= at.cell <= one.last}
         sums.entered += len(inside.keys() - sums.inside.keys())
         sums.left += len(sums.inside.keys() - inside.keys())

@@ -63,7 +63,7 @@ def movement_changes(rows: Sequence[Told], names: Names) -> str:
 
 
 def said_of_changes(seeds: int) -> str:
-    """A note, as HTML, on how differences are paired and what is bold; seeds: that both plans have."""
+    """A note, as HTML, on how differences are paired and what is bold; seeds: how many both plans have."""
     said = "Differences are of the same seeds"
     if seeds < 2:
         said = "One seed alone tells nothing of chance: use --seeds 1-5"
@@ -74,8 +74,8 @@ def said_of_changes(seeds: int) -> str:
 
 
 def detail(runs: Runs, name: str, interval_of: tuple[int, int]) -> str:
-    """The section of a junction, as HTML: its movements and the queues of its approaches in an interval (begin,
-    end)."""
+    """The section of a junction, as HTML: its movements and the queues of its approaches in an interval (begin, end),
+    in which it must have a row."""
     junction, called = runs.rows["junctions", *interval_of][name,], runs.names
     movements = [row for row in runs.rows["movements", *interval_of].values() if row.key[0] == name]
     approaches = [row for row in runs.rows["approaches", *interval_of].values() if row.key[0] == name]

@@ -66,7 +66,8 @@ def appendix_of(
 
 
 def details(runs: Runs, shown: Interval, rows: Iterable[Told], count: int) -> str:
-    """The sections of the junctions that are told with all their movements, as HTML; count: of all junctions."""
+    """The sections of the junctions that are told with all their movements, as HTML; rows: these junctions; count: how
+    many the page has in all."""
     names = [one.key[0] for one in rows]
     left = count - len(names)
     more = f" {left:,} other junctions: movements.csv of the runs, or --detail." if left else ""

@@ -174,7 +174,8 @@ def queues_picture(seen: Seen) -> str:
 
 def other_ways(plans: Sequence[Runs], shown: tuple[int, int]) -> str:
     """A table, as HTML, of the edges that win or lose 20 vehicles an hour or more with the second of two plans, for
-    sure or, with one seed, at all; the six at most that win and that lose most. A sentence where there are none."""
+    sure or, with one seed, at all; where they are more than twelve, the six that win and the six that lose most. A
+    sentence where there are none."""
     names, found = plans[1].names, []
     for edge, change in flow_changes(plans, shown).items():
         if abs(change.change) >= LEAST and (change.is_sure() or change.half is None):

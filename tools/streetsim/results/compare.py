@@ -1,4 +1,5 @@
-"""How close a run is to SUMO's own outputs of the same demand: trips, counts, time on edges."""
+"""How close a run is to SUMO's own outputs of the same demand: trips, counts, time on edges. Functions of a folder
+raise Fault where a table that they read is missing."""
 from bisect import bisect_right
 from collections.abc import Iterable, Iterator, Mapping, Sequence
 from statistics import fmean

@@ -1,5 +1,6 @@
 """The numbers behind the pictures, from what streetsim-run wrote; nothing here draws. Functions of a path, which is
-edges in the order of driving, raise Fault where the map has no such edge."""
+edges in the order of driving, raise Fault where the map has no such edge, and all where a table or the polls that they
+read are missing."""
 from bisect import bisect_right
 from collections import Counter, defaultdict
 from collections.abc import Iterable, Iterator, Sequence

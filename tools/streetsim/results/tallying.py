@@ -34,8 +34,8 @@ def files_in(folder: str) -> list[str]:
 
 def compared(said: str, found: str, counts: Compared) -> Iterator[tuple[str, str, str]]:
     """Where the files of the folder `said` differ from those of `found`, made anew: (file and place in it, said,
-    found). Files that only `said` has, made.json and lights.json are passed over. Adds to `counts`. Fault where one of
-    the settings holds none, or a packed file is none or cut."""
+    found). Files that only `said` has, made.json and lights.json are passed over. Adds to `counts`. Fault where a
+    setting.json holds no setting, or a packed file cannot be unpacked."""
     for name in (one for one in files_in(found) if one not in PATHS):
         counts.files += 1
         if not os.path.exists(f"{said}/{name}"):

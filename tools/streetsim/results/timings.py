@@ -21,7 +21,7 @@ def path_of(runs: Runs) -> str | None:
 
 def timings_of(runs: Runs) -> dict[str, Timing]:
     """{light: the program that it had in the runs}; lights whose kept program does not fit what the run showed are left
-    out, and all where nothing is kept."""
+    out, and all where nothing is kept. Fault where the kept file cannot be read."""
     path = path_of(runs)
     if path is None:
         return {}

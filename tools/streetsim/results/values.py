@@ -18,7 +18,7 @@ class Traffic:
 @dataclass(slots=True)
 class Values:
     """What is known of an edge in an interval; traffic is none where its lanes were not counted, row where it is no
-    approach, or the run had no --junctions."""
+    approach or one that nobody used, or the run had no --junctions."""
 
     traffic: Traffic | None
     row: Row | None

@@ -73,7 +73,8 @@ def with_works(
 
 def closed(run: Run, mapping: Map, works: list[Works], how: str, searched: bool = False) -> tuple[Run, Map, list[str]]:
     """(the run with works on a map whose lanes are joint where they must be, the same map, the texts on those who lose
-    their only lane). how: of movements.LOST; searched: whether ways round are searched for them."""
+    their only lane). how: of movements.LOST; searched: whether ways round are searched for them, which counts for bar
+    alone."""
     sites = sites_of(works, mapping)
     closures = closures_at(sites)
     lost = lost_movements(run, mapping, closures)
@@ -208,8 +209,8 @@ def named_in_parts(mapping: Map, anew: Map) -> Json:
 
 @contextmanager
 def imported_for(what: str, why: str) -> Iterator[None]:
-    """A context in which a Fault of an import is raised anew with what it was for (what). why: a text with a place for
-    the fault; empty: the usual words."""
+    """A context in which a Fault of an import is raised anew with what it was for (what). why: a text with {} where the
+    fault is to stand; empty: the usual words."""
     try:
         yield
     except Fault as fault:
@@ -217,7 +218,8 @@ def imported_for(what: str, why: str) -> Iterator[None]:
 
 
 def joined_by(names: Sequence[str]) -> str:
-    """Why lanes or edges need an import, and with which words the user makes one; a text with a place for the fault."""
+    """Why lanes or edges need an import, and with which words the user makes one; a text with {} where the fault is to
+    stand, for imported_for."""
     return (
         "nobody changes lane between the parallel links of an edge, so its lanes must be joint, which needs the import "
         f"anew: {{}}. Run streetsim-import with --joint {','.join(names)}"

@@ -93,8 +93,8 @@ class Watched:
         return [one for one in dict.fromkeys(feeders) if one not in known][:room] if reach.vehicles else []
 
     def look(self, clock: int, lanes: Mapping[Place, Lane], bound: Bound) -> None:
-        """Notes what the lanes of the link, and of those upstream that the queue reaches, show at a clock. bound:
-        whether a car has a link in its plan."""
+        """Notes what the lanes of the link, and of those upstream that `further` asks for until it asks for none, show
+        at a clock. bound: whether a car has a link in its plan."""
         self.note_passing(clock, lanes, bound)
         self.note_standing(clock, lanes)
         self.note_queue(clock, self.reach(clock, lanes))
