@@ -24,7 +24,7 @@ def kept_driver(driver: Driver) -> Json:
 
 
 def restore_driver(driver: Driver, state: Json) -> None:
-    """Puts a state into a driver of the same lights and programs, in the same order."""
+    """Puts a state that `kept_driver` gave into a driver of the same lights and programs, in the same order."""
     driver.first = state["first"]
     driver.switches = deque((clock, light, program) for clock, light, program in state["switches"])
     for one, own in zip(driver.controllers, state["lights"], strict=True):

@@ -124,7 +124,7 @@ def barriers_of(parameters: Mapping[str, str], orders: tuple[tuple[int, ...], ..
 
 
 def phases_of(kept: Mapping[str, Any], number: Mapping[str, int]) -> list[RingPhase]:
-    """The phases, each with the areas of the lanes that it has green first (G); number: the place of a lane's area.
+    """The phases, each with the areas of the lanes that it has green first (G); number: by lane the place of its area.
     Raises Listed where the name of a phase is not one digit."""
     parameters, found = kept["parameters"], []
     recalls = {name: digits(parameters.get(name, usual)) for name, usual in (("minRecall", ALL), ("maxRecall", ""))}

@@ -106,6 +106,7 @@ def cycle_of(rings: Rings, seconds: dict[int, int]) -> list[str]:
 
 
 def times_of(phase: RingPhase, green: int) -> Times:
-    """A phase second by second, (itself, its stage): `green` seconds green, then its yellow and red."""
+    """A phase second by second, (itself, its stage): `green` seconds green, then its yellow and red, rounded to
+    whole seconds."""
     stages = [(GREEN, green), (YELLOW, round(phase.yellow)), (RED, round(phase.red))]
     return [(phase, stage) for stage, seconds in stages for _ in range(seconds)]

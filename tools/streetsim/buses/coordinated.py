@@ -46,5 +46,5 @@ class Fixed(Driven):
     """A light of a run with listed seconds, as one that is driven."""
 
     def logic(self) -> Actuated:
-        """A new logic for this light."""
+        """A new logic of this light, a Coordinated, for one run."""
         return Coordinated(self.phases, self.gaps, self.lead)

@@ -52,7 +52,7 @@ class Dwell(NamedTuple):
 
 
 def dwells(stops: Iterable[Done]) -> dict[int, list[Dwell]]:
-    """By vehicle the stops that it has left, of what became of all stops."""
+    """By vehicle (its number in the file) the stops that it has left, of what became of all stops."""
     found: defaultdict[int, list[Dwell]] = defaultdict(list)
     for one in stops:
         if one.arrived is not None and one.left is not None:

@@ -14,7 +14,7 @@ Area = list[list[float]]
 def streets_and_areas(mapping: Map, map_path: FilePath) -> tuple[dict[str, str], dict[str, Area]]:
     """(names of streets by edge, outlines of junctions by name: points [x, y] in metres). Names are those of the map,
     and of the imported network where its file is still there; outlines are of that file alone, and empty without it.
-    map_path: of the map's file; the network's path is taken from its folder."""
+    map_path: the map's file, from whose folder the network's path is taken."""
     names: dict[str, str] = dict(mapping.names.get("edges", {}))
     areas: dict[str, Area] = {}
     if not mapping.sources:

@@ -76,7 +76,10 @@ def data_of(
     run: Run, mapping: Map, single: bool = False, map_path: FilePath = "", proved: bool = False, kept: bool = False,
     driven: bool = False,
 ) -> Json:
-    """What the page knows of a run beside the replies, by the names below (links, nodes, turns, cars, departs, ..).
+    """What the page knows of a run beside the replies, a dict: links, nodes (as of links_of, nodes_of), turns (a list
+    each), cars (names), departs and free (as of departures_and_ends), start, dawdle (0 to 1), signals and works
+    (commands before the first step), timed ([clock, text]), yields (how many), giving (nodes), single, proved, kept (as
+    given), driven (lights that detectors drive), listed (lights that they drive in SUMO alone).
     single: it is one file, with its engine; map_path: to find the imported network, empty: not looked for; proved: its
     program is one that ./build or ./build --page made and proved; kept: the bridge keeps its session; driven: the
     bridge drives lights by detectors."""

@@ -31,7 +31,8 @@ def program_of(given: str | None) -> str:
 
 
 def module_of(given: str | None) -> bytes:
-    """The engine for browsers, as bytes: of the file given (None: the one built); Fault where it cannot be read."""
+    """The engine for browsers, as bytes: of the file given, else of the one installed with the tools, else of the one
+    built; Fault where it cannot be read."""
     path = Path(given) if given else beside(MODULE)
     try:
         return path.read_bytes()

@@ -100,9 +100,10 @@ class Desk:
         return []
 
     def advance(self, clock: int, target: int) -> int:
-        """Advances the run from clock to target, or to the clock before it at which a line is due or lanes are looked
-        at; gives that clock. Vehicles that depart until then are sent first; there works, buses and lights are looked
-        at, and what follows is sent."""
+        """Advances the run from clock to target, or to the first clock before it at which something is due (a line, the
+        end of a period, a sample, works, a bus or a light), not past the run's end, and 10,000 steps at most; gives
+        that clock. Vehicles that depart until then are sent first; there works, buses and lights are looked at, and
+        what follows is sent."""
         at = clock - self.start
         period = (at // self.settings.period + 1) * self.settings.period + self.start
         sample = self.samples.after(clock)

@@ -79,8 +79,8 @@ class Ending:
             self.put_off(record, clock)
 
     def is_still(self, record: UnderWay, clock: int) -> bool:
-        """Whether no vehicle has changed its cell for longer than the longest cycle, and no vehicle or line is still to
-        come; notes what it saw, so it is asked once at each look."""
+        """Whether no vehicle has changed its cell for longer than the longest cycle of any light, none stands at a stop
+        of its own, and no vehicle or line is still to come; notes what it saw, so it is asked once at each look."""
         census = record.records.censuses[-1]
         figures = census.admitted, census.arrived, census.taken, census.cells, census.buffers, census.waiting
         waits = record.entered < len(record.run.enters) or record.sent < len(record.run.timed)

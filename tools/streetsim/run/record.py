@@ -168,8 +168,8 @@ class Recorder(Desk):
                     self.records.queues.append(row)
 
     def vehicles(self, owners: Iterable[int]) -> list[Vehicle]:
-        """The replies on vehicles of the file that have entered, by their numbers there; of a vehicle that was rescued,
-        on the car that it became. Fault where one is refused."""
+        """The replies on vehicles of the file, by their numbers there, whose enter lines were sent; of a vehicle that
+        was rescued, on the car that it became. Fault where one is refused."""
         replies = list(
             map(read_reply, self.exchange(b'{"cmd":"vehicle","car":%d}\n' % self.cars[owner] for owner in owners))
         )

@@ -68,8 +68,8 @@ def with_gaps(session: Session, lines: list) -> Session:
 
 
 def for_search(session: Session, lines: list) -> Session:
-    """The session as with_gaps makes it; where works lie in its run it keeps a giving without rounds, by which
-    seconds_at_works has vehicles merge."""
+    """The session as with_gaps makes it; where works lie in its run, and vehicles are to merge before them, it keeps a
+    giving without rounds, by which seconds_at_works has them merge."""
     giving, made = session.giving, with_gaps(session, lines)
     if giving is None or not (giving.merging and closures_of(giving.run, giving.until)):
         return made
@@ -77,8 +77,8 @@ def for_search(session: Session, lines: list) -> Session:
 
 
 def seconds_at_works(session: Session, signals: bytes, seed: int) -> float:
-    """The seconds of all vehicles, as vehicle_seconds; before works they merge, which is reckoned from their arrivals.
-    The session is one that for_search made, or one without a giving."""
+    """The seconds of all vehicles, as vehicle_seconds; in a run with works, before which they merge, exactly those of
+    their arrivals. The session is one that for_search made, or one without a giving. Fault as of replies."""
     giving = session.giving
     if giving is None or not closures_of(giving.run, giving.until):
         return vehicle_seconds(session, signals, seed)
