@@ -94,7 +94,7 @@ def of_row(row: Row | None) -> dict:
 
 
 def write_text(path: str, text: str) -> None:
-    """Writes a text with a line end behind it, whole or not at all."""
+    """Writes a text with a line end behind it, whole or not at all; Fault where it cannot be written."""
     with whole_file(path) as file:
         file.write(text + "\n")
 

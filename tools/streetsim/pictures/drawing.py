@@ -16,7 +16,7 @@ DATES = {"svg": {"Date": None}, "pdf": {"CreationDate": None}}  # without: equal
 
 
 def drawing_if_there() -> Pyplot:
-    """matplotlib's pyplot; none where it is not installed, which is said on standard error."""
+    """matplotlib's pyplot; None where it is not installed, which is said on standard error."""
     try:
         return drawing()
     except Fault as fault:
@@ -52,7 +52,7 @@ def ending_of(path: str) -> str:
 
 def save(figure: Figure, path: str) -> None:
     """Writes a picture in the format of its name, whole or not at all; a PNG with 64 colours, which keeps it small.
-    Fault for a name with another ending."""
+    Fault for a name with another ending than png, svg or pdf, or where it cannot be written."""
     ending = ending_of(path)
     with whole_path(path) as half:
         if ending != "png":

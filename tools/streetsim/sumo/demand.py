@@ -113,9 +113,9 @@ class Demand:
         self.mixes[name] = self.mix(path, element, element, name)
 
     def mix(self, path: FilePath, owner: Element, element: Element, name: str) -> Mix:
-        """The names and weights of the routes of a distribution. Routes that stand in it are added to `routes`; one
-        without a name is called after the distribution and its place, as in SUMO. owner: the element that faults name.
-        Fault for an unknown route, or none at all."""
+        """The names and weights of the routes of a distribution (element, name). Routes that stand in it are added to
+        `routes`; one without a name is called after the distribution and its place, as in SUMO. owner: the element that
+        faults name. Fault for a route that was not read before, or none at all."""
         names, weights = (element.get("routes") or "").split(), []
         shares = attribute(path, element, "probabilities", weights_of) if element.get("probabilities") else []
         weights += [shares[place] if place < len(shares) else 1.0 for place in range(len(names))]

@@ -75,8 +75,8 @@ def tell_beyond(name: str | None, lane: str | None, report: Report) -> None:
 
 def placed(detectors: Iterable[SumoDetector], mapping: Map, closed: Container[str], report: Report) -> list[Detector]:
     """Detectors on the cells of a map. Fault where the network does not have a lane, two have one name, or there are
-    more induction loops than a run may have; a detector on a lane of closed (lanes left out as they are not for the
-    classes) is left out and reported."""
+    more induction loops than a run may have, and as of cells; a detector on a lane of closed (names of lanes left out
+    as they are not for the classes) is left out and reported."""
     places = {mapping.lane_name(*place): place for place in mapping.lanes()}
     found = {}
     for one in detectors:
@@ -99,9 +99,9 @@ def placed(detectors: Iterable[SumoDetector], mapping: Map, closed: Container[st
 
 
 def cells(one: SumoDetector, link: MapLink, report: Report) -> tuple[int, int]:
-    """The (first, last) cell of a detector on a link: the one in which a loop lies, or those of which a lane area
-    covers a part. Fault where it lies beyond its lane and is not friendly, or does not end behind its begin. One that
-    goes on beyond its lane is reported."""
+    """The (first, last) cell, from 0, both included, of a detector on a link: the one in which a loop lies, or those of
+    which a lane area covers a part. Fault where it lies beyond its lane and is not friendly, or does not end behind its
+    begin. One that goes on beyond its lane is reported."""
     begin = one.begin + link.metres if one.begin < 0 else one.begin
     end = one.end + link.metres if one.end is not None and one.end < 0 else one.end
     if not one.friendly and not -NEAR <= begin <= link.metres + NEAR:

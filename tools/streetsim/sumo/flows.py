@@ -16,8 +16,8 @@ RATES = ("period", "vehsPerHour", "perHour", "probability")
 
 def departs(path: FilePath, element: Element, draws: Random) -> list[float]:
     """The seconds at which the vehicles of a flow depart, rising: begin + k * period while below the end, its number at
-    most; with a probability, or a period exp(RATE), by draws. Fault where there are more than may drive, or the flow
-    has no rate or two."""
+    most; with a probability, or a period exp(RATE), by draws. Fault where there are more than may drive, the flow has
+    no rate or two, ends before it begins, or an attribute cannot be read. element: the <flow>."""
     begin = optional(path, element, "begin", at_least_zero(seconds), 0.0)
     most = optional(path, element, "number", at_least_zero(int), None)
     end = optional(path, element, "end", seconds, DAY if most is None else math.inf)

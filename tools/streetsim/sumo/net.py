@@ -120,7 +120,7 @@ class SumoNet:
 
 def shape(text: str) -> list[Point]:
     """The points, (x, y) in metres, of a shape's text; heights are left out. ValueError where there are fewer than
-    two."""
+    two, or what is no number."""
     points: list[Any] = [tuple(number(part) for part in point.split(",")[:2]) for point in text.split()]
     if len(points) < 2 or any(len(point) < 2 for point in points):
         raise ValueError(text)
@@ -375,7 +375,8 @@ def bound_of(path: FilePath, phase: Element, name: str) -> float | None:
 
 
 def connections_of(net: SumoNet) -> dict[str, list[Connection]]:
-    """The connections of each junction, {its name: those of edges that end there}."""
+    """The connections of each junction, {its name: those of edges that end there}; a defaultdict, so that others have
+    an empty list."""
     found = defaultdict(list)
     for connection in net.connections:
         found[net.edges[connection.source].end].append(connection)

@@ -306,9 +306,10 @@ def shown_green(
     states: str, told: Mapping[int, tuple[int, int]], turn: Turn | MapTurn, grain: int, middle: bool
 ) -> list[bool]:
     """For each second whether a turn shows green; states: the letter of this turn in each second. Of each permissive
-    green so many seconds are shown as told says, in so many parts ({its first second: (seconds, parts)}). Of each other
-    green some seconds are left out, as SUMO's queues start later and turn slower: in its middle, or (middle False) at
-    its begin. All is rounded down to grain seconds."""
+    green, and each red in which one may go after a stop, so many seconds are shown as told says, in so many parts ({its
+    first second: (seconds, parts)}; where it says nothing, the whole green and nothing of the red); their begins and
+    ends are rounded down to grain seconds, a part lasts grain at least. Of each other green that follows a red or
+    yellow some seconds are left out, as SUMO's queues start later and turn slower: those of hidden (grain, middle)."""
     count = len(states)
     shown = [state in GREEN for state in states]
     greens, reds = runs_of(states, OPEN).items(), runs_of(states, STOPPED).items()

@@ -136,7 +136,7 @@ def with_parts(net: SumoNet, slow: Slow, parts: Sequence[Part], report: Report) 
 
 
 def part_edge(part: Part, parts: Sequence[Part], whole: Edge, slow: Slow) -> Edge:
-    """A part as an edge of its own; whole: the edge before it was cut."""
+    """A part as an edge of its own; parts: all of the edge, in order; whole: the edge before it was cut."""
     begin = whole.begin if part == parts[0] else part.name
     end = whole.end if part == parts[-1] else parts[parts.index(part) + 1].name
     lanes = [part_lane(lane, part, parts[-1].end, slow) for lane in whole.lanes]

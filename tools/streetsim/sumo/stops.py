@@ -151,7 +151,7 @@ def why_not(element: Element) -> str:
 
 def place_of(path: FilePath, element: Element, net: SumoNet, where: str) -> BusStop:
     """The place of a stop that names a lane, or an edge: then the first lane of it that is kept. Fault where it names
-    neither, the network does not have it, or the place lies beyond the lane."""
+    neither, the network does not have it, or the place lies beyond the lane; where: the element, for the Fault."""
     lane = element.get("lane", "")
     if not lane:
         edge = element.get("edge", "")

@@ -256,9 +256,9 @@ def green_here(vehicles: float, limit: int) -> int:
 
 
 def settle(movements: Sequence[Movement]) -> None:
-    """Finds, for the movements of a junction, the seconds of each permissive green that are shown and the flows that
-    get through, until they fit to each other: a vehicle that waits to turn blocks those behind it on its lane, and so
-    makes room for those on the other side. Sets shown and passing of each."""
+    """Finds, for the movements of a junction, one at least, the seconds of each permissive green that are shown and the
+    flows that get through, until they fit to each other: a vehicle that waits to turn blocks those behind it on its
+    lane, and so makes room for those on the other side. Sets shown and passing of each."""
     lanes = defaultdict(list)
     for movement in movements:
         lanes[movement.lane].append(movement)

@@ -25,7 +25,7 @@ def first_ways(
 ) -> list[Trip]:
     """Sets the path of each trip that has none; gives back the trips for which there is no way, their paths empty.
     trips: in order of departure, one at least; free: seconds, and capacity: vehicles an hour, of each movement; seed:
-    of the order in which trips choose; search: finds paths for wishes."""
+    of the order in which trips choose; search: finds a path for each wish by costs, in any order."""
     wanting = [at for at, trip in enumerate(trips) if not trip.path]
     random.Random(f"start {seed}").shuffle(wanting)
     hours = max(LEAST_HOURS, (trips[-1].depart - trips[0].depart) / 3600)
