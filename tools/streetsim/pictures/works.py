@@ -23,7 +23,8 @@ def draw_works(pyplot: Pyplot, folder: Folder) -> Figure:
 
 
 def draw_place(axes: Axes, folder: Folder, place: Place) -> Lines:
-    """Draws one place of works; gives the image, for a bar of colours."""
+    """Draws how many vehicles stand how many metres before one place of works, over time in minutes, with the queue's
+    end and the begins of links; gives the image, for a bar of colours."""
     every, room, names = folder.every, place.room, Names(folder.mapping)
     columns, rows = max(1, (place.end - place.begin) // every), int(room // BIN) + 1
     grid = [[0] * columns for _ in range(rows)]

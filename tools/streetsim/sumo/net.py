@@ -45,7 +45,8 @@ class Edge:
 
 @dataclass(slots=True)
 class Connection:
-    """From a lane of an edge to a lane of the next, by SUMO's names and indexes."""
+    """From a lane of an edge to a lane of the next, by SUMO's names and indexes; light: None where it has none, and its
+    index is 0 then."""
 
     source: str
     target: str

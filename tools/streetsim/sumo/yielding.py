@@ -296,7 +296,7 @@ def seconds_shown(movement: Movement, start: int, length: int) -> int:
 
 def seconds_after_stop(movement: Movement, start: int) -> int:
     """How many seconds of a red, by its first second, are shown to those who may go after a stop: as many go as find a
-    gap in it."""
+    gap in it; 0 where these are fewer than LEAST_STOPPED."""
     vehicles, blocked = 0.0, 0
     for foe in movement.foes:
         blocked |= queue_seconds(foe, 1.0)

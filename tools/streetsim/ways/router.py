@@ -83,7 +83,8 @@ class Router:
 
     def search(self, origin: int, target: int, clock: float) -> tuple[Path, float]:
         """(the path that is quickest from a clock on, its seconds to the end of the target); an empty path and FAR
-        where there is no way. An edge or movement that would be reached while it is shut is not used."""
+        where there is no way. An edge or movement that would be reached while it is shut is not used; whether the
+        origin is shut is not looked at."""
         bounds, inverse, last, shut = self.bounds_to(target), self.table.inverse, self.table.last, self.shut
         best, before = {origin: clock}, dict[int, int]()
         # Of equal ones the farthest comes first.
@@ -122,7 +123,8 @@ class Router:
 
     def clocks(self, path: Path, clock: float) -> list[float]:
         """The clocks at which one who begins a path at a clock reaches each of its edges, and at last the end of it;
-        where an edge or movement is shut, one waits until it is open."""
+        where an edge after the first, or a movement, is shut, one waits until it is open. Each pair of edges must be a
+        movement of the graph, else KeyError."""
         found, movement_of = [clock], self.graph.movement_of
         for way in pairwise((*path, END)):
             reached = found[-1] + self.table.at(movement_of[way], found[-1])

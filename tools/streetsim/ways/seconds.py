@@ -14,8 +14,9 @@ LEAST_CAPACITY = 100.0  # vehicles an hour that any movement lets pass
 
 
 def free_seconds(graph: Graph, mapping: Map, signals: Iterable[dict], dawdle: float) -> array:
-    """For each movement the seconds of its edge without traffic, and of the crossing with the mean wait at its signal.
-    signals: signal commands; dawdle: the chance, 0 to 1, to go on by a cell less. Of parallel links the last counts."""
+    """For each movement in all the seconds of its edge without traffic, of the crossing, and of the mean wait at its
+    signal; of the edge alone where it ends a trip. dawdle: the chance, 0 to 1, to go on by a cell less. Of parallel
+    links the last counts."""
     driving, waits = FreeFlow(mapping, dawdle), mean_waits(graph, mapping, signals)
     edge_of = {graph.number[link.edge]: at for at, link in enumerate(mapping.links)}
     seconds = array("d")
