@@ -30,8 +30,8 @@ def parser() -> Parser:
 
 
 def main(arguments: list[str]) -> int:
-    """Runs streetsim-play: writes the page, and prints how large it is; gives status 0. Fault where nothing was polled,
-    or the page would be too large."""
+    """Runs streetsim-play: writes the page, and prints how large it is; gives status 0. Fault for more than two runs,
+    where nothing was polled, or where the page would be too large."""
     words = parser().parse_args(arguments)
     if len(words.folders) > 2:
         raise Fault("a page plays one run, or two side by side")

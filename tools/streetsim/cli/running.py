@@ -168,7 +168,8 @@ def run_seeds(words: argparse.Namespace, making: Making, run: Run, mapping: Map,
         write_inputs(words, folder, run, mapping)
 
         def run_seed(seed: int, tell: Callable[[tuple[int, Census | None]], object]) -> Figures:
-            """Makes the run of a seed, in a process of its own."""
+            """Makes the run of a seed, in a process of its own, and gives its figures; tell: gets (clock, census) while
+            it goes."""
             place = f"{folder}/seed-{seed}"
             os.mkdir(place)
 

@@ -255,7 +255,8 @@ def check_cycles(words: argparse.Namespace, town: Town, cycles: range) -> None:
 
 
 def corridor_of(words: argparse.Namespace, town: Town) -> Corridor | None:
-    """The ways that are drawn in the end, none where --edges is not given; Fault for what could not be drawn then."""
+    """The ways that are drawn in the end, none where --edges is not given; Fault for what could not be drawn then, and
+    for --first or --last without --edges."""
     if not words.edges:
         if given := [name for name in ("first", "last") if getattr(words, name) is not None]:
             raise Fault(f"--{given[0]} is of the pictures: give --edges too")

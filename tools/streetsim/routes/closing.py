@@ -60,7 +60,7 @@ def shut_edges(
 
 def barred_ways(works: Iterable[Works], graph: Graph, mapping: Map) -> dict[tuple[int, int], list[Times]]:
     """{(edge, next edge), by numbers in the graph: the (first, last) seconds in which works have closed the only lanes
-    of this movement}."""
+    of this movement}; edges that are closed on all lanes are left out."""
     lost = lost_ways(closed_ends(closures_at(sites_of(works, mapping)), mapping), mapping)
     return {(graph.number[edge], graph.number[after]): list(times) for (edge, after), times in lost.items()}
 

@@ -29,7 +29,8 @@ def draw(folder: str, before: Diverted, one: Diverted) -> None:
 
 
 def gaps(pyplot: Pyplot, searches: Sequence[Diverted]) -> Figure:
-    """The picture of the relative gap (%) over iterations, a line for each search, with a dot for the routes kept."""
+    """The picture of the relative gap (%) over iterations, a line for each search, four at most, with a dot for the
+    routes kept."""
     figure, axes = pyplot.subplots(figsize=(6.5, 3.5))
     for style, one in zip(STYLES, searches):
         numbers = [iteration.number for iteration in one.search.iterations]

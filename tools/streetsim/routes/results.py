@@ -101,8 +101,8 @@ def flow_rows(graph: Graph, all_: Sequence[Diverted]) -> Iterator[tuple]:
 
 
 def figures(judged: Judged) -> dict:
-    """What the check runs gave, for setting.json: the mean trip (s) with half the width of its 95 % interval, the gap,
-    the fewest arrivals, and the rescues of each run."""
+    """What the check runs gave, for setting.json: mean_trip_s and half_width_95_s of its interval (None for one run),
+    relative_gap (a share), arrived (the fewest) and rescues (of each run)."""
     mean, half = interval([one.mean for one in judged.outcomes])
     return {
         "mean_trip_s": round(mean, 3),

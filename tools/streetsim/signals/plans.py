@@ -45,7 +45,7 @@ class Light:
 
     @property
     def free(self) -> list[int]:
-        """The places of the phases that may be stretched."""
+        """The places of the phases that may be stretched, which is: be longer or shorter."""
         return [at for at, (least, most) in enumerate(self.bounds) if least < most]
 
     def lost(self, timing: Timing) -> int:

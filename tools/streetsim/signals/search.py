@@ -35,8 +35,8 @@ class Trial:
 
 @dataclass
 class Search:
-    """The values of plans (or of bounds), mean trips in seconds: each plan is run once, and its value kept; the best of
-    them, and what was tried."""
+    """The values of plans (or of bounds, with the key_of of signals.bounds), mean trips in seconds: each plan is run
+    once, and its value kept; the best of them, and what was tried."""
 
     value: Callable[[Sequence[Any]], Generator[float, None, None]]  # of plans: gives their values in order
     budget: int  # simulations
