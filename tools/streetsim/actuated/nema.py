@@ -332,7 +332,8 @@ class Nema:
 
     def usual_way(self, one: Running, way: Way, beside: Way) -> Way:
         """Where a ring goes that wished for another side of the barrier than the other ring's change `beside`: nowhere,
-        if it may not go, else to that side's last phase."""
+        if it may not go or is green on that side, else to the phase in which it waits at the barrier on that side. way:
+        what it wished for, which has no effect."""
         if not one.ready or (one.side == beside.target.side and one.is_green):
             return one.way(one)
         name = self.rings.barriers[beside.target.side][one.ring]

@@ -227,8 +227,9 @@ class Fleet:
         return max(0, int(min(found)))
 
     def attend(self, clock: int, bus: Bus, seen: Mapping[Place, Lane], ask: Ask) -> None:
-        """Looks at a bus on the link of its stop, by what stands there (seen); where it is not there any more, the stop
-        counts as missed or it is asked where it is."""
+        """Looks at a bus on the link of its stop, by the replies on the lanes there (seen): sets which cells are closed
+        for it and when it is looked at next, and notes the stop where that is over. Where the bus is not there any
+        more, the stop counts as missed if it stood at it; else it is asked, a second later, where it is."""
         stopping, visit = bus.stopping, bus.visits[0]
         assert stopping is not None
         lanes = {lane: seen_on(seen.get((visit.link, lane))) for lane in stopping.wants(clock)}

@@ -26,7 +26,8 @@ class KeptEngine(Engine):
     program that keeps nothing; when all lines of the file are done, the program that keeps goes on from there."""
 
     def __init__(self, program: str, lines: list[bytes], file: Path, start: int) -> None:
-        """lines: the run's own; start: its first clock. Fault where the file is one of another run, or in use."""
+        """lines: the run's own, each with its LF; file: of the session, made where it is not there; start: the run's
+        first clock. Fault where the file is one of another run, in use, or cannot be read."""
         super().__init__(program, lines)
         self.file, self.start = file, start
         self.making, self.beside = Path(f"{file}.new"), Path(f"{file}.page")
@@ -39,8 +40,8 @@ class KeptEngine(Engine):
         self.known_file()
 
     def opened(self) -> Any:
-        """The open file of the notes, locked for this bridge; Fault where another one has it. A note that was cut off
-        is taken away."""
+        """The open file of the notes, locked for this bridge; Fault where another one has it, or it cannot be opened. A
+        note that was cut off is taken away."""
         try:
             notes = open(self.beside, "ab")
         except OSError as fault:

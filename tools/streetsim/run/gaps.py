@@ -162,8 +162,9 @@ def red_seconds(
 
 
 def seconds_later(foe: Foe, second: float, held: Held) -> float:
-    """How many seconds later one is out of the way who passes at a second, as it gives way too and its gap is of the
-    round before; 0 where it does not give way, or is held up, as it counts as it wishes to pass then."""
+    """How many seconds later than its gap says a foe is out of the way that passes at a second: LATER where it gives
+    way itself, as the gap that it takes is of the round before; 0 where it does not, or is held up, as it then counts
+    when it wishes to pass. held: as of red_seconds."""
     turn = foe.link, foe.lane, foe.next
     return LATER if turn in held and second // AROUND not in held[turn] else 0.0
 
