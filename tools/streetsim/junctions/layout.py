@@ -35,7 +35,7 @@ class Approach:
 
 
 def places_of(approaches: Mapping[str, Approach], mapping: Map) -> list[Place]:
-    """All (link, lane) of some approaches, with the edges before them."""
+    """All (link, lane) of some approaches (by edge), with the edges before them."""
     links = [link for approach in approaches.values() for link in approach.all_links]
     return [(link, lane) for link in links for lane in range(len(mapping.links[link].lanes))]
 

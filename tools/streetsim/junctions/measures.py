@@ -99,7 +99,8 @@ class Measures:
         plans: Sequence[Sequence[int]],
         passages: Passages,
     ) -> None:
-        """dawdle: of 1,000; plans: links of vehicles, by number in the file; passages: of the whole run."""
+        """approaches: by edge; dawdle: of 1,000; plans: links of vehicles, by number in the file; passages: of the
+        whole run."""
         self.mapping, self.approaches, self.plans, self.passages = mapping, approaches, plans, passages
         self.alone, self.greens = Alone(mapping, dawdle / 1000), Greens(mapping, signals)
         self.stopping = ways_that_stop(mapping)

@@ -58,7 +58,8 @@ class Passages:
         start: int,
         dwells: Mapping[int, Sequence[Dwell]] = MappingProxyType({}),
     ) -> None:
-        """start: the clock at the run's begin; dwells: by vehicle its stops."""
+        """approaches: by edge; start: the clock at the run's begin; dwells: by vehicle's number in the file the stops
+        that it left."""
         self.mapping, self.start, self.dwells = mapping, start, dwells
         self.lanes = [place for approach in approaches.values() for place in approach.lanes]
         self.edges = {link: edge for edge, approach in approaches.items() for link in approach.all_links}

@@ -34,8 +34,8 @@ def moments(start: int, until: int) -> list[int]:
 
 
 class Ends(NamedTuple):
-    """How the vehicles of a run ended: the clock at which each arrived, or none; and by vehicle the stops that it
-    made."""
+    """How the vehicles of a run ended: the clock at which each arrived, or none, by number in the file; and by the same
+    number the stops that it left."""
 
     arrivals: Sequence[int | None]
     dwells: Mapping[int, Sequence[Dwell]] = MappingProxyType({})
@@ -52,7 +52,7 @@ class Sampled:
         ends: Ends,
         interval: int,
     ) -> None:
-        """interval: seconds of the intervals that `interval` is asked for."""
+        """approaches: by edge; interval: seconds of the intervals that `interval` is asked for."""
         self.mapping, self.approaches, self.ends = mapping, approaches, ends
         self.plans: list[Sequence[int]] = [line.command["plan"] for line in run.enters]
         self.departs: list[int] = [line.command["depart"] for line in run.enters]

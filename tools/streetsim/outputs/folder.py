@@ -122,8 +122,8 @@ def one_run(making: Making, run: Run, mapping: Map, settings: Settings, folder: 
 
 
 def by_class(trips: Sequence[Entry], mapping: Map) -> str:
-    """The mean trip of each vehicle class, as one line; empty where all vehicles are of one. trips: rows of trips.csv,
-    in the order of the vehicles' numbers."""
+    """How many of each vehicle class arrived and their mean trip, as one line; empty where all vehicles are of one.
+    trips: rows of trips.csv, in the order of the vehicles' numbers."""
     found: defaultdict[str, list[int | None]] = defaultdict(list)
     for vclass, (_, _, arrival, duration, *_) in zip(classes_of(mapping.kinds, len(trips)), trips, strict=True):
         found[vclass].append(duration if arrival != "" else None)

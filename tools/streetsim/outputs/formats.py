@@ -55,7 +55,7 @@ class Tripinfo(XmlFile):
     def __init__(
         self, file: TextFile, places: Places, dwells: Mapping[int, Sequence[Dwell]] = MappingProxyType({})
     ) -> None:
-        """dwells: by vehicle its stops; those of one that arrives are known by then."""
+        """dwells: by the vehicle's number in looks its stops; those of one that arrives are known by then."""
         super().__init__(file, places)
         self.dwells = dwells
 

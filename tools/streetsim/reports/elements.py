@@ -56,7 +56,7 @@ class Reader(HTMLParser):
 
     @property
     def place(self) -> str:
-        """Where the reader is, in words: headings, row and column."""
+        """Where the reader is, in words: headings, row and column; 'the page's head' before any of these."""
         heads = [self.heads["h2"] or self.heads["h1"], self.heads["h3"]]
         column = self.columns[self.column] if 0 <= self.column < len(self.columns) else ""
         return ", ".join(filter(None, [*heads, self.row, column])) or "the page's head"
@@ -133,8 +133,8 @@ def numbers_in(text: str) -> int:
 
 
 def differences(said: str, found: str) -> list[Mismatch]:
-    """Where two pages (HTML) differ, the one that is checked (said) and the one made anew (found), one at least; empty
-    where they are equal to the byte."""
+    """The mismatches of two pages (HTML), the one that is checked (said) and the one made anew (found): one at least
+    where they differ, none where they are equal to the byte."""
     if said == found:
         return []
     first, second = elements_of(said), elements_of(found)

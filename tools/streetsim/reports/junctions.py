@@ -101,7 +101,8 @@ def detail(runs: Runs, name: str, interval_of: tuple[int, int]) -> str:
 
 
 def by_time(runs: Runs, name: str) -> str:
-    """The level of service of a junction in each interval, as HTML; empty where there is one interval alone."""
+    """The mean delay and the level of service of a junction in each interval, as HTML; empty where there is one
+    interval alone."""
     intervals = runs.intervals()
     found = [(begin, runs.rows.get(("junctions", begin, end), {}).get((name,))) for begin, end in intervals]
     if len(intervals) < 2:

@@ -137,8 +137,8 @@ def parallel_names(names: Iterable[str], mapping: Map) -> list[str]:
 
 
 def lanes_to_join(works: Iterable[Works], mapping: Map) -> list[str]:
-    """The lanes with works that must be joint with the lane beside: of edges where one link is shut and others stay
-    open, but for lanes that are joint already, and for those of lanes_to_lead."""
+    """The lanes with works that must be joint with the lane beside: of edges of several links of which one at least is
+    shut, but for lanes that are joint already, and for those of lanes_to_lead."""
     apart = lanes_to_lead(works, mapping)
     return [site.works.lane for site in in_the_way(works, mapping) if site.works.lane not in apart]
 
@@ -155,8 +155,8 @@ def lanes_to_lead(works: Iterable[Works], mapping: Map) -> list[str]:
 
 
 def in_the_way(works: Iterable[Works], mapping: Map) -> list[Site]:
-    """The works, one for each lane, on edges where a link is shut and others stay open; lanes that are joint already
-    are left out."""
+    """The works, one for each lane, on edges of several links of which one at least is shut; lanes that are joint
+    already are left out."""
     sites = sites_of(works, mapping)
     edges = {mapping.links[link].edge for link in shut_links(sites, mapping)}
     known = mapping.options.get("joint", ())
