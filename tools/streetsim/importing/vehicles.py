@@ -22,7 +22,7 @@ def vehicles_with_ways(
 ) -> list[Vehicle]:
     """The vehicles of files of trips, flows and routes, by departure. Those without a route have the way that is
     shortest with free speed, the waits at signals and the delays that the volumes so far would make; who has none is
-    left out, and counted in the report. Fault as of read_trips.
+    left out, and counted in the report. Fault where read_trips raises one.
 
     Lanes that are joint for works change nothing of it, so that a run and one with works differ by the works alone.
     """

@@ -43,7 +43,7 @@ def of_lights(folder: Folder, lights: Sequence[str]) -> dict[str, list[Row]]:
 
 def draw_light(axes: Axes, light: str, rows: Sequence[Row]) -> None:
     """Draws seconds of greens over their begin in minutes, by phase; filled where traffic held one until its greatest
-    length. light: its title; rows: of phases.csv, as of_lights gives them, one at least."""
+    length. light: its title; rows: as of_lights gives them, one at least."""
     phases = sorted({int(row["phase"]) for row in rows})
     for at, phase in enumerate(phases):
         own = [row for row in rows if int(row["phase"]) == phase]

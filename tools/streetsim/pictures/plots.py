@@ -45,7 +45,8 @@ class Corridor:
 
 def draw_corridor(pyplot: Pyplot, folder: Folder, corridor: Corridor) -> Figure:
     """Where each vehicle is along a path (metres) over time (seconds), the way back below. Fault where the edges make
-    no path, lanes were not polled every 5 s or oftener, or nothing was polled from first to last."""
+    no path, lanes were not polled every 5 s or oftener, nothing was polled from first to last, or (both) there is
+    no way back."""
     first, last = corridor.first, corridor.last
     refuse_broken(folder, corridor.edges)
     if first >= last:

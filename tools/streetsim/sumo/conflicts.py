@@ -54,7 +54,7 @@ def foes_by_way(
 ) -> dict[Way, dict[TurnKey, Foe]]:
     """Who goes before each used movement of a junction, by their turns, {(edge, next edge): {(link, lane, next link):
     foe}}, empty where nobody does. connections: of the junction; yields: the requests that each request gives way to.
-    Where all have to stop, these are all who come from other edges. flows: as of conflicts_of."""
+    Where all have to stop, these are all who come from other edges. flows: as in conflicts_of."""
     used = (one for one in connections if flows.get((one.source, one.target)))
     of_request = {one.request: one for one in used if one.request is not None}
     found: dict[Way, dict[TurnKey, Foe]] = {(one.source, one.target): {} for one in of_request.values()}
@@ -103,9 +103,9 @@ def gap_of(one: Connection, other: Connection, fast: bool) -> Gap:
 
 
 def gaps_of_ways(net: SumoNet) -> dict[Way, dict[Way, Gap]]:
-    """The movements that go before each movement without a light, whether or not routes take it, with the gap as of
-    gap_of: {(edge, next edge): {(edge, next edge) that goes first: gap}}; a movement that gives way to none is left
-    out."""
+    """The movements that go before each movement without a light, whether or not routes take it, with the gap that
+    gap_of gives: {(edge, next edge): {(edge, next edge) that goes first: gap}}; a movement that gives way to none is
+    left out."""
     found: defaultdict[Way, dict[Way, Gap]] = defaultdict(dict)
     for junction, connections in connections_of(net).items():
         of_request = {one.request: one for one in connections if one.request is not None and not one.light}

@@ -69,7 +69,8 @@ class Demand:
         self.later: list[tuple[Vehicle, str]] = []  # (vehicle, file and element): routes may be told after the vehicles
 
     def read(self, path: FilePath) -> None:
-        """Adds what a file of routes has; Fault where it cannot be read or is wrong, Unrouted as of read_element."""
+        """Adds what a file of routes has; Fault where it cannot be read or is wrong, Unrouted where read_element raises
+        it."""
         for element in elements(path, ["routes", "additional", "add"]):
             self.read_element(path, element)
 
@@ -96,7 +97,7 @@ class Demand:
 
     def read_route(self, path: FilePath, element: Element) -> None:
         """Adds a route with its stops to routes and route_stops; Fault where another route, or a distribution, has its
-        name, and as of edges."""
+        name, or `edges` raises one."""
         name = attribute(path, element, "id", filled)
         self.note_ignored(element)
         if name in self.routes or name in self.mixes:
@@ -105,8 +106,8 @@ class Demand:
         self.route_stops[name] = stops_in(path, element, self.net)
 
     def read_mix(self, path: FilePath, element: Element) -> None:
-        """Adds a distribution of routes, and the routes in it; Fault where another one, or a route, has its name, and
-        as of mix."""
+        """Adds a distribution of routes, and the routes in it; Fault where another one, or a route, has its name, or
+        `mix` raises one."""
         name = attribute(path, element, "id", filled)
         if name in self.routes or name in self.mixes:
             raise Fault(f"{told(path, element)}: a second route of this name")
@@ -247,7 +248,7 @@ def enters(
 ) -> tuple[list[Command], list[Vehicle]]:
     """(the enter commands, the vehicles that they are of), in one order. Vehicles that cannot drive, and stops that
     cannot be made, are left out and reported by reason; the network gets the stops that can (network.visits), and turns
-    that plans need (Network.route). Fault as of why_no_way. vehicles: in order of departure."""
+    that plans need (Network.route). Fault where why_no_way raises one. vehicles: in order of departure."""
     sizes, stops = Sizes(types), Stops(net, types, report)
     commands: list[Command] = []
     driven: list[Vehicle] = []
@@ -285,7 +286,7 @@ def entry_lane(plan: Sequence[int], network: Network, used: Counter[int], found:
 
 
 def kinds_of(driven: Sequence[Vehicle], types: Types) -> Json:
-    """What a map keeps of vehicles: {"types": [[name, vclass, length, gap, speed]] as of Kind, "type": by vehicle its
+    """What a map keeps of vehicles: {"types": [[name, vclass, length, gap, speed]] as in Kind, "type": by vehicle its
     place in types, "route": by vehicle its name (an empty list where none has one), "line": the same, but no key where
     none has one, "ends": a sum over where all begin and end, by which the map of another demand is known}."""
     names = list(types.kinds)
@@ -302,9 +303,9 @@ def kinds_of(driven: Sequence[Vehicle], types: Types) -> Json:
 def plan_of(
     vehicle: Vehicle, net: SumoNet, network: Network, stops: Mapping[int, LaneKey]
 ) -> tuple[tuple[int, ...] | None, str]:
-    """(links of a vehicle, empty text), or (None, why it cannot drive); Fault as of why_no_way. The network counts that
-    the links carry it, and gets turns that it needs (Network.route). stops: the lane at which it stops, by the edge's
-    place in its route."""
+    """(links of a vehicle, empty text), or (None, why it cannot drive); Fault where why_no_way raises one. The network
+    counts that the links carry it, and gets turns that it needs (Network.route). stops: the lane at which it stops, by
+    the edge's place in its route."""
     if any(edge in net.dropped for edge in vehicle.edges):
         return None, "an edge of the route has no lane for the classes"
     if len(vehicle.edges) > limits.PLAN:

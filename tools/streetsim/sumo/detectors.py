@@ -75,8 +75,8 @@ def tell_beyond(name: str | None, lane: str | None, report: Report) -> None:
 
 def placed(detectors: Iterable[SumoDetector], mapping: Map, closed: Container[str], report: Report) -> list[Detector]:
     """Detectors on the cells of a map. Fault where the network does not have a lane, two have one name, or there are
-    more induction loops than a run may have, and as of cells; a detector on a lane of closed (names of lanes left out
-    as they are not for the classes) is left out and reported."""
+    more induction loops than a run may have, or `cells` raises one; a detector on a lane of closed (names of lanes left
+    out as they are not for the classes) is left out and reported."""
     places = {mapping.lane_name(*place): place for place in mapping.lanes()}
     found = {}
     for one in detectors:

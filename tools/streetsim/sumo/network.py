@@ -84,7 +84,7 @@ class Network:
 
     def __init__(self, net: SumoNet, options: Options, report: Report, flows: Flows) -> None:
         """flows: vehicles an hour by (edge, next edge); empty where no route is known. What is made otherwise than in
-        SUMO is reported; Fault where a junction is absent, or as of closing_lanes."""
+        SUMO is reported; Fault where a junction is absent, or closing_lanes raises one."""
         self.options, self.detectors, self.closed_lanes = options, net.detectors, net.closed_lanes
         edges = ordered(net)
         ends = {name for edge in edges for name in (edge.begin, edge.end)}
@@ -487,7 +487,7 @@ def longer_here(link: Link, options: Options) -> float:
 
 def losses(net: SumoNet, names: Sequence[str], flows: Flows, longer: Mapping[str, float]) -> dict[str, int]:
     """Whole seconds that vehicles lose on average at junctions, by their names; what rounding leaves is carried on to
-    the next junction. longer: as of losses.lost."""
+    the next junction. longer: as in losses.lost."""
     connections, found, owed = connections_of(net), {}, 0.0
     for name in names:
         total, seconds = lost(connections[name], net, flows, longer)

@@ -23,8 +23,8 @@ def kept_programs(
 ) -> list[Json]:
     """What a map keeps of each program that is not static: {"light", "program": its name, "idle": True where it is not
     in force (these come last), "kind", "offset": seconds, "phases": [[seconds, state, minDur, maxDur, [next phases]]],
-    "parameters", "more": as of Program, "ways": as of way_of, "lanes": as of lane_of, "nodes": as of node_of, for each
-    node of the light, "timing": of a NEMA light, as of Program}. lights: (light, node)."""
+    "parameters" and "more": as in Program, "ways", "lanes" and "nodes" (of the light): lists of what way_of, lane_of
+    and node_of give, "timing": as in Program, of NEMA lights alone}. lights: (light, node)."""
     nodes = defaultdict(list)
     for light, node in lights:
         if any(one.kind != STATIC for one in (net.programs[light], *net.earlier.get(light, ()))):
@@ -59,8 +59,8 @@ def fixed_programs(
     net: SumoNet, network: Network, lights: Iterable[tuple[str, int]], flows: Flows, wanted: Container[str]
 ) -> list[Json]:
     """What a map keeps of each light of wanted whose program in force is static, so that it can wait for buses:
-    {"light", "program": its name, "offset": seconds, "phases": [[seconds, state, minDur, maxDur]], "nodes": as of
-    node_of}. lights: (light, node)."""
+    {"light", "program": its name, "offset": seconds, "phases": [[seconds, state, minDur, maxDur]], "nodes": as
+    node_of gives each}. lights: (light, node)."""
     nodes = defaultdict(list)
     for light, node in lights:
         if light in wanted and net.programs[light].kind == STATIC:

@@ -58,7 +58,7 @@ class LitNode:
 def movements(net: SumoNet, network: Network, flows: Flows, report: Report) -> dict[str, dict[int, Movement]]:
     """The connections of each junction with a light over its cycle, {junction: {request: movement}}, with the seconds
     that are shown (settle); empty without flows, and without the junctions of which it is not known who gives way to
-    whom. flows: vehicles an hour by (edge, next edge). Fault as of each_second and check_states."""
+    whom. flows: vehicles an hour by (edge, next edge). Fault where each_second or check_states raises one."""
     limits_of = {link.edge: link.limit for link in network.links}
     found = {}
     for junction, connections in connections_of(net).items() if flows else ():
@@ -77,7 +77,7 @@ def movements_of_junction(
 ) -> dict[int, Movement]:
     """The movements of one junction, {request: movement}, with the seconds that are shown (settle); empty where no
     light of it has a program, or it is not known who gives way to whom. flows: vehicles an hour by (edge, next edge);
-    limits_of: cells a step, by edge. Fault as of each_second and check_states."""
+    limits_of: cells a step, by edge. Fault where each_second or check_states raises one."""
     light = light_of(connections, net)
     ours = [connection for connection in connections if connection.light in (light, None)]
     if not light or not net.yields.get(junction) or any(connection.request is None for connection in ours):
@@ -113,7 +113,7 @@ def lit_node(
     found: Mapping[int, Movement],
     report: Report,
 ) -> LitNode:
-    """A node with a light and its program in the network; found: as of LitNode."""
+    """A node with a light and its program in the network; found: as in LitNode."""
     edges = {link: network.links[link].edge for link, *_ in turns}
     return LitNode(node, turns, edges, light, net.programs[light], network.options.permissive, report, found)
 
@@ -128,7 +128,7 @@ def signals(
     """The signal commands, (light, command): one for each node with a light, or one for each phase of a program that
     does not fit in one plan. movements_at: as movements gives them; ends: by light the last clock at which it shows
     this program, where it changes by time of day; else AFTER seconds behind network.last, which must be set. What is
-    shown otherwise than in SUMO is reported. Fault as of each_second and check_states."""
+    shown otherwise than in SUMO is reported. Fault where each_second or check_states raises one."""
     made = []
     for node, turns in sorted(turns_at(network).items()):
         lights = {turn.light for *_, turn in turns if turn.light}
@@ -161,7 +161,7 @@ class TooLong(Fault):
 def signal_lines(own: LitNode, begin: int, last: int) -> list[Command]:
     """The signal command of a node, in a list; of a program that does not fit in one plan, which is reported, a command
     for each phase, with its clock ("at"; not in the first), from begin to last (clocks), as a plan of one phase stays
-    until the next. Fault as of each_second and check_states."""
+    until the next. Fault where each_second or check_states raises one."""
     try:
         return [signal(own)]
     except TooLong:
@@ -195,8 +195,8 @@ def phase_lines(own: LitNode, begin: int) -> Iterator[tuple[int, Command]]:
 
 
 def signal(own: LitNode) -> Command:
-    """The signal command of one node; TooLong where its program does not fit in one plan, Fault as of each_second and
-    check_states. What is shown otherwise than in SUMO is reported."""
+    """The signal command of one node; TooLong where its program does not fit in one plan, Fault where each_second or
+    check_states raises one. What is shown otherwise than in SUMO is reported."""
     light, report, states = own.light, own.report, own.states()
     check_states(light, states, [turn for *_, turn in own.turns])
     if len(states) > limits.PHASES * limits.PHASE_STEPS:
@@ -287,8 +287,8 @@ def by_share(light: str, turns: Sequence[AtLight], states: Sequence[str], permis
 
 
 def green_seconds(own: LitNode, states: Sequence[str], told: Told, grain: int, middle: bool) -> list[Green]:
-    """The green turns in each second of the cycle. told: of by_gaps or by_share; grain, middle: as of shown_green.
-    Turns that the light does not control are always green."""
+    """The green turns in each second of the cycle. told: as by_gaps or by_share gives it; grain, middle: as in
+    shown_green. Turns that the light does not control are always green."""
     greens: list[set[TurnKey]] = [set() for _ in states]
     for link, lane, following, turn in own.turns:
         shown = (

@@ -191,7 +191,7 @@ class Stops:
 
     def on(self, name: str, edges: Sequence[str], stops: Iterable[Stop]) -> Found:
         """The stops of a vehicle that have a place on its route (edges), each on the edge of the stop before it or on a
-        later one; the others are kept in unmade, by reason. name: of the vehicle. Fault as of place."""
+        later one; the others are kept in unmade, by reason. name: of the vehicle. Fault where `place` raises one."""
         found, at, before = Found(), 0, 0.0
         for stop in stops:
             place = self.place(stop)
@@ -220,7 +220,8 @@ class Stops:
 
     def add(self, vehicle: tuple[int, str, str], plan: Sequence[int], found: Found, network: Network) -> None:
         """Adds to visits those of a vehicle (its number in the run file, name and type) on the links of its plan;
-        found: as of on. Stops that these links do not reach, or on links of one cell, are kept in unmade, by reason."""
+        found: as `on` gives it. Stops that these links do not reach, or on links of one cell, are kept in unmade, by
+        reason."""
         number, name, kind = vehicle
         for stop, spot in found.stops:
             link, lane = network.place_of[spot.edge, spot.index]

@@ -112,7 +112,7 @@ class Types:
         self.unknown: set[str] = set()
 
     def read(self, path: FilePath, element: Element) -> None:
-        """Adds a <vType> or a <vTypeDistribution>; Fault as of read_type and read_mix."""
+        """Adds a <vType> or a <vTypeDistribution>; Fault where read_type or read_mix raises one."""
         if element.tag == "vType":
             self.read_type(path, element)
         else:

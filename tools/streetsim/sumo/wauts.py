@@ -92,8 +92,8 @@ def day_lines(
     net: SumoNet, network: Network, days: Mapping[str, Day], flows: Flows, report: Report
 ) -> list[tuple[str, Command]]:
     """The signal lines, (light, command with "at"), by which lights show the listed seconds of the programs to which
-    they change after the first; days: as days_of gives them; flows: vehicles an hour by (edge, next edge). Fault as of
-    signals. network.last must be set."""
+    they change after the first; days: as days_of gives them; flows: vehicles an hour by (edge, next edge). Fault where
+    each_second or check_states raises one. network.last must be set."""
     made: list[tuple[str, Command]] = []
     places, at_junction = turns_at(network), connections_of(net) if days else {}
     limits_of = {link.edge: link.limit for link in network.links}

@@ -13,14 +13,14 @@ from streetsim.ways.seconds import capacities, free_seconds
 
 def map_without_routes(net: SumoNet, options: Options) -> Map:
     """The map that an import without vehicles would make, but without lights and their programs, who gives way, and
-    detectors: for its links and turns. Fault as of Network."""
+    detectors: for its links and turns. Fault where Network raises one."""
     report = Report()
     return map_of(Network(net, options, report, {}), [], [], report)
 
 
 def times_without_routes(net: SumoNet, graph: Graph, options: Options) -> tuple[array, list[float]]:
     """(seconds of each movement without traffic, with the mean wait at its signal; vehicles an hour that each lets
-    pass), both by movement of the graph, before any route is known. Fault as of Network and signals."""
+    pass), both by movement of the graph, before any route is known. Fault where Network or signals raises one."""
     report = Report()
     network = Network(net, options, report, {})
     made = [command for _, command in signals(net, network, {}, report, {}) if "at" not in command]

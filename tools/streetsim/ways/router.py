@@ -53,7 +53,8 @@ class Router:
         self.target, self.bounds = END, [FAR]
 
     def arcs_of(self, edge: int) -> list[tuple[int, array]]:
-        """(next edge, the row of seconds of the movement to it, as of Table.row) for each edge that follows an edge."""
+        """(next edge, the row of seconds of the movement to it, as Table.row gives it) for each edge that follows an
+        edge."""
         made = self.arcs[edge]
         if made is None:
             made = self.arcs[edge] = [

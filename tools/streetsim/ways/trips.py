@@ -86,7 +86,7 @@ class TripDemand(Demand):
     def add(self, path: FilePath, element: ElementTree.Element, departures: Sequence[tuple[str, float]]) -> None:
         """Adds the vehicles of an element, one for each (name, departure in seconds), with its route or with the edges
         where it begins and ends (its name then goes into without). Fault where there are more vehicles than may enter a
-        run, and as of ends and Demand.add."""
+        run, or `ends` or Demand.add raises one."""
         count = len(self.vehicles) + len(departures)
         if count > limits.VEHICLES:
             raise Fault(f"{path}: {count:,} trips, and at most {limits.VEHICLES:,} vehicles enter in a run")
