@@ -18,7 +18,7 @@ def tried_seeds(check: range) -> list[int]:
 
 def lengths(cycles: range, town: Town, streets: Streets) -> list[int]:
     """The cycles that are proposed, in seconds, rising: each STEP of the range and its end, and Webster's where it lies
-    within. cycles: a range of seconds, one each."""
+    within. cycles: a range by single seconds; empty: none is proposed."""
     made, critical = {*cycles[::STEP], *cycles[-1:]}, critical_cycle(town.lights, town.plan, streets)
     return sorted(made | ({critical} if critical is not None and critical in cycles else set()))
 
