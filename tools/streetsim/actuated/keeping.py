@@ -18,8 +18,8 @@ OF_A_PHASE = ("stage", "since", "end", "lasts", "most", "resting", "ready", "cal
 
 
 def kept_driver(driver: Driver) -> Json:
-    """The state of all that drives lights, {"first", "switches", "lights"}; what buses call is no part of it, as only
-    runs have that."""
+    """The state of all that drives lights, {"first", "switches", "lights" (each as `kept` gives it)}; what buses call
+    is no part of it, as only runs have that."""
     return {"first": driver.first, "switches": list(driver.switches), "lights": list(map(kept, driver.controllers))}
 
 
@@ -118,7 +118,7 @@ def restore_shown(shown: Shown | ShownRings, state: Json) -> None:
 
 
 def fields(of: object, names: Iterable[str]) -> Json:
-    """Some attributes of an object, by their names."""
+    """{name: value} of some attributes of an object."""
     return {name: getattr(of, name) for name in names}
 
 

@@ -154,7 +154,8 @@ def idle_lights(mapping: Map, left: int, known: Iterable[Light]) -> Iterator[Lig
 
 
 def passing(run: Run, mapping: Map) -> Counter[str]:
-    """How many vehicles of a run pass each light, by their plans; lights that nobody passes are left out."""
+    """How often vehicles of a run pass each light, by their plans (one that passes two of its nodes counts twice);
+    lights that nobody passes are left out."""
     light_at = {(turn.link, turn.next): turn.light for turn in mapping.turns if turn.light}
     pairs = (pair for line in run.enters for pair in pairwise(line.command["plan"]))
     return Counter(light_at[pair] for pair in pairs if pair in light_at)

@@ -36,9 +36,9 @@ class Priority:
 
 
 def prioritised(run: Run, mapping: Map, names: Sequence[str], seen: int, driven: Lights) -> Priority:
-    """The lights that wait for vehicles of the classes and lines in names, which a light sees (seen) so many seconds
-    before the stop line; those that cannot wait are told with the reason. driven: the lights that detectors drive.
-    Fault where a name has no vehicle."""
+    """Which lights wait for which vehicles of the classes and lines in names; a light sees one so many seconds (seen)
+    before its stop line. Lights that cannot wait are told with the reason. driven: the lights that detectors drive,
+    which wait too. Fault where a name has no vehicle."""
     owners = named(run, mapping, names)
     timed = {line.command["node"] for _, line in run.timed if line.command["cmd"] == "signal"}
     changed = {light for light, node in mapping.signals if node in timed}

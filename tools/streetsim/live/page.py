@@ -50,7 +50,7 @@ def links_of(run: Run, mapping: Map, streets: dict[str, str]) -> list[Json]:
 
 def nodes_of(run: Run, mapping: Map, areas: dict[str, list]) -> list[Json]:
     """The nodes as the page reads them, a dict each: number, name, x and y (metres), area (points), light: {name, size:
-    how many signals it has}, None without one. areas: outlines by junction."""
+    of its state, up to the greatest place that a turn here has}, None without one. areas: outlines by junction."""
     names = Names(mapping)
     lights: dict[int, Json] = {node: {"name": name, "size": 0} for name, node in mapping.signals}
     for turn in mapping.turns:

@@ -187,7 +187,7 @@ class Desk:
         self.meters_due = [(numbers, period, period * limits.ROWS) for period, numbers in by_period.items()]
 
     def place_lights(self) -> None:
-        """Places the detectors of lights, and sends what these lights show at the begin. Fault where a detector is
+        """Places the detectors of lights, and sends what these lights show at the begin. Fault where one of either is
         refused."""
         replies = self.exchange(map(line_of, self.driver.meters(len(self.meters))))
         refused = [reply for reply in map(read_reply, replies) if isinstance(reply, Exception)]
