@@ -56,8 +56,8 @@ def main(arguments: list[str]) -> int:
 
 
 def check_page(words: argparse.Namespace) -> int:
-    """Checks a sealed page, and prints the result; gives the status as `main` does. Fault where it is not sealed, or
-    its seal was changed."""
+    """Checks a sealed page, and prints the result; gives the status as `main` does. Fault where it cannot be read, is
+    not sealed, or its seal was changed."""
     with reading(words.target), open_text(words.target) as file:
         text = file.read()
     seal = seal_of(words.target, text)

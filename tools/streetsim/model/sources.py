@@ -55,13 +55,13 @@ def sources_of(kept: dict, map_path: FilePath, run_path: FilePath) -> Sources:
 
 
 def sum_of(path: str) -> str:
-    """The SHA-256 of a file's bytes; Fault where it cannot be read."""
+    """The SHA-256, in hex, of a file's bytes; Fault where it cannot be read."""
     with reading(path), open(path, "rb") as file:
         return hashlib.file_digest(file, "sha256").hexdigest()
 
 
 def sum_of_lines(lines: Iterable[str]) -> str:
-    """The SHA-256 of lines, to each of which its line end is added."""
+    """The SHA-256, in hex, of lines, to each of which its line end is added."""
     found = hashlib.sha256()
     for line in lines:
         found.update(line.encode() + b"\n")
@@ -70,7 +70,7 @@ def sum_of_lines(lines: Iterable[str]) -> str:
 
 @functools.cache
 def digest_of(path: str) -> str | None:
-    """The SHA-256 of a file's bytes, reckoned once in a process; none where it cannot be read."""
+    """The SHA-256, in hex, of a file's bytes, reckoned once in a process; None where it cannot be read."""
     try:
         with open(path, "rb") as file:
             return hashlib.file_digest(file, "sha256").hexdigest()
