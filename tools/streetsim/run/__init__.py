@@ -1,1 +1,1 @@
-"""A run: its lines, what is recorded of it, its folder of tables."""
+"""A run while it goes: its lines in time, what is asked and recorded, giving way by rounds, the rows of its tables."""

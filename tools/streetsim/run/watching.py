@@ -1,4 +1,4 @@
-"""Looks at lanes in every second of a run, by further runs that repeat it: looking changes nothing."""
+"""Looks at lanes at some clocks of a run, or at all, by further runs that repeat it: looking changes nothing."""
 import json
 import os
 from collections.abc import Iterable, Iterator, Sequence
