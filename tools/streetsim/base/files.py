@@ -42,10 +42,10 @@ def open_text(path: FilePath, mode: str) -> TextFile:
 
 
 def open_text(path: FilePath, mode: str = "r") -> TextFile:
-    """Opens a text file, of UTF-8, to read (mode r) or to write (w anew, a at its end). What is read is gzip by its
-    content, whatever its name, and may begin with a byte order mark; what is written is gzip where the name ends with
-    .gz (without time or name inside, so that equal runs give equal bytes). OSError, and no Fault, where it cannot be
-    opened: `reading` makes a Fault of it."""
+    """Opens a text file, of UTF-8, to read (mode r) or to write (w anew, a at its end); line ends stay as they are.
+    What is read is gzip by its content, whatever its name, and may begin with a byte order mark; what is written is
+    gzip where the name ends with .gz (without time or name inside, so that equal runs give equal bytes). OSError, and
+    no Fault, where it cannot be opened: `reading` makes a Fault of it."""
     if mode == "r":
         return io.TextIOWrapper(open_bytes(path), encoding="utf-8-sig", newline="")
     if str(path).endswith(".gz"):

@@ -76,12 +76,13 @@ class TrafficLight(Domain):
         return self.at(name)[1]
 
     def getPhaseDuration(self, name: str) -> float:
-        """Seconds that the present phase lasts by the program."""
+        """Seconds that the present phase lasts by the program; 600 for a state that is held."""
         light, index, _ = self.at(name)
         return float(light.phases[index][0])
 
     def getNextSwitch(self, name: str) -> float:
-        """The clock, in seconds, at which the present phase ends, as far as that is known now."""
+        """The clock, in seconds, at which the present phase ends, as far as that is known now; for a state that is held
+        a clock up to 600 s on, at which nothing ends."""
         timers = [clock for clock, light, _ in self.now().control.timers if light == name]
         return float(min(timers)) if timers else float(self.now().clock + self.at(name)[2])
 
