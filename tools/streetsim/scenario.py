@@ -81,8 +81,8 @@ class Scenario(Running):
         self.client.__exit__(kind, *fault)
 
     def simulationStep(self, time: float = 0) -> None:
-        """Makes one step (time 0), or all steps until the clock is at time seconds; none where it is there already, as
-        in SUMO."""
+        """Makes one step (time 0), or all steps until the clock is at time seconds, rounded up; none where it is there
+        already, as in SUMO."""
         self.step(time)
 
     def go_on(self, target: int) -> None:
@@ -243,8 +243,8 @@ class Stretch(Part, StretchCalls[Scenario]):
         raise NotImplementedError
 
     def entries(self, name: str) -> list[Sequence[int]]:
-        """(number, cell, speed in cells a step, and size in cells where that is above 1) of each vehicle on it, the
-        greatest cell of a lane first."""
+        """(number, cell of its front, speed in cells a step, and size in cells where that is above 1) of each vehicle
+        on it, the greatest cell of a lane first."""
         return [entry for place in self.places(name) for entry in self.scenario.client.lane(*place).cells]
 
     def cars(self, name: str) -> list[int]:

@@ -182,7 +182,7 @@ class Rows:
 
 @dataclass(slots=True, frozen=True)
 class Census:
-    """Vehicles by where they are at `clock`, the reply to count; admitted: all that entered, wherever they are."""
+    """How many vehicles are where at `clock`, the reply to count; admitted: all that entered, wherever they are."""
 
     admitted: int
     arrived: int

@@ -154,7 +154,8 @@ def attribute(path: FilePath, element: Element, name: str, convert: Callable[[st
 
 
 def attribute(path: FilePath, element: Element, name: str, convert: Callable[[str], Any] = str) -> Any:
-    """An attribute, converted; Fault where the element has none of this name, or `convert` raises ValueError."""
+    """What `convert` makes of the text of an element's attribute, by its name; Fault where the element has none of this
+    name, or `convert` raises ValueError. path: of the file, for the Fault's words alone."""
     text = element.get(name)
     if text is None:
         raise Fault(f"{told(path, element)}: no attribute {name!r}")
@@ -167,13 +168,13 @@ def attribute(path: FilePath, element: Element, name: str, convert: Callable[[st
 def optional(
     path: FilePath, element: Element, name: str, convert: Callable[[str], Value], default: Other
 ) -> Value | Other:
-    """An attribute, converted; the default, as it is, where the element does not have it; Fault where it does not
-    convert."""
+    """As `attribute`, but the default, as it is, where the element does not have the attribute; Fault where `convert`
+    raises ValueError."""
     return default if element.get(name) is None else attribute(path, element, name, convert)
 
 
 def number(text: str) -> float:
-    """A finite number of a text; ValueError otherwise."""
+    """The finite number that a text writes; ValueError otherwise."""
     value = float(text)
     if not math.isfinite(value):
         raise ValueError(text)
@@ -181,10 +182,11 @@ def number(text: str) -> float:
 
 
 def only(convert: Callable[[str], Number], holds: Callable[[Number], bool]) -> Callable[[str], Number]:
-    """A conversion of a text to a number for which something holds; ValueError for other numbers."""
+    """A conversion of a text to a number, as `convert` makes it, that takes numbers alone for which `holds` is true;
+    ValueError for others."""
 
     def converted(text: str) -> Number:
-        """The number of a text; ValueError where the condition does not hold for it."""
+        """The number that a text writes; ValueError where the condition does not hold for it."""
         value = convert(text)
         if not holds(value):
             raise ValueError(text)
@@ -194,12 +196,14 @@ def only(convert: Callable[[str], Number], holds: Callable[[Number], bool]) -> C
 
 
 def at_least_zero(convert: Callable[[str], Number]) -> Callable[[str], Number]:
-    """A conversion that takes numbers from 0 on; ValueError for a negative one."""
+    """A conversion of a text to a number, as `convert` makes it, that takes numbers from 0 on; ValueError for a
+    negative one."""
     return only(convert, lambda value: value >= 0)
 
 
 def above_zero(convert: Callable[[str], Number]) -> Callable[[str], Number]:
-    """A conversion that takes numbers above 0 alone; ValueError for 0 and below."""
+    """A conversion of a text to a number, as `convert` makes it, that takes numbers above 0 alone; ValueError for 0 and
+    below."""
     return only(convert, lambda value: value > 0)
 
 
@@ -219,7 +223,8 @@ def filled(text: str) -> str:
 
 
 def seconds(text: str) -> float:
-    """The seconds of a SUMO time: 3.5, or 01:30:00, or 1:01:30:00 with days; ValueError where it is none."""
+    """The seconds that a text writes as SUMO's times: 3.5, or 01:30:00, or 1:01:30:00 with days; ValueError where it is
+    none."""
     parts = text.split(":")
     value = sum(float(part) * scale for part, scale in zip(reversed(parts), (1, 60, 3600, 86400), strict=False))
     if len(parts) not in (1, 3, 4) or not -1e9 < value < 1e12:

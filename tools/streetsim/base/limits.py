@@ -23,5 +23,5 @@ LINE = 1_048_576  # bytes
 
 
 def cells_of(metres: float) -> int:
-    """The cells of 7.5 m of a lane with this length in metres, rounded; one at least."""
+    """How many cells of 7.5 m a lane of this length in metres has, rounded; one at least."""
     return max(1, round(metres / CELL_METRES))

@@ -44,7 +44,7 @@ class TerminalLine:
         self.width = len(text)
 
     def end(self) -> None:
-        """Takes the line away where one was written over."""
+        """Takes the line away that write_over wrote, where there is one."""
         if self.width:
             self.write(f"{'':{self.width}}\r")
             self.width = 0

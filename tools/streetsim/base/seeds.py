@@ -47,8 +47,8 @@ def paired(before: Sequence[float], after: Sequence[float]) -> tuple[float, floa
 
 
 def unpaired(before: Sequence[float], after: Sequence[float]) -> float:
-    """Half the width of the 95 % interval of a difference of means, if the runs were taken as of other seeds; as many
-    of both, two at least."""
+    """Half the width of the 95 % interval of the difference of two means, in the values' unit, with the runs taken as
+    if those before and after had nothing in common, not even seeds; as many of both, two at least."""
     return half_width(sqrt(stdev(before) ** 2 + stdev(after) ** 2), len(before))
 
 

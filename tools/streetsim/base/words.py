@@ -52,7 +52,7 @@ def within(least: int, most: int) -> Callable[[str], int]:
     otherwise."""
 
     def number(text: str) -> int:
-        """The number of a text; ArgumentTypeError where it is no whole number of the range."""
+        """The number that a text writes; ArgumentTypeError where it is no whole number of the range."""
         if not text.isdecimal() or not least <= int(text) <= most:
             raise argparse.ArgumentTypeError(f"{text!r} is not {least} to {most:,}")
         return int(text)
@@ -65,7 +65,7 @@ def time_within(least: int, most: int) -> Callable[[str], int]:
     3600, 01:00:00 or 0:01:00:00; ArgumentTypeError otherwise."""
 
     def time(text: str) -> int:
-        """The seconds of a text; ArgumentTypeError where they are out of the range or not whole."""
+        """The seconds that a text writes; ArgumentTypeError where they are out of the range or not whole."""
         value = whole_seconds(text)
         if value is None or not least <= value <= most:
             raise argparse.ArgumentTypeError(f"{text!r} is not {least} to {most:,} s, in seconds or as HH:MM:SS")
@@ -75,7 +75,8 @@ def time_within(least: int, most: int) -> Callable[[str], int]:
 
 
 def whole_seconds(text: str) -> int | None:
-    """The seconds of a SUMO time, as `seconds` reads it; none where it is no time or no whole second."""
+    """The seconds that a text writes as SUMO's times, as `seconds` reads it; None where it is no time or no whole
+    second."""
     try:
         value = seconds(text)
     except ValueError:
@@ -90,7 +91,7 @@ def listed(text: str) -> list[str]:
 
 
 def share_of(text: str) -> float:
-    """The share, 0 to 1, of a text; ArgumentTypeError otherwise."""
+    """The share that a text writes as a number, 0 to 1; ArgumentTypeError otherwise."""
     try:
         value = float(text)
     except ValueError:
