@@ -165,8 +165,9 @@ class Simulation(Domain, SimulationCalls[Session]):
     def getDistance2D(
         self, x1: float, y1: float, x2: float, y2: float, isGeo: bool = False, isDriving: bool = False
     ) -> float:
-        """Metres between two points, given in metres: in a straight line, or (isDriving) on the road between the places
-        nearest to them; TraCIException where there is no way. NotHere for degrees (isGeo)."""
+        """Metres between two points, given in metres: in a straight line, or (isDriving) as getDistanceRoad has it
+        between the places on the road that are nearest to them; TraCIException where there is no way. NotHere for
+        degrees (isGeo)."""
         if isGeo:
             raise NotHere("simulation.getDistance2D: degrees are not here")
         if not isDriving:

@@ -104,8 +104,8 @@ class Vehicle(VehicleCalls[Session], Placed):
         return (place.speed - before.speed) * METRES if before is not None else 0.0
 
     def getPosition(self, name: str) -> tuple[float, float]:
-        """The point (x, y), in metres, of its front on the line of its link, which lanes side by side share; in a
-        junction the junction's point; SUMO's "nowhere" for both before it departs."""
+        """The point (x, y), in metres, of its front on the line of its link, which the lanes of a joint link share; in
+        a junction the junction's point; SUMO's "nowhere" for both before it departs."""
         place, mapping = self.place(name), self.now().map
         if place is None:
             return NOWHERE, NOWHERE
@@ -356,8 +356,8 @@ class Vehicle(VehicleCalls[Session], Placed):
         other_way(self.now(), name, self.place(name), list(edgeList))
 
     def setRouteID(self, name: str, routeID: str) -> None:
-        """Sets a named route, from the edge on where the vehicle is, as setRoute does; TraCIException for an unknown
-        route."""
+        """Sets a named route, from the edge on where the vehicle is, as setRoute does (in a junction the whole route,
+        which must begin with the edge before); TraCIException for an unknown route, and as of setRoute."""
         session = self.now()
         if routeID not in session.routes and routeID not in session.facts.routes:
             raise TraCIException(f"Route '{routeID}' is not known.")
