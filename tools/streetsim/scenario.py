@@ -239,7 +239,7 @@ class Stretch(Part, StretchCalls[Scenario]):
     """Calls on lanes and edges; each asks the program anew. KeyError for an unknown name."""
 
     def places(self, name: str) -> list[tuple[int, int]]:
-        """All (link, lane) of a lane or an edge, by its name."""
+        """All (link, lane) of a lane or an edge, by its name; each kind of stretch gives its own."""
         raise NotImplementedError
 
     def entries(self, name: str) -> list[Sequence[int]]:
@@ -248,7 +248,7 @@ class Stretch(Part, StretchCalls[Scenario]):
         return [entry for place in self.places(name) for entry in self.scenario.client.lane(*place).cells]
 
     def cars(self, name: str) -> list[int]:
-        """The numbers of the vehicles on it, from the stop line."""
+        """The numbers of the vehicles on it, from the stop line; of an edge, lane after lane."""
         return [entry[0] for entry in self.entries(name)]
 
     def speeds(self, name: str) -> list[float]:

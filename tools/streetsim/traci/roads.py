@@ -1,4 +1,4 @@
-"""TraCI's lanes, edges, junctions and detectors."""
+"""TraCI's lanes, edges, junctions and detectors; traci/vehicles.py says which calls look at vehicles."""
 from collections.abc import Sequence
 from typing import Any, NoReturn
 
@@ -47,7 +47,7 @@ class Stretches(Places, StretchCalls[Session]):
     variables = {**Places.variables, tc.LAST_STEP_VEHICLE_HALTING_NUMBER: "getLastStepHaltingNumber"}
 
     def metres(self, name: str) -> float:
-        """The metres of road that vehicles can cover there."""
+        """The metres of road that vehicles can cover there; each kind of stretch gives its own."""
         raise NotImplementedError
 
     def getLastStepOccupancy(self, name: str) -> float:

@@ -1,4 +1,4 @@
-"""TraCI's simulation and routes."""
+"""TraCI's simulation and routes; traci/vehicles.py says which calls look at vehicles."""
 import sys
 from collections.abc import Iterable, Sequence
 from dataclasses import dataclass

@@ -87,7 +87,8 @@ class TrafficLight(Domain):
         return float(min(timers)) if timers else float(self.now().clock + self.at(name)[2])
 
     def getProgram(self, name: str) -> str:
-        """The name of the program that runs; "online" after setRedYellowGreenState."""
+        """The name of the program that runs; "online" while a state is held that setRedYellowGreenState or setLinkState
+        set."""
         return self.now().control.light(name).program
 
     def getControlledLanes(self, name: str) -> tuple[str, ...]:

@@ -1,4 +1,9 @@
-"""TraCI's vehicles and their types."""
+"""TraCI's vehicles and their types.
+
+A call looks at vehicles where it needs to know who is where, as all calls on a vehicle do, and most on lanes, detectors
+and ways. From the first such call on, the run is looked at after each step; what is counted, as waiting and distance,
+counts from there.
+"""
 from collections.abc import Collection, Sequence
 from itertools import pairwise
 from typing import Any
@@ -195,7 +200,8 @@ class Vehicle(VehicleCalls[Session], Placed):
     # Its way
 
     def getRouteIndex(self, name: str) -> int:
-        """The place, in its route, of the edge where it is, from 0; SUMO's value for no number before it departs."""
+        """The place, in its route, of the edge where it is, in a junction of the one before, from 0; SUMO's value for
+        no number before it departs."""
         _, place = self.where(name)
         return tc.INVALID_INT_VALUE if place is None else self.now().fleet.plans[name].index(place.link)
 
