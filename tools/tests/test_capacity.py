@@ -190,6 +190,14 @@ class Heading(Lanes):
         self.assertEqual((left.opposite, other.opposite, left.heads.headway), (("e", 0), ("w", 0), 2.0))
         self.assertEqual(left.heads.turned(), Heads(other.heads.waits, other.heads.freed, 2.0))
 
+    def test_who_goes_first_in_its_green_waits_for_nobody(self):
+        # By the bits of the junction those straight on give way to the others, but in their green they go first.
+        found = self.lanes(320, 80, 150, 150)
+        found[0].foes = found[2:]
+        for one in found:
+            set_heads(one)
+        self.assertEqual(found[1].heads, self.heads(320, 80, 150, 150)[1].heads)
+
     def test_nobody_faces_a_lane_without_left_turns(self):
         _, left, east, _ = self.heads(320, 80, 300, 0)
         self.assertEqual((left.heads, east.heads), (None, None))

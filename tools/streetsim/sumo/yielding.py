@@ -155,7 +155,8 @@ def heads_of(own: Sequence[Movement], other: Sequence[Movement]) -> Heads | None
         return None
     whole = [sum(one.flow for one in side) for side in (own, other)]
     own_waits, other_waits = (
-        sum(one.flow * foe.flow for one in side for foe in one.foes if foe in against) / (whole[0] * whole[1])
+        sum(one.flow * foe.flow for one in side if one.waits for foe in one.foes if foe in against)
+        / (whole[0] * whole[1])
         for side, against in sides
     )
     each = sum(one.flow * one.headway for one in (*own, *other)) / sum(whole)
