@@ -73,7 +73,9 @@ def driven_rings(kept: Mapping[str, Any], mapping: Map) -> DrivenRings:
 
 
 def refuse_unlike(kept: Mapping[str, Any]) -> None:
-    """Raises Listed for a NEMA program of which something is not driven here as in SUMO, or that SUMO does not take."""
+    """Raises Listed for a NEMA program of which something is not driven here as in SUMO, or that lacks a parameter that
+    SUMO asks for, and where the map is of an older streetsim-import; check_orders, barriers_of and phases_of refuse
+    more."""
     parameters = kept["parameters"]
     if "timing" not in kept:
         raise Listed("as their map was written by an older streetsim-import")

@@ -81,10 +81,12 @@ class NoReply(Exception):
 
 
 class ProgramEnded(Exception):
-    """The program ended before it replied."""
+    """The program ended before it replied; or, raised by Client.close alone, it ended with a status other than 0
+    when all was answered."""
 
     def __init__(self, status: int, stderr: str) -> None:
-        """status: of the program; stderr: what it wrote on standard error."""
+        """status: of the program, also 0 where it ended too early, and -N where signal N ended it; stderr: what it wrote
+        on standard error."""
         self.status, self.stderr = status, stderr
         super().__init__(f"the program ended with status {status}: {stderr.strip() or 'nothing on standard error'}")
 
@@ -362,7 +364,7 @@ class Client:
     def batch(self, commands: Iterable[Command]) -> list[Reply]:
         """Sends commands, dictionaries or ready lines, and gives the typed reply to each, in order; refusals and
         Starved stand among them as values and do not end the batch. ValueError for a line that is blank or several,
-        ProgramEnded where the program ends before it replied."""
+        ProgramEnded where the program ends before it replied, NoReply where what it writes is no reply of streetsim."""
         return [read_reply(reply) for reply in self.exchange(map(line_of, commands))]
 
     def ask(self, cmd: str, **fields: Any) -> Any:

@@ -250,7 +250,7 @@ class Fleet:
             self.note(bus, Done(visit, stopping.state, stopping.lane, stopping.arrived, stopping.leaves))
 
     def note(self, bus: Bus, done: Done) -> None:
-        """Keeps what became of a bus's next stop, which is then over."""
+        """Keeps what became of a bus's next stop, and takes it from its visits; the caller ends its stopping."""
         bus.visits.pop(0)
         self.done.append(done)
 

@@ -84,7 +84,8 @@ def add_seeds(made: argparse.ArgumentParser) -> None:
 
 
 def add_lanes(made: argparse.ArgumentParser) -> None:
-    """Adds the words that close lanes, and that make them joint."""
+    """Adds the words of road works: those that close lanes or make them joint, and say how vehicles merge there, what
+    those do who lose their only lane, and which limit holds along the works."""
     made.add_argument(
         "--close",
         action="append",

@@ -129,7 +129,8 @@ def without_mark(line: Line) -> Line:
 
 
 def timed_text(clock: int, line: Line) -> str:
-    """The text of a line that is sent at a clock; one of no file, as those of works are, with that clock and a mark."""
+    """The text of a line that is sent at a clock: one of a file as it stands there, whatever clock is; one of no file,
+    as those of works are, with that clock and a mark."""
     if line.number > 0:
         return line.text
     return json.dumps({**line.command, "at": clock, MARK: True}, separators=(",", ":"))

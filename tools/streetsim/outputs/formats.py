@@ -39,8 +39,8 @@ class XmlFile:
 
 
 def attributes(**values: object) -> str:
-    """The attributes of an element as text, by name: float numbers (seconds, metres) with two decimals, others as they
-    are."""
+    """The attributes of an element as XML, name="value" with blanks between, escaped here: float numbers (seconds,
+    metres) with two decimals, others as str gives them."""
     texts = (f"{value:.2f}" if isinstance(value, float) else str(value) for value in values.values())
     return " ".join(f"{name}={quoteattr(text)}" for name, text in zip(values, texts, strict=True))
 

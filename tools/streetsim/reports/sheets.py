@@ -19,8 +19,8 @@ Timings = Mapping[str, Timing]  # by light
 
 
 def sheets(plans: Sequence[tuple[str, Timings]], lights: Sequence[str], names: Names) -> str:
-    """A sheet for each of some lights, as HTML; plans: (name, programs by light) of one, or of two, before and
-    after."""
+    """The legend, and a sheet for each of some lights, as HTML; plans: (name, programs by light) of one, or of two,
+    before and after."""
     key = f'<p class="small">{escape(LEGEND)}</p>'
     return key + "".join(sheet([(name, one.get(light)) for name, one in plans], light, names) for light in lights)
 

@@ -49,9 +49,9 @@ def trips_of(folder: Folder) -> dict[str, Trip]:
 
 
 def edges_of(folder: Folder) -> dict[EdgeKey, tuple[int, float | None]]:
-    """A run's edges in the form of `read_edges`, {(begin, end, edge): (vehicles that left it, seconds of all vehicles
-    on it)}: those of which all lanes have counts, in whole periods. The seconds are none where the density is not
-    known."""
+    """A run's edges in the form of `read_edges`, {(begin, end, edge): (vehicles that left it or arrived on it, seconds
+    of all vehicles on it)}: those of which all lanes have counts, in whole periods. The seconds are none where the
+    density is not known."""
     edges = {}
     for row in folder.edges():
         if int(row["end"]) - int(row["begin"]) == folder.period:
@@ -62,7 +62,8 @@ def edges_of(folder: Folder) -> dict[EdgeKey, tuple[int, float | None]]:
 
 
 def counts_of(folder: Folder) -> dict[EdgeKey, int]:
-    """A run's edges in the form of `read_edgedata`: {(begin, end, edge): vehicles that left the edge}."""
+    """A run's edges in the form of `read_edgedata`: {(begin, end, edge): vehicles that left the
+    edge or arrived on it}."""
     return {key: vehicles for key, (vehicles, _) in edges_of(folder).items()}
 
 

@@ -48,7 +48,7 @@ def turning(plan: Path, way: Path, clock: int) -> Turning:
 
 
 class WaysRound:
-    """Shortest ways over the links of a run's map, with the delays that the volumes of all given plans would make at
+    """Quickest ways over the links of a run's map, with the delays that the volumes of all given plans would make at
     free speed and the present signals. Links, not edges, are searched, as turns between parallel links cannot be added
     under way."""
 

@@ -47,7 +47,8 @@ class Ground:
 
     @property
     def slices(self) -> int:
-        """How many slices of width seconds a run may have."""
+        """How many slices of width seconds there are from clock 0, wherever the run begins, to the last clock, that one
+        included."""
         return self.until // self.width + 1
 
 

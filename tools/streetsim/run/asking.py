@@ -49,7 +49,8 @@ def asking_of(
 
 
 def repeated(settings: Settings, lanes: Sequence[Place]) -> Asking:
-    """What a further run asks, which repeats one with detectors on other lanes: no polls."""
+    """What a further run asks, which repeats one with detectors on other lanes: only these are polled, at the samples
+    of a period, and never all lanes. lanes: those to measure, (link, lane)."""
     return Asking(0, list(lanes), samples_of(settings))
 
 

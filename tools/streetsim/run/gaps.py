@@ -221,7 +221,8 @@ def hourly_around(times: Sequence[float], second: float) -> float:
 
 
 def close(red: bytearray, first: int, last: int) -> None:
-    """Makes the seconds of red from first to before last red; those outside of it are passed over."""
+    """Makes the bytes of red (one a second, from its begin) from first to before last 1, which is red; those outside of
+    it are passed over. last: 0 at least."""
     first, last = max(0, first), min(len(red), last)
     red[first:last] = b"\1" * (last - first)
 

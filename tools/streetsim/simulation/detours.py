@@ -76,7 +76,8 @@ class Detours:
 
     def turn_off(self) -> None:
         """Has the vehicles that are where their other way begins enter its first link anew; sets for the others when to
-        look again."""
+        look again. They turn off their road; nothing is switched off. Those that have ended, or are no longer on the
+        links ahead, are forgotten."""
         clock = self.simulation.clock
         names = [name for name, one in self.turning.items() if one.due <= clock]
         for name, reply in zip(names, self.where(names), strict=True):

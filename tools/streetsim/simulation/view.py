@@ -94,8 +94,8 @@ class View:
         return place.cell == 0 and not place.speed and place.link == fleet.plans[fleet.names[car]][0]
 
     def to_depart(self) -> list[int]:
-        """The numbers of the vehicles that the program was told of and that have not departed, those for a later second
-        among them."""
+        """The numbers of the vehicles that the program was told of and that had not departed at the last look, those
+        for a later second among them."""
         cars = self.simulation.fleet.cars
         return [car for name, car in cars.items() if car not in self.seen and name not in self.gone]
 

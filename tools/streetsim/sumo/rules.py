@@ -19,7 +19,9 @@ STATES, SHOWN_STATES = set("Mm=sw-"), set("GgrRyYuUoOs")
 
 
 def warn_of_rules(net: SumoNet, network: Network, report: Report) -> None:
-    """Reports all that is otherwise here than in SUMO, by the functions of this module."""
+    """Reports what of a network itself is otherwise here than in SUMO, by the functions of this module; called after
+    the vehicles have their plans (enters), as these add turns (network.joined). Lights, stops and types report their
+    own."""
     warn_of_classes(net, network, report)
     warn_of_lengths(network, report)
     warn_of_speeds(network, report)

@@ -422,8 +422,8 @@ def places_in_red(length: int, seconds: int) -> list[tuple[int, int]]:
 
 
 def finding_gaps(movement: Movement, start: int, factor: float) -> float:
-    """How many vehicles of a movement find a gap in the permissive green that begins at start, where the traffic that
-    they give way to is factor times the usual."""
+    """How many vehicles of a movement can find a gap, were there always one waiting, in the permissive green that
+    begins at start, where the traffic that they give way to is factor times the usual."""
     blocked, vehicles = 0, 0.0
     for foe in movement.foes:
         blocked |= queue_seconds(foe, factor)

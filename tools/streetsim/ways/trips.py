@@ -195,7 +195,9 @@ def connected(trips: Sequence[Trip], net: SumoNet, graph: Graph, ignore: bool, r
 
 
 def reason_against(vehicle: Vehicle, net: SumoNet, begin: int) -> str | None:
-    """Why a vehicle cannot drive; None where it can. begin: the first clock of the run."""
+    """Why a vehicle cannot drive, as the report's words: an edge without a lane for the classes, or a departure before
+    the begin or after the last clock; None where neither holds. Whether its edges are connected is not looked at:
+    connected does that. begin: the first clock of the run."""
     if any(edge in net.dropped for edge in vehicle.edges):
         return "an edge of the trip has no lane for the classes"
     if vehicle.depart < begin:
