@@ -81,12 +81,12 @@ class NoReply(Exception):
 
 
 class ProgramEnded(Exception):
-    """The program ended before it replied; or, raised by Client.close alone, it ended with a status other than 0
-    when all was answered."""
+    """The program ended before it replied; or, raised by Client.close alone, it ended with a status other than 0 when
+    all was answered."""
 
     def __init__(self, status: int, stderr: str) -> None:
-        """status: of the program, also 0 where it ended too early, and -N where signal N ended it; stderr: what it wrote
-        on standard error."""
+        """status: of the program, also 0 where it ended too early, and -N where signal N ended it; stderr: what it
+        wrote on standard error."""
         self.status, self.stderr = status, stderr
         super().__init__(f"the program ended with status {status}: {stderr.strip() or 'nothing on standard error'}")
 
