@@ -10,7 +10,8 @@ use street_base::{
 };
 use street_net::Network;
 
-/// Whether this is a turn of the network, and the link that it leaves runs to the node with the identifier `node`.
+/// Whether this, with its links by identifiers, is a turn of the network, and the link that it leaves runs to the node with the
+/// identifier `node`.
 fn is_turn_to(net: &Network, node: u64, green: &GreenSpec) -> bool
     ensures { result ≡ is_turn_to net.now node green.now }
 {
@@ -30,7 +31,7 @@ fn is_turn_to(net: &Network, node: u64, green: &GreenSpec) -> bool
     links[link.position()].to == node
 }
 
-/// Whether all these are turns of the network, and the links that they leave run to the node.
+/// Whether all these are turns of the network, and the links that they leave run to the node with the identifier `node`.
 fn are_turns_to(net: &Network, node: u64, greens: &[GreenSpec]) -> bool
     ensures { result ≡ list_all (is_turn_to net.now node) greens.now }
 {
@@ -52,7 +53,7 @@ fn is_bad_phase(net: &Network, node: u64, at: usize, phase: &PhaseSpec) -> bool
     at >= MOST_PHASES || !lasts || greens.len() > MOST_GREENS || !are_turns_to(net, node, greens)
 }
 
-/// The position of the first bad phase, if one is bad.
+/// The position of the first bad phase of a plan for the node with the identifier `node`, if one is bad.
 fn phases_fault(net: &Network, node: u64, phases: &[PhaseSpec]) -> Option<u64>
     ensures { result ≡ first_bad (is_bad_phase net.now node) phases.now }
 {
