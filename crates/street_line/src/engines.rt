@@ -24,6 +24,7 @@ pub struct EngineSession<'a, R: Threads + Sync> {
 }
 
 impl<'a, R: Threads + Sync> Drop for EngineSession<'a, R> {
+    /// Drops the engine.
     fn drop(self) {
         let EngineSession { rt: _, engine: _ } = self;
     }
@@ -54,6 +55,7 @@ impl<'a, R: Threads + Sync> Service for EngineSession<'a, R> {
 
     ghost ready = { IsSync R.row };
 
+    /// Has the engine apply the command. It always answers.
     fn serve(&mut self, command: Command) -> Served {
         let (reply, _outcome) = self.engine.apply(self.rt, &command);
         Served::Answered(reply)

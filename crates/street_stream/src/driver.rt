@@ -35,7 +35,12 @@ pub(crate) struct Progress {
     pub(crate) tally: Tally,
 }
 
-/// A line has ended: it is handled, and its reply written.
+/// Handles a line that has ended, of which `part` has the bytes, and writes its reply, with no flush. Counts in the tally the line,
+/// a call, the reply and the bytes written; a line that ends the run is counted too.
+///
+/// # Errors
+///
+/// Those of [`drive_lines`] but of its reads and flushes.
 fn end_line<H: LineHandler, W: Sink>(
     alloc: Global,
     handler: &mut H,
@@ -69,7 +74,11 @@ fn end_line<H: LineHandler, W: Sink>(
     Ok(())
 }
 
-/// Takes up the last bytes of a line, which its LF follows, and handles the line.
+/// Takes up the last bytes of a line, up to its LF, handles the line as `end_line` does, and empties the part for the next line.
+///
+/// # Errors
+///
+/// Those of `end_line`, and `Starved` where there was no memory for the bytes.
 fn take_line<H: LineHandler, W: Sink>(
     alloc: Global,
     handler: &mut H,
@@ -95,7 +104,12 @@ fn take_line<H: LineHandler, W: Sink>(
     Ok(())
 }
 
-/// Takes up the next bytes of the text: each line that ends in them is handled, and what comes after the last LF is kept.
+/// Takes up the next bytes of the text: each line that ends in them is handled and its reply written, with no flush, and what comes
+/// after the last LF is kept as the part of the next line.
+///
+/// # Errors
+///
+/// Those of [`drive_lines`] but of its reads and flushes; `progress` then tells what was done.
 pub(crate) fn feed<H: LineHandler, W: Sink>(
     alloc: Global,
     handler: &mut H,
@@ -123,7 +137,7 @@ pub(crate) fn feed<H: LineHandler, W: Sink>(
     Ok(())
 }
 
-/// Takes up the next bytes of the text, as [`feed`] does, and passes on the replies.
+/// Takes up the next bytes of the text, as [`feed`] does, and then flushes the writer, so that the replies go out.
 fn feed_through<H: LineHandler, W: Sink>(
     alloc: Global,
     handler: &mut H,
@@ -149,7 +163,11 @@ fn feed_through<H: LineHandler, W: Sink>(
     Ok(())
 }
 
-/// Handles the last line of a text that has ended, where it has no LF.
+/// Handles the last line of a text that has ended, where bytes stand behind its last LF, and writes its reply, with no flush.
+///
+/// # Errors
+///
+/// Those of [`drive_lines`] but of its reads and flushes; `progress` then tells what was done.
 pub(crate) fn finish<H: LineHandler, W: Sink>(
     alloc: Global,
     handler: &mut H,
@@ -174,7 +192,7 @@ pub(crate) fn finish<H: LineHandler, W: Sink>(
     Ok(())
 }
 
-/// Handles the last line of a text that has ended, as [`finish`] does, and passes on the replies.
+/// Handles the last line of a text that has ended, as [`finish`] does, and then flushes the writer.
 fn finish_through<H: LineHandler, W: Sink>(
     alloc: Global,
     handler: &mut H,
@@ -199,7 +217,12 @@ fn finish_through<H: LineHandler, W: Sink>(
     Ok(())
 }
 
-/// Reads the text to its end, and handles its lines.
+/// Reads the text to its end, by at most so many reads, and handles its lines. `progress` begins empty, and tells what was done,
+/// after a fault too.
+///
+/// # Errors
+///
+/// Those of [`drive_lines`].
 fn drive_all<H: LineHandler, R: Source, W: Sink>(
     alloc: Global,
     handler: &mut H,

@@ -15,7 +15,7 @@ pub trait Source: Read {
 
     ghost gives: { Self → List ℕ → Result ℕ Error → Self → List ℕ → Type 0 };
 
-    /// Reads once.
+    /// Reads once, into the buffer from its begin: how many bytes, 0 at the end of the text.
     ///
     /// # Errors
     ///
@@ -38,7 +38,7 @@ pub trait Sink: Write {
 
     ghost passes: { Self → Result (Unit {0}) Error → Self → Type 0 };
 
-    /// Writes once.
+    /// Writes once: how many of these bytes, from the first on, were taken.
     ///
     /// # Errors
     ///
@@ -48,7 +48,7 @@ pub trait Sink: Write {
         ensures bytes { WriteAppends (Self.contents self.old) (Self.contents self.new) result bytes.now }
         ensures once { takes self.old bytes.now result self.new };
 
-    /// Flushes once.
+    /// Flushes once: passes on what the writer still holds.
     ///
     /// # Errors
     ///

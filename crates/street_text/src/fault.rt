@@ -25,7 +25,7 @@ pub enum LineFault {
 }
 
 impl LineFault {
-    /// The number that a reply line tells it by. Lack of memory ends a run, and has none.
+    /// The number that a reply line tells it by, 20 to 22. Lack of memory ends a run, and has none.
     pub fn number(self) -> Option<u64>
         ensures { result ≡ number_of self }
     {

@@ -20,7 +20,7 @@ pub trait Printed {
         ensures { IfOk result (λ v. view v ≡ prints self.now) };
 }
 
-/// The entries of a list, in order.
+/// The JSON list of these entries, in order.
 ///
 /// # Errors
 ///
@@ -36,6 +36,7 @@ pub fn list_value<T: Printed>(alloc: Global, list: &[T]) -> Result<Value, AllocE
     Ok(Value::Array(items))
 }
 
+/// The number itself.
 impl Printed for u64 {
     ghost prints = { number_data };
 
@@ -44,6 +45,7 @@ impl Printed for u64 {
     }
 }
 
+/// [id, residence, capacity].
 impl Printed for NodeSpec {
     ghost prints = { node_data };
 
@@ -52,6 +54,7 @@ impl Printed for NodeSpec {
     }
 }
 
+/// [id, from, to, lanes, length, limit]: nodes by identifier, the length in cells, the limit in cells a step.
 impl Printed for LinkSpec {
     ghost prints = { link_data };
 
@@ -70,6 +73,7 @@ impl Printed for LinkSpec {
     }
 }
 
+/// [link, lane, next, next_lane]: links by identifier, lanes by number.
 impl Printed for TurnSpec {
     ghost prints = { turn_data };
 
@@ -78,6 +82,7 @@ impl Printed for TurnSpec {
     }
 }
 
+/// [link, lane, next]: links by identifier, the lane by number.
 impl Printed for GreenSpec {
     ghost prints = { green_data };
 
@@ -86,6 +91,7 @@ impl Printed for GreenSpec {
     }
 }
 
+/// [duration, greens]: steps, and the list of green turns.
 impl Printed for PhaseSpec {
     ghost prints = { phase_data };
 

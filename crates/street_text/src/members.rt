@@ -57,7 +57,11 @@ impl Member<'_> {
     }
 }
 
-/// Puts a member under its key, if it is not absent.
+/// Puts the JSON value of a member under its key into an object, if it is not absent.
+///
+/// # Errors
+///
+/// `AllocError` where there was no memory for it.
 fn put_member(
     found: &mut Map<String, Value>,
     alloc: Global,
@@ -73,7 +77,7 @@ fn put_member(
     put(found, alloc, key, member.to_value(alloc)?)
 }
 
-/// The object of these members, each that is not absent under its key.
+/// The JSON object of these members, each that is not absent under its key.
 ///
 /// # Errors
 ///

@@ -134,7 +134,11 @@ fn lane<L: Lookup>(line: &L) -> Result<Command, LineFault>
     Ok(Command::Lane { link, lane })
 }
 
-/// The command of a name that observes: by a detector, a vehicle, a lane, or a count of all.
+/// The command of this name, one of `meter`, `read`, `vehicle`, `lane` and `count`, that the fields of a line say.
+///
+/// # Errors
+///
+/// `BadCommand` for any other name, and where a field is missing or no number.
 fn observing<L: Lookup>(name: &str, line: &L) -> Result<Command, LineFault>
     ensures { Gives result (or_fault LineFault.BadCommand (named_in observing_names name.now (L.shows line.now))) }
 {

@@ -15,12 +15,12 @@ use street_base::{BufferEntry, CellEntry, MeterRow, RunningRow, Stretch, Waiting
 pub trait Row {
     ghost shows: { Self → Data };
 
-    /// Writes its JSON value.
+    /// Writes its JSON value behind what `out` has.
     fn write(&self, out: &mut Writer) -> Result<(), AllocError>
         ensures { OnOk result (Adds (tokens_of (shows self.now)) out.old out.new) };
 }
 
-/// Writes the entries of a list, in order.
+/// Writes the JSON list of these entries, in order, behind what `out` has.
 pub fn write_list<T: Row>(list: &[T], out: &mut Writer) -> Result<(), AllocError>
     ensures { OnOk result (Adds (tokens_of (array (items_from T.shows list.now))) out.old out.new) }
 {
@@ -31,6 +31,7 @@ pub fn write_list<T: Row>(list: &[T], out: &mut Writer) -> Result<(), AllocError
     out.end_array()
 }
 
+/// The number itself.
 impl Row for u64 {
     ghost shows = { number_data };
 
@@ -39,7 +40,8 @@ impl Row for u64 {
     }
 }
 
-/// [start, passes, speeds, occupied]: the clock at which the period began, vehicles, the sum of their speeds in cells a step, steps in which the cell was covered.
+/// [start, passes, speeds, occupied]: the clock at which the period began, vehicles, the sum of their speeds in cells a step, steps
+/// in which the cell was covered.
 impl Row for MeterRow {
     ghost shows = { meter_data };
 

@@ -24,6 +24,7 @@ pub(crate) trait FromValue {
         ensures { Gives result (or_fault LineFault.BadCommand (entry (view value.now))) };
 }
 
+/// A whole number below 2^64.
 impl FromValue for u64 {
     ghost entry = { number_in };
 
@@ -32,6 +33,7 @@ impl FromValue for u64 {
     }
 }
 
+/// A list of such entries.
 impl<T: FromValue + Drop> FromValue for Listing<T> {
     ghost entry = { list_in T.entry };
 
@@ -51,7 +53,7 @@ impl<T: FromValue + Drop> FromValue for Listing<T> {
     }
 }
 
-/// A list of exactly `N` numbers.
+/// The numbers of a list that has exactly `N`, each below 2^64; none for any other value.
 #[tactic(auto, unfolding(crate::specs::LineCommands::row_in))]
 fn row<const N: usize>(value: &Value) -> Option<[u64; N]>
     ensures { result ≡ row_in N (view value.now) }
@@ -67,6 +69,7 @@ fn row<const N: usize>(value: &Value) -> Option<[u64; N]>
     Some(row)
 }
 
+/// [id, residence, capacity].
 #[tactic(auto, unfolding(crate::specs::LineCommands::node_in))]
 impl FromValue for NodeSpec {
     ghost entry = { node_in };
@@ -81,6 +84,7 @@ impl FromValue for NodeSpec {
     }
 }
 
+/// [id, from, to, lanes, length, limit]: nodes by identifier, the length in cells, the limit in cells a step.
 #[tactic(auto, unfolding(crate::specs::LineCommands::link_in))]
 impl FromValue for LinkSpec {
     ghost entry = { link_in };
@@ -98,6 +102,7 @@ impl FromValue for LinkSpec {
     }
 }
 
+/// [link, lane, next, next_lane]: links by identifier, lanes by number.
 #[tactic(auto, unfolding(crate::specs::LineCommands::turn_in))]
 impl FromValue for TurnSpec {
     ghost entry = { turn_in };
@@ -113,6 +118,7 @@ impl FromValue for TurnSpec {
     }
 }
 
+/// [link, lane, next]: links by identifier, the lane by number.
 #[tactic(auto, unfolding(crate::specs::LineCommands::green_in))]
 impl FromValue for GreenSpec {
     ghost entry = { green_in };
@@ -123,6 +129,7 @@ impl FromValue for GreenSpec {
     }
 }
 
+/// [duration, greens]: steps, and the list of green turns.
 #[tactic(auto, unfolding(crate::specs::LineCommands::phase_in))]
 impl FromValue for PhaseSpec {
     ghost entry = { phase_in };
@@ -138,7 +145,11 @@ impl FromValue for PhaseSpec {
     }
 }
 
-/// The field of a name.
+/// What stands in the field of this name of a JSON object.
+///
+/// # Errors
+///
+/// `BadCommand` where there is no such field, or anything else stands in it; `Starved` where there was no memory for its lists.
 pub(crate) fn field_of<T: FromValue>(
     alloc: Global,
     value: &Value,
@@ -150,7 +161,11 @@ pub(crate) fn field_of<T: FromValue>(
     T::of_value(alloc, found)
 }
 
-/// The number of a name, and `absent` where the field is absent.
+/// The number that stands in the field of this name of a JSON object, below 2^64, and `absent` where there is no such field.
+///
+/// # Errors
+///
+/// `BadCommand` where anything else stands in it.
 pub(crate) fn number_or(value: &Value, name: &str, absent: u64) -> Result<u64, LineFault>
     ensures { Gives result (or_fault LineFault.BadCommand (number_or absent name.now (view value.now))) }
 {
