@@ -16,6 +16,7 @@ pub struct Detectors {
 }
 
 impl Drop for Detectors {
+    /// Drops each field.
     fn drop(self) {
         let Detectors { kind: _ } = self;
     }

@@ -39,7 +39,7 @@ impl Model for LaneMeters {
     ghost invariant = { IsSound };
 }
 
-/// A watch of a cell that has seen nothing.
+/// A watch of a cell that has seen nothing: nobody passed.
 fn watch_at(cell: CellNo) -> Watch
     ensures { result ≡ record { cell = cell; passes = 0; speeds = 0 } }
 {
@@ -50,7 +50,7 @@ fn watch_at(cell: CellNo) -> Watch
     }
 }
 
-/// Sets each watch to one of its meter's cell that has seen nothing.
+/// Sets each watch to one that has seen nothing, in the cell of the meter at the same position.
 fn clear(watches: &mut [Watch], meters: &[Meter])
     requires { length watches.old ≡ length meters.now }
     ensures { watches.new ≡ map cleared meters.now }
@@ -148,8 +148,8 @@ impl LaneMeters {
         note_all(&mut self.meters, &self.watches, own, lane);
     }
 
-    /// Places one more detector in a cell of the lane, whose place is `at`, with a period of 1 to 100,000 steps; it notes from
-    /// the step `start` on. Answers its number among those of the lane, from 0.
+    /// Places one more detector in a cell of the lane, whose place in the network is `at`, with a period of 1 to 100,000 steps;
+    /// it notes from the step `start` on. Answers its number among those of the lane, from 0.
     ///
     /// # Errors
     /// Memory was refused; the detectors are as they were.

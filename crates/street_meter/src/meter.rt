@@ -42,6 +42,7 @@ pub struct Meter {
 }
 
 impl Drop for Meter {
+    /// Drops each field.
     fn drop(self) {
         let Meter {
             site: _,

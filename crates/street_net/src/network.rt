@@ -30,6 +30,7 @@ pub struct Network {
 }
 
 impl Drop for Network {
+    /// Drops each field.
     fn drop(self) {
         let Network {
             spec: _,

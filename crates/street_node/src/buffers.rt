@@ -47,7 +47,8 @@ impl Buffers {
         }
     }
 
-    /// Whether the buffer of a lane, by its position in `Network::in_lanes`, holds fewer vehicles than the capacity.
+    /// Whether one more vehicle finds room in the buffer of a lane, by its position in `Network::in_lanes`: it holds fewer than
+    /// its capacity.
     pub fn has_room(&self, yard: &Yard, lane: usize) -> bool
         requires lane { lane < length self.now.lists }
         requires lists { AreIn yard.now self.now }

@@ -43,8 +43,8 @@ fn are_turns_to(net: &Network, node: u64, greens: &[GreenSpec]) -> bool
     true
 }
 
-/// Whether the phase at the position `at` of a plan is bad: `at` is past the most phases, its duration is out of range, it has
-/// too many green turns, or one of them is no turn to the node.
+/// Whether the phase at the position `at` of a plan for the node with the identifier `node` is bad: `at` is past the most
+/// phases, its duration is out of range, it has too many green turns, or one of them is no turn to the node.
 fn is_bad_phase(net: &Network, node: u64, at: usize, phase: &PhaseSpec) -> bool
     ensures { result ≡ is_bad_phase net.now node at phase.now }
 {
@@ -80,8 +80,8 @@ pub(crate) fn cycle_of(net: &Network, node: u64, phases: &[PhaseSpec]) -> u64
     cycle
 }
 
-/// The first fault of a signal plan, if it has one: the position of a bad phase, or the number of phases for a bad offset, which
-/// is not below the cycle; both are in steps. A plan of no phases is bad at 0.
+/// The first fault of a signal plan for the node with the identifier `node`, if it has one: the position of a bad phase, or the
+/// number of phases for a bad offset, which is not below the cycle; both are in steps. A plan of no phases is bad at 0.
 pub(crate) fn signal_fault(
     net: &Network,
     node: u64,

@@ -42,6 +42,7 @@ pub struct Dice {
 }
 
 impl Drop for Dice {
+    /// Drops each field.
     fn drop(self) {
         let Dice {
             rng: _,

@@ -192,8 +192,8 @@ fn decide_beside(
 
 /// Whether the vehicle of a key goes to the other lane in the step: it wants to, has room there, and its draw lets it. Nobody
 /// moves. `ahead` is the rear of the vehicle ahead; `above` is a key of the other lane whose vehicle is above the cell beside,
-/// from which on to look there, or `None` to look from the front. Nothing of the other lane is read where [`may_wish`] is
-/// false.
+/// from which on to look there, or `None` to look from the front. The answer has such a key for the next driver too. Nothing of
+/// the other lane is read where [`may_wish`] is false.
 pub(crate) fn decide(
     yard: &Yard,
     road: &Road<'_>,
