@@ -27,7 +27,7 @@ pub(crate) fn generator(seed: u64) -> ChaCha20Rng
 }
 
 /// The draw, from 0 to 999, of a network's seed at a place of the stream of the vehicle with the number `car`: at `2 * step`
-/// the one by which it changes lane or does not, at `2 * step + 1` the one by which it dawdles or does not. [`Dice`] tells
+/// the one by which it changes lane or does not, at `2 * step + 1` the one by which it dawdles or does not. `Dice` tells
 /// faster whether a draw is below the odds.
 pub fn draw(seed: u64, car: CarNo, place: u64) -> u16
     ensures { result ≡ draw seed car place }
