@@ -31,6 +31,7 @@ pub struct Streets {
 }
 
 impl Drop for Streets {
+    /// Drops its parts.
     fn drop(self) {
         let Streets {
             tiles: _,
@@ -51,7 +52,7 @@ impl Model for Streets {
     ghost invariant = { λ s. IsKept (streets_of s.tiles s.sites.items s.clock s.ends.ends) };
 }
 
-/// A call of `make`.
+/// So many steps, at most 16, or fewer where memory was refused, by one call of `make`: what they leave, and how many.
 fn make_some<M: Fn(Streets, u64) -> (Streets, u64)>(
     make: &M,
     streets: Streets,
@@ -230,7 +231,7 @@ impl Streets {
         self.tiles.lane(alloc, at)
     }
 
-    /// How many detectors stand.
+    /// How many detectors were placed.
     pub fn detectors(&self) -> usize
         ensures { result ≡ length self.now.sites }
     {
@@ -286,7 +287,8 @@ impl Streets {
         }
     }
 
-    /// The clock, and how many vehicles stand where or have ended how. Looks at counts that are kept.
+    /// The reply with the clock, how many vehicles were admitted, are in cells, in buffers or wait, and how many have arrived or
+    /// were taken out. Looks at counts that are kept.
     pub fn census(&self) -> Reply
         ensures { (m : Traffic) → StreetsStandFor self.now m → result ≡ census m }
     {

@@ -59,7 +59,7 @@ impl HandOver {
         self.car.number
     }
 
-    /// The vehicle.
+    /// The vehicle, which is on no lane.
     pub(crate) fn into_car(self) -> Car
         ensures vehicle { vehicle_of result ≡ self.vehicle }
         ensures plan { length result.plan.value ≤ most_plan }
@@ -101,7 +101,7 @@ impl Comers {
         })
     }
 
-    /// Somebody comes to own lane `n`.
+    /// Notes who comes to own lane `n`.
     pub(crate) fn put(&mut self, n: usize, hand_over: HandOver)
         requires { n < length self.old }
         ensures { self.new ≡ slice_set self.old n (Some hand_over) }
@@ -125,7 +125,7 @@ impl Comers {
 }
 
 impl Tile {
-    /// How many hand-overs wait to be moved.
+    /// How many hand-overs of the last releases wait to be moved.
     pub fn hand_overs(&self) -> usize
         ensures { result ≡ length self.now.handed }
     {

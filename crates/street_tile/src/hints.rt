@@ -13,6 +13,7 @@ pub struct Hints {
 }
 
 impl Drop for Hints {
+    /// Drops the list.
     fn drop(self) {
         let Hints { links: _ } = self;
     }
@@ -57,7 +58,7 @@ impl Hints {
         self.links.push_reserved(link);
     }
 
-    /// The link of a number; none if it was not given.
+    /// The link on which the vehicle of a number was last put; none if the number was not given.
     pub fn get(&self, number: CarNo) -> Option<LinkIx>
         ensures { result ≡ slice_get self.now.links number }
     {

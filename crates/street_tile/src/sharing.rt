@@ -35,7 +35,7 @@ impl Span {
         }
     }
 
-    /// These and a tile more.
+    /// These tiles and one more behind them.
     fn with(self, tile: &Tile) -> Span {
         Span {
             tiles: self.tiles.saturating_add(1),
@@ -44,7 +44,7 @@ impl Span {
         }
     }
 
-    /// What is left behind a first block.
+    /// These tiles without the first of them, which are given.
     fn without(self, first: Span) -> Span {
         Span {
             tiles: self.tiles.saturating_sub(first.tiles),
@@ -64,7 +64,7 @@ impl Tiles {
         (self.whole().cells, most)
     }
 
-    /// All tiles.
+    /// All tiles, as one block.
     fn whole(&self) -> Span {
         let mut whole = Span::empty();
         for tile in &self.tiles {
@@ -73,8 +73,8 @@ impl Tiles {
         whole
     }
 
-    /// The first of so many blocks of the last tiles: it ends where it comes nearest to its share of the vehicles, and leaves a tile for
-    /// each other block.
+    /// The first of so many blocks of the tiles in `rest`, which are the last: it ends where it comes nearest to its share of the
+    /// vehicles, and leaves a tile for each other block.
     fn first_block(&self, rest: Span, blocks: usize) -> Span {
         let share = rest.cells / (blocks as u64).max(1);
         let most = rest.tiles.saturating_sub(blocks.saturating_sub(1));

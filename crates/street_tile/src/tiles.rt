@@ -32,6 +32,7 @@ pub struct Tiles {
 }
 
 impl Drop for Tiles {
+    /// Drops its parts.
     fn drop(self) {
         let Tiles {
             network: _,
