@@ -141,7 +141,7 @@ impl<G: Gate + Sync + Drop> Recorder<G> {
         (reply, outcome)
     }
 
-    /// The engine, and the journal of all its calls.
+    /// Takes the recorder apart: the engine, and the journal of all its calls.
     pub(crate) fn into_parts(self) -> (Engine<G>, Journal)
         ensures history { result.1 ≡ self.history }
         ensures legal { IsLegal result.1 }

@@ -94,14 +94,14 @@ impl Streets {
         })
     }
 
-    /// The network.
+    /// The network that was loaded.
     pub fn network(&self) -> &Network
         ensures { result.now ≡ self.now.tiles.network }
     {
         self.tiles.network()
     }
 
-    /// The tiles.
+    /// The tiles, with the network and all lanes.
     pub(crate) fn tiles(&self) -> &Tiles
         ensures { result.now ≡ self.now.tiles }
     {
@@ -124,7 +124,7 @@ impl Streets {
         self.ends.len()
     }
 
-    /// How the vehicle of a number ended, if it did.
+    /// How the vehicle of a number ended; none where it has not, and where the number was not given.
     pub fn end_of(&self, number: CarNo) -> Option<End>
         ensures { result ≡ slice_index_or self.now.ends number None }
     {

@@ -39,7 +39,7 @@ impl<'a, R: Threads + Sync> Model for EngineSession<'a, R> {
 }
 
 impl<'a, R: Threads + Sync> EngineSession<'a, R> {
-    /// The engine as a service. Takes no memory.
+    /// The engine as a service, on this runtime's threads. Takes no memory.
     pub fn new(rt: &'a R, engine: Engine<Unwatched>) -> EngineSession<'a, R>
         ensures { result ≡ engine }
     {

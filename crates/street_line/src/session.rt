@@ -40,7 +40,7 @@ impl<'a, R: Threads + Wait + Sync> DeskSession<'a, R> {
         DeskSession { rt, desk, pass }
     }
 
-    /// The pass as it stands. Takes no memory.
+    /// Gives back the pass, which has seen all calls of the session. Takes no memory.
     pub fn into_pass(self) -> Pass<Unwatched>
         ensures { result ≡ self.entry }
     {

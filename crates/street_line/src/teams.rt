@@ -40,7 +40,7 @@ impl<'a, R: Threads + Wait + Sync> Model for TeamSession<'a, R> {
 }
 
 impl<'a, R: Threads + Wait + Sync> TeamSession<'a, R> {
-    /// The engine as a service. Takes no memory.
+    /// The engine as a service, on this runtime's threads. Takes no memory.
     pub fn new(rt: &'a R, engine: Engine<Unwatched>) -> TeamSession<'a, R>
         ensures { result ≡ engine }
     {

@@ -25,7 +25,7 @@ const CALLS: u64 = 65_536;
 const COMPANY: &str =
     "the arguments '--endless' and '--keep <FILE>' cannot be used with scripts, '--calls <N>', '--tape <FILE>', '--replay <FILE>' or '--upgrade <FILE>'";
 
-/// The number that a word says, where it is from 1 to `most`.
+/// The number that a word says in decimal digits, where it is from 1 to `most`; none for any other word.
 fn number_of(word: &str, most: u64) -> Option<u64>
     ensures { SomeIff result (IsCount most word.now) (digits_value 10 (without_leading_plus word.now)) }
 {
@@ -165,7 +165,11 @@ fn matched<'a>(
     }
 }
 
-/// The scripts that the words name, in order.
+/// The scripts that the words name, in their order: the words that are no options and no values of one.
+///
+/// # Errors
+///
+/// `AllocError` where there was no memory for the list.
 fn named_scripts<'a>(alloc: Global, matches: &ArgMatches<'a>) -> Result<Vec<&'a str>, AllocError>
     ensures scripts { IfOk result (λ v. map (λ s. s.now) v.items
         ≡ unwrap_or (option_map raw_values (matched_of (found_of matches.now) (codes "script"))) []) }

@@ -138,14 +138,22 @@ fn write_journal<'a, W: Write>(
     }
 }
 
-/// Makes a file to be written, empty, in the place of one that is there.
+/// Makes a file of this name to be written, empty, in the place of one that is there.
+///
+/// # Errors
+///
+/// `Write` with its name, or `OutOfMemory`.
 fn create_file<'a, R: Files<File = File>>(rt: &R, name: &'a str) -> Result<File, Fault<'a>>
     ensures { IfErr result (IsFileFault (Write name.entry)) }
 {
     File::create(rt, name).map_err(|error| of_file(&error, Fault::Write(name)))
 }
 
-/// Opens a file to be read.
+/// Opens the file of this name to be read.
+///
+/// # Errors
+///
+/// `Read` with its name, or `OutOfMemory`.
 pub fn open_file<'a, R: Files<File = File>>(rt: &R, name: &'a str) -> Result<File, Fault<'a>>
     ensures { IfErr result (IsFileFault (Read name.entry)) }
 {

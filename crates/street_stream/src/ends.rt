@@ -64,6 +64,7 @@ impl<R: Read> Source for R {
 
     ghost gives = { λ old buffer result new filled. ReadConsumes (R.remaining old) (R.remaining new) result filled };
 
+    /// By one `read` of std.
     fn read_once(&mut self, buffer: &mut [u8]) -> io::Result<usize> {
         self.read(buffer)
     }
@@ -77,10 +78,12 @@ impl<W: Write> Sink for W {
 
     ghost passes = { λ old result new. Keeps (W.contents old) (W.contents new) };
 
+    /// By one `write` of std.
     fn write_once(&mut self, bytes: &[u8]) -> io::Result<usize> {
         self.write(bytes)
     }
 
+    /// By one `flush` of std.
     fn flush_once(&mut self) -> io::Result<()> {
         self.flush()
     }

@@ -149,7 +149,7 @@ impl<'a, 'r, 'w, 's, T: Drop, W: Work<T>, R: Wait> Team<'a, 'r, 'w, 's, T, W, R>
         }
     }
 
-    /// Keeps a block for another errand.
+    /// Keeps a block for another lending.
     fn keep(&mut self, block: Block<T>) {
         // It has the place from which it was taken.
         let _ = self.spare.push(block);

@@ -37,7 +37,7 @@ impl LineFault {
         }
     }
 
-    /// The name that a reply line tells it by.
+    /// The name that a reply line tells it by; `Starved` for lack of memory, of which no line tells.
     pub fn name(self) -> &'static str
         ensures { result.now ≡ name_of self }
     {

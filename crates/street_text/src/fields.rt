@@ -39,7 +39,7 @@ pub enum Field<'a> {
 }
 
 impl Field<'_> {
-    /// Whether there is no such key.
+    /// Whether it is a number that is not there, so that the object has no such key.
     fn is_left_out(&self) -> bool
         ensures { result ≡ is_left_out self.now }
     {
@@ -67,7 +67,7 @@ impl Field<'_> {
     }
 }
 
-/// Writes a field under its key, if it is not left out.
+/// Writes a field under its key behind what `out` has, if it is not left out.
 fn write_field(key: &str, field: &Field<'_>, out: &mut Writer) -> Result<(), AllocError>
     ensures { OnOk result (Adds (field_tokens key.now field.now) out.old out.new) }
 {

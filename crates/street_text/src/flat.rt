@@ -42,7 +42,7 @@ pub(crate) struct FlatLine<'a> {
 }
 
 impl<'a> FlatValue<'a> {
-    /// The number, if it is one.
+    /// The number, if it is one; none for a text or a list.
     fn number(&self) -> Option<u64>
         ensures { result ≡ number_in (flat_data self.now) }
     {
@@ -53,7 +53,7 @@ impl<'a> FlatValue<'a> {
         }
     }
 
-    /// The text, if it is one.
+    /// The text, if it is one; none for a number or a list.
     fn text(&self) -> Option<&'a str>
         ensures { option_map (λ s. s.now) result ≡ as_str (flat_data self.now) }
     {
@@ -64,7 +64,7 @@ impl<'a> FlatValue<'a> {
         }
     }
 
-    /// The list, if it is one.
+    /// The list of numbers, if it is one; none for a number or a text.
     fn numbers(&self) -> Option<&[u64]>
         ensures { option_map (λ list. list.now) result ≡ list_in number_in (flat_data self.now) }
     {
@@ -191,13 +191,13 @@ impl<'a> FlatLine<'a> {
 impl<'a> Lookup for FlatLine<'a> {
     ghost shows = { flat_object };
 
-    /// As the trait says; of a line that is flat.
+    /// The number that stands under a name, of a flat line. As the trait says.
     fn number(&self, name: &str) -> Result<u64, LineFault> {
         let found = self.get(name).ok_or(LineFault::BadCommand)?;
         found.number().ok_or(LineFault::BadCommand)
     }
 
-    /// As the trait says; of a line that is flat.
+    /// The number that stands under a name, or `absent`, of a flat line. As the trait says.
     fn number_or(&self, name: &str, absent: u64) -> Result<u64, LineFault> {
         match self.get(name) {
             Some(found) => found.number().ok_or(LineFault::BadCommand),
@@ -205,7 +205,7 @@ impl<'a> Lookup for FlatLine<'a> {
         }
     }
 
-    /// As the trait says; of a line that is flat. The list is a copy.
+    /// A copy of the list of numbers that stands under a name, of a flat line. As the trait says.
     fn numbers(&self, alloc: Global, name: &str) -> Result<Listing<u64>, LineFault> {
         let found = self.get(name).ok_or(LineFault::BadCommand)?;
         let list = found.numbers().ok_or(LineFault::BadCommand)?;

@@ -16,6 +16,10 @@ pub trait Printed {
     ghost prints: { Self → Data };
 
     /// Its JSON value.
+    ///
+    /// # Errors
+    ///
+    /// `AllocError` where there was no memory for it.
     fn to_value(&self, alloc: Global) -> Result<Value, AllocError>
         ensures { IfOk result (λ v. view v ≡ prints self.now) };
 }

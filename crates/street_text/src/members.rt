@@ -32,14 +32,14 @@ pub enum Member<'a> {
 }
 
 impl Member<'_> {
-    /// Whether there is no such key.
+    /// Whether it is a number that is not there, so that the object has no such key.
     fn is_absent(&self) -> bool
         ensures { result ≡ is_absent self.now }
     {
         matches!(self, Member::Optional(None))
     }
 
-    /// Its JSON value.
+    /// Its JSON value; null for a number that is absent.
     fn to_value(&self, alloc: Global) -> Result<Value, AllocError>
         ensures { IfOk result (λ v. view v ≡ member_data self.now) }
     {

@@ -56,7 +56,7 @@ struct OnLane {
 }
 
 impl OnLane {
-    /// The vehicle of this number, on this lane.
+    /// The vehicle of this number, on this lane or before it; its size is in cells.
     fn new(car: u64, link: u64, lane: u64, size: u64) -> OnLane
         ensures { result ≡ record { car = car; link = link; lane = lane; size = size } }
     {
@@ -154,7 +154,7 @@ fn ended_as(alloc: Global, car: u64, state: &str, step: u64) -> Result<Vec<u8>, 
     )
 }
 
-/// The line of a vehicle that has ended.
+/// The line of a vehicle that has ended: by arriving, or by being taken out, and in which step.
 fn ended(alloc: Global, car: u64, end: &End) -> Result<Vec<u8>, Starved>
     ensures { IfOk result (λ text. text.items ≡ line_of (vehicle_data car (Ended end.now))) }
 {
@@ -164,7 +164,7 @@ fn ended(alloc: Global, car: u64, end: &End) -> Result<Vec<u8>, Starved>
     }
 }
 
-/// The line that tells where a vehicle is.
+/// The line that tells where the vehicle of a number is: in a cell, in a buffer, waiting, or ended.
 fn vehicle(alloc: Global, car: u64, whereabouts: &Whereabouts) -> Result<Vec<u8>, Starved>
     ensures { IfOk result (λ text. text.items ≡ line_of (vehicle_data car whereabouts.now)) }
 {
@@ -248,7 +248,7 @@ fn lane(
     )
 }
 
-/// The line of an object of one number, under this name.
+/// The line of a JSON object of one number, under this name.
 fn one_number(alloc: Global, name: &str, number: u64) -> Result<Vec<u8>, Starved>
     ensures { IfOk result (λ text. text.items ≡ line_of (object (number_at name.now number no_members))) }
 {

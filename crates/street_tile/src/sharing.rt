@@ -26,7 +26,7 @@ struct Span {
 }
 
 impl Span {
-    /// No tile.
+    /// A block of no tile.
     fn empty() -> Span {
         Span {
             tiles: 0,

@@ -80,7 +80,7 @@ impl Tiles {
         })
     }
 
-    /// The network.
+    /// The network of these tiles.
     pub fn network(&self) -> &Network
         ensures { result.now ≡ self.now.network }
     {
@@ -223,7 +223,8 @@ impl Tiles {
         self.tiles[i].read_meter(alloc, &self.network, at, number)
     }
 
-    /// How many vehicles are on the lanes of all tiles; looks at no lane.
+    /// How many vehicles are in cells, in buffers and waiting on the lanes of all tiles. Looks at counts that are kept, and at no
+    /// lane.
     pub fn totals(&self) -> LaneTotals
         requires { (m : Traffic) × TilesStandFor self.now m × IsSound m × (length m.ends ≤ most_vehicles) }
         ensures cells { (m : Traffic) → TilesStandFor self.now m → result.cells ≡ in_cells m }
