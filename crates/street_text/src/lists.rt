@@ -44,6 +44,7 @@ pub fn list_value<T: Printed>(alloc: Global, list: &[T]) -> Result<Value, AllocE
 impl Printed for u64 {
     ghost prints = { number_data };
 
+    /// A JSON number.
     fn to_value(&self, _alloc: Global) -> Result<Value, AllocError> {
         Ok(Value::from(*self))
     }
@@ -53,6 +54,7 @@ impl Printed for u64 {
 impl Printed for NodeSpec {
     ghost prints = { node_data };
 
+    /// A JSON list of its fields, in this order.
     fn to_value(&self, alloc: Global) -> Result<Value, AllocError> {
         list_value(alloc, &[self.id, self.residence, self.capacity])
     }
@@ -62,6 +64,7 @@ impl Printed for NodeSpec {
 impl Printed for LinkSpec {
     ghost prints = { link_data };
 
+    /// A JSON list of its fields, in this order.
     fn to_value(&self, alloc: Global) -> Result<Value, AllocError> {
         list_value(
             alloc,
@@ -81,6 +84,7 @@ impl Printed for LinkSpec {
 impl Printed for TurnSpec {
     ghost prints = { turn_data };
 
+    /// A JSON list of its fields, in this order.
     fn to_value(&self, alloc: Global) -> Result<Value, AllocError> {
         list_value(alloc, &[self.link, self.lane, self.next, self.next_lane])
     }
@@ -90,6 +94,7 @@ impl Printed for TurnSpec {
 impl Printed for GreenSpec {
     ghost prints = { green_data };
 
+    /// A JSON list of its fields, in this order.
     fn to_value(&self, alloc: Global) -> Result<Value, AllocError> {
         list_value(alloc, &[self.link, self.lane, self.next])
     }
@@ -99,6 +104,7 @@ impl Printed for GreenSpec {
 impl Printed for PhaseSpec {
     ghost prints = { phase_data };
 
+    /// A JSON list of its fields, in this order.
     fn to_value(&self, alloc: Global) -> Result<Value, AllocError> {
         let greens = list_value(alloc, self.greens.as_slice())?;
         json!(in alloc; [self.duration, greens])

@@ -44,15 +44,18 @@ pub(crate) trait Lookup {
 impl Lookup for Value {
     ghost shows = { view };
 
+    /// The number that stands in a field of the JSON object. As the trait says.
     fn number(&self, name: &str) -> Result<u64, LineFault> {
         let found = self.get(name).ok_or(LineFault::BadCommand)?;
         found.as_u64().ok_or(LineFault::BadCommand)
     }
 
+    /// The number that stands in a field of the JSON object, or `absent`. As the trait says.
     fn number_or(&self, name: &str, absent: u64) -> Result<u64, LineFault> {
         values::number_or(self, name, absent)
     }
 
+    /// The list of numbers that stands in a field of the JSON object. As the trait says.
     fn numbers(&self, alloc: Global, name: &str) -> Result<Listing<u64>, LineFault> {
         values::field_of(alloc, self, name)
     }

@@ -35,6 +35,7 @@ pub fn write_list<T: Row>(list: &[T], out: &mut Writer) -> Result<(), AllocError
 impl Row for u64 {
     ghost shows = { number_data };
 
+    /// Writes a JSON number.
     fn write(&self, out: &mut Writer) -> Result<(), AllocError> {
         out.u64(*self)
     }
@@ -45,6 +46,7 @@ impl Row for u64 {
 impl Row for MeterRow {
     ghost shows = { meter_data };
 
+    /// Writes a JSON list of its fields, in this order.
     fn write(&self, out: &mut Writer) -> Result<(), AllocError> {
         write_list(&[self.start, self.passes, self.speeds, self.occupied], out)
     }
@@ -54,6 +56,7 @@ impl Row for MeterRow {
 impl Row for RunningRow {
     ghost shows = { running_data };
 
+    /// Writes a JSON list of its fields, in this order.
     fn write(&self, out: &mut Writer) -> Result<(), AllocError> {
         write_list(
             &[
@@ -72,6 +75,7 @@ impl Row for RunningRow {
 impl Row for BufferEntry {
     ghost shows = { buffer_data };
 
+    /// Writes a JSON list of its fields, in this order.
     fn write(&self, out: &mut Writer) -> Result<(), AllocError> {
         write_list(&[self.car, self.speed, self.ready], out)
     }
@@ -81,6 +85,7 @@ impl Row for BufferEntry {
 impl Row for CellEntry {
     ghost shows = { cell_data };
 
+    /// Writes a JSON list of its fields, in this order.
     fn write(&self, out: &mut Writer) -> Result<(), AllocError> {
         if self.size > 1 {
             write_list(&[self.car, self.cell, self.speed, self.size], out)
@@ -94,6 +99,7 @@ impl Row for CellEntry {
 impl Row for Stretch {
     ghost shows = { stretch_data };
 
+    /// Writes a JSON list of its fields, in this order.
     fn write(&self, out: &mut Writer) -> Result<(), AllocError> {
         write_list(&[self.first, self.last], out)
     }
@@ -103,6 +109,7 @@ impl Row for Stretch {
 impl Row for WaitingEntry {
     ghost shows = { waiting_data };
 
+    /// Writes a JSON list of its fields, in this order.
     fn write(&self, out: &mut Writer) -> Result<(), AllocError> {
         write_list(&[self.car, self.depart], out)
     }

@@ -28,6 +28,7 @@ pub(crate) trait FromValue {
 impl FromValue for u64 {
     ghost entry = { number_in };
 
+    /// The number that the value is. Takes no memory.
     fn of_value(_alloc: Global, value: &Value) -> Result<u64, LineFault> {
         value.as_u64().ok_or(LineFault::BadCommand)
     }
@@ -37,6 +38,7 @@ impl FromValue for u64 {
 impl<T: FromValue + Drop> FromValue for Listing<T> {
     ghost entry = { list_in T.entry };
 
+    /// The list whose entries the value has, in order.
     fn of_value(alloc: Global, value: &Value) -> Result<Listing<T>, LineFault> {
         let list = value.as_array().ok_or(LineFault::BadCommand)?;
         // As long as it will be: a journal keeps it.
@@ -74,6 +76,7 @@ fn row<const N: usize>(value: &Value) -> Option<[u64; N]>
 impl FromValue for NodeSpec {
     ghost entry = { node_in };
 
+    /// The node of a list of these three numbers. Takes no memory.
     fn of_value(_alloc: Global, value: &Value) -> Result<NodeSpec, LineFault> {
         let [id, residence, capacity] = row::<3>(value).ok_or(LineFault::BadCommand)?;
         Ok(NodeSpec {
@@ -89,6 +92,7 @@ impl FromValue for NodeSpec {
 impl FromValue for LinkSpec {
     ghost entry = { link_in };
 
+    /// The link of a list of these six numbers. Takes no memory.
     fn of_value(_alloc: Global, value: &Value) -> Result<LinkSpec, LineFault> {
         let [id, from, to, lanes, length, limit] = row::<6>(value).ok_or(LineFault::BadCommand)?;
         Ok(LinkSpec {
@@ -107,6 +111,7 @@ impl FromValue for LinkSpec {
 impl FromValue for TurnSpec {
     ghost entry = { turn_in };
 
+    /// The turn of a list of these four numbers. Takes no memory.
     fn of_value(_alloc: Global, value: &Value) -> Result<TurnSpec, LineFault> {
         let [link, lane, next, next_lane] = row::<4>(value).ok_or(LineFault::BadCommand)?;
         Ok(TurnSpec {
@@ -123,6 +128,7 @@ impl FromValue for TurnSpec {
 impl FromValue for GreenSpec {
     ghost entry = { green_in };
 
+    /// The green turn of a list of these three numbers. Takes no memory.
     fn of_value(_alloc: Global, value: &Value) -> Result<GreenSpec, LineFault> {
         let [link, lane, next] = row::<3>(value).ok_or(LineFault::BadCommand)?;
         Ok(GreenSpec { link, lane, next })
@@ -134,6 +140,7 @@ impl FromValue for GreenSpec {
 impl FromValue for PhaseSpec {
     ghost entry = { phase_in };
 
+    /// The phase of a list of these two.
     fn of_value(alloc: Global, value: &Value) -> Result<PhaseSpec, LineFault> {
         let list = value.as_array().ok_or(LineFault::BadCommand)?;
         if list.len() != 2 {
