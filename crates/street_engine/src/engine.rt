@@ -67,13 +67,13 @@ impl Gate for Unwatched {
         vehicles >= self.from && vehicles.saturating_sub(fullest) >= self.from / 2
     }
 
-    /// As many as the gate was made for.
+    /// As many threads as the gate was made for.
     fn processors(&self) -> usize {
         self.processors
     }
 
-    /// In thirds of what a vehicle on a full link of one lane takes, some 15 ns. Beside others a thread is slower, and it waits for
-    /// them. Of a gate that always shares, more threads are always sooner.
+    /// How long a step takes by so many threads, in thirds of what a vehicle on a full link of one lane takes, some 15 ns. Beside
+    /// others a thread is slower, and it waits for them. Of a gate that always shares, more threads are always sooner.
     fn step_time(&self, threads: usize, busiest: u64) -> u64 {
         if self.from == 0 {
             return u64::MAX - threads as u64;

@@ -171,7 +171,7 @@ impl Streets {
         Ok(())
     }
 
-    /// A node has this signal plan from the next step on. Takes no memory.
+    /// The node at this position has this signal plan from the next step on. Takes no memory.
     pub fn set_signal(&mut self, node: NodeIx, plan: SignalPlan)
         requires { node < length self.old.tiles.network.nodes }
         ensures { StreetsSignal node plan self.old self.new }

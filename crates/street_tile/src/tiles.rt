@@ -134,7 +134,7 @@ impl Tiles {
         Ok(())
     }
 
-    /// A node has this signal plan from the next step on. Takes no memory.
+    /// The node at this position has this signal plan from the next step on. Takes no memory.
     pub fn set_signal(&mut self, node: NodeIx, plan: SignalPlan)
         requires { node < length self.old.network.nodes }
         ensures { (other : PlanSeen) → ShowsAs plan other
