@@ -71,8 +71,8 @@ impl<T> Counted<T> {
         self.empty_writes
     }
 
-    /// Of a reader: whether each read but the first was made by [`read_behind`](Self::read_behind), right behind a flush of the
-    /// writer that did not fail. False before the first read.
+    /// Of a reader: whether each read was made by [`read_behind`](Self::read_behind), and each but the first right behind a flush
+    /// of the writer that did not fail. False before the first read.
     pub fn is_prompt(&self) -> bool
         ensures { result ≡ self.now.is_prompt }
     {

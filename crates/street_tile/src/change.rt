@@ -21,7 +21,7 @@ fn begins_pair(net: &Network, at: Place) -> bool
     at.lane == 0 && net.lanes_of(at.link) == 2
 }
 
-/// Lane changes in the step of this clock on each link of two lanes that run to the tile's nodes.
+/// Lane changes, in the step of this clock, on each link of two lanes among a tile's own lanes.
 fn change_lanes(own: &mut Lanes, net: &Network, clock: Step)
     requires of { IsOf net.now own.old }
     requires roads { IsRoads net.now }
