@@ -19,6 +19,9 @@ use crate::writes::{flush_out, write_reply};
 use memchr::memchr;
 use std::alloc::Global;
 
+/// The most bytes that a run takes by one read.
+pub const READ_SIZE: usize = 4096;
+
 /// What a run may come to.
 #[derive(Debug, Clone, Copy, PartialEq, Eq)]
 pub struct Limits {
@@ -244,7 +247,7 @@ fn drive_all<H: LineHandler, R: Source, W: Sink>(
     ensures broken_off { IfErr result (λ cause. BreaksOff R.gives W.takes W.passes cause reader.new.calls
         reader.old.stream writer.old.stream reader.new.stream writer.new.stream) }
 {
-    let mut buffer = [0u8; 4096];
+    let mut buffer = [0u8; READ_SIZE];
     for _ in 0..reads {
         let count = match reader.read_behind(writer, &mut buffer) {
             Ok(count) => count,
@@ -260,7 +263,7 @@ fn drive_all<H: LineHandler, R: Source, W: Sink>(
 }
 
 /// Hands each line of a text to the handler, in order and once, and writes each reply, and passes it on, before the next
-/// read. Reads up to 4,096 bytes at a time.
+/// read. Reads up to [`READ_SIZE`] bytes at a time.
 ///
 /// Each read but the first comes right behind a flush that did not fail. Where a read failed, the whole output of the lines
 /// that were read to their end was written before it, and the writer was not called behind it. Whether a read will fail is not
