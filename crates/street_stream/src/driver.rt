@@ -4,10 +4,9 @@
 ghost use Rattle.std.specs.Prelude.{◌≡◌, ◌+◌, ◌^◌, ◌<◌, [], ◌∷◌, ◌++◌, IfOk, OnOk, IfErr, OnErr, length};
 ghost use Rattle.street_stream.specs.Calls.{OnlyWrites, PassesOn, IsCutShort, AreRounds, BreaksOff};
 ghost use Rattle.street_stream.specs.Streams.{IsFlushed, IsFresh, IsPrompt};
-ghost use Rattle.street_stream.specs.Faults.{IsCausedByLine};
 ghost use Rattle.street_stream.specs.HandledLines.{Drives, IsTally};
 ghost use Rattle.street_stream.specs.Lines.{IsInsideLine, IsPart};
-ghost use Rattle.street_stream.specs.Progress.{IsWithin, Grows, TakesTo, TakeStops, FeedsTo, FeedStops, FinishesTo, FinishStops, ended};
+ghost use Rattle.street_stream.specs.Progress.{IsWithin, TakesLine, FeedsBytes, FinishesText, ended};
 
 use crate::answer::{Answer, Cause, Halt};
 use crate::counted::Counted;
@@ -54,12 +53,8 @@ fn end_line<H: LineHandler, W: Sink>(
     requires ready { H.ready }
     requires within { IsWithin tally.old }
     requires room { tally.old.lines < 2 ^ 62 }
-    ensures taken { OnOk result (TakesTo H.meaning W.contents
-        handler.old writer.old part.now tally.old handler.new writer.new tally.new) }
-    ensures grows { OnOk result (Grows tally.old tally.new 1) }
-    ensures broken { IfErr result (TakeStops H.meaning W.contents
-        handler.old writer.old part.now tally.old handler.new writer.new tally.new) }
-    ensures caused { IfErr result (λ cause. IsCausedByLine cause writer.new) }
+    ensures takes { TakesLine H.meaning W.contents
+        handler.old writer.old part.now tally.old result handler.new writer.new tally.new }
     ensures calls { OnlyWrites W.takes writer.old.stream writer.new.stream }
 {
     tally.lines += 1;
@@ -93,12 +88,8 @@ fn take_line<H: LineHandler, W: Sink>(
     requires inside { IsInsideLine bytes.now }
     requires within { IsWithin progress.old.tally }
     requires room { progress.old.tally.lines < 2 ^ 62 }
-    ensures feeds { OnOk result (FeedsTo H.meaning W.contents
-        handler.old writer.old progress.old (bytes.now ++ 10 ∷ []) handler.new writer.new progress.new) }
-    ensures grows { OnOk result (Grows progress.old.tally progress.new.tally 1) }
-    ensures broken { IfErr result (FeedStops H.meaning W.contents
-        handler.old writer.old progress.old (bytes.now ++ 10 ∷ []) handler.new writer.new progress.new) }
-    ensures caused { IfErr result (λ cause. IsCausedByLine cause writer.new) }
+    ensures feeds { FeedsBytes H.meaning W.contents
+        handler.old writer.old progress.old (bytes.now ++ 10 ∷ []) 1 result handler.new writer.new progress.new }
     ensures calls { OnlyWrites W.takes writer.old.stream writer.new.stream }
 {
     progress.part.extend(bytes)?;
@@ -123,12 +114,8 @@ pub(crate) fn feed<H: LineHandler, W: Sink>(
     requires ready { H.ready }
     requires within { IsWithin progress.old.tally }
     requires room { progress.old.tally.lines + length bytes.now < 2 ^ 62 }
-    ensures feeds { OnOk result (FeedsTo H.meaning W.contents
-        handler.old writer.old progress.old bytes.now handler.new writer.new progress.new) }
-    ensures grows { OnOk result (Grows progress.old.tally progress.new.tally (length bytes.now)) }
-    ensures broken { IfErr result (FeedStops H.meaning W.contents
-        handler.old writer.old progress.old bytes.now handler.new writer.new progress.new) }
-    ensures caused { IfErr result (λ cause. IsCausedByLine cause writer.new) }
+    ensures feeds { FeedsBytes H.meaning W.contents
+        handler.old writer.old progress.old bytes.now (length bytes.now) result handler.new writer.new progress.new }
     ensures calls { OnlyWrites W.takes writer.old.stream writer.new.stream }
 {
     let mut at = 0;
@@ -151,12 +138,8 @@ fn feed_through<H: LineHandler, W: Sink>(
     requires ready { H.ready }
     requires within { IsWithin progress.old.tally }
     requires room { progress.old.tally.lines + length bytes.now < 2 ^ 62 }
-    ensures feeds { OnOk result (FeedsTo H.meaning W.contents
-        handler.old writer.old progress.old bytes.now handler.new writer.new progress.new) }
-    ensures grows { OnOk result (Grows progress.old.tally progress.new.tally (length bytes.now)) }
-    ensures broken { IfErr result (FeedStops H.meaning W.contents
-        handler.old writer.old progress.old bytes.now handler.new writer.new progress.new) }
-    ensures caused { IfErr result (λ cause. IsCausedByLine cause writer.new) }
+    ensures feeds { FeedsBytes H.meaning W.contents
+        handler.old writer.old progress.old bytes.now (length bytes.now) result handler.new writer.new progress.new }
     ensures done { OnOk result (PassesOn W.takes W.passes writer.old.stream writer.new.stream) }
     ensures undone { OnErr result (IsCutShort W.takes W.passes writer.old.stream writer.new.stream) }
     ensures passed { OnOk result (IsFlushed writer.new) }
@@ -180,12 +163,8 @@ pub(crate) fn finish<H: LineHandler, W: Sink>(
     requires ready { H.ready }
     requires within { IsWithin progress.old.tally }
     requires room { progress.old.tally.lines < 2 ^ 62 }
-    ensures finishes { OnOk result (FinishesTo H.meaning W.contents
-        handler.old writer.old progress.old handler.new writer.new progress.new) }
-    ensures grows { OnOk result (Grows progress.old.tally progress.new.tally 1) }
-    ensures broken { IfErr result (FinishStops H.meaning W.contents
-        handler.old writer.old progress.old handler.new writer.new progress.new) }
-    ensures caused { IfErr result (λ cause. IsCausedByLine cause writer.new) }
+    ensures finishes { FinishesText H.meaning W.contents
+        handler.old writer.old progress.old result handler.new writer.new progress.new }
     ensures calls { OnlyWrites W.takes writer.old.stream writer.new.stream }
 {
     if progress.part.as_slice().is_empty() {
@@ -205,12 +184,8 @@ fn finish_through<H: LineHandler, W: Sink>(
     requires ready { H.ready }
     requires within { IsWithin progress.old.tally }
     requires room { progress.old.tally.lines < 2 ^ 62 }
-    ensures finishes { OnOk result (FinishesTo H.meaning W.contents
-        handler.old writer.old progress.old handler.new writer.new progress.new) }
-    ensures grows { OnOk result (Grows progress.old.tally progress.new.tally 1) }
-    ensures broken { IfErr result (FinishStops H.meaning W.contents
-        handler.old writer.old progress.old handler.new writer.new progress.new) }
-    ensures caused { IfErr result (λ cause. IsCausedByLine cause writer.new) }
+    ensures finishes { FinishesText H.meaning W.contents
+        handler.old writer.old progress.old result handler.new writer.new progress.new }
     ensures done { OnOk result (PassesOn W.takes W.passes writer.old.stream writer.new.stream) }
     ensures undone { OnErr result (IsCutShort W.takes W.passes writer.old.stream writer.new.stream) }
     ensures passed { OnOk result (IsFlushed writer.new) }
