@@ -31,7 +31,7 @@ struct NetNumbers {
 ///
 /// # Errors
 ///
-/// `BadCommand` where one of the others is missing, or is no number below 2^64.
+/// `BadCommand` where one of the others is missing, or one is no number below 2^64.
 #[tactic(auto, unfolding(crate::specs::LineCommands::numbers_in))]
 fn numbers(alloc: Global, value: &Value) -> Result<NetNumbers, LineFault>
     ensures { Gives result (or_fault LineFault.BadCommand (numbers_in (view value.now))) }
