@@ -7,8 +7,7 @@ ghost use Rattle.street_lanes.specs.Prelude.{Same};
 ghost use Rattle.street_lanes.specs.Lanes.{IsOf};
 ghost use Rattle.street_tile.specs.Prelude.{IsTileOf, IsRoads, ArePairs, ChangeLanes, LanePhase};
 
-use crate::gate::LANE_CHANGES;
-use crate::{Gate, Tile};
+use crate::Tile;
 use street_base::{Place, Step};
 use street_lanes::Lanes;
 use street_net::Network;
@@ -45,14 +44,4 @@ impl Tile {
     {
         change_lanes(&mut self.own, net, self.clock);
     }
-}
-
-/// Lane changes of a tile by the worker of this number; the gate sees it come and leave.
-pub(crate) fn change<G: Gate>(net: &Network, worker: u32, tile: &mut Tile, gate: &G)
-    requires { IsTileOf net.now tile.old }
-    ensures { LanePhase net.now tile.old tile.new }
-{
-    gate.arrive(worker, LANE_CHANGES, tile);
-    tile.phase_lanes(net);
-    gate.leave(worker, LANE_CHANGES, tile);
 }

@@ -65,20 +65,12 @@ impl Hints {
         self.links.get(number as usize).copied()
     }
 
-    /// The vehicle of a number was put on a link; nothing if the number was not given. Takes no memory.
-    pub(crate) fn put(&mut self, number: CarNo, link: LinkIx)
-        ensures links { self.new.links ≡ slice_set self.old.links number link }
-        ensures room { self.new.room ≡ self.old.room }
-    {
-        if let Some(hint) = self.links.get_mut(number as usize) {
-            *hint = link;
-        }
-    }
-
-    /// The vehicle of a hand-over is put on the link that it enters. Takes no memory.
+    /// The vehicle of a hand-over is put on the link that it enters; nothing if its number was not given. Takes no memory.
     pub fn follow(&mut self, hand_over: &HandOver)
         ensures { self.new ≡ record self.old { links = slice_set self.old.links hand_over.now.vehicle.number hand_over.now.to.link } }
     {
-        self.put(hand_over.number(), hand_over.to().link);
+        if let Some(hint) = self.links.get_mut(hand_over.car.number as usize) {
+            *hint = hand_over.to.link;
+        }
     }
 }

@@ -1,7 +1,7 @@
 //! All tiles of a network between two steps.
 //!
 //! Here are their making, the network that they share, the commands that name a node or a lane, and counts of vehicles. Such a command
-//! is done by the tile that owns the node or lane, and the others stay as they are. Steps are in `tiles_steps`, commands that name a
+//! is done by the tile that owns the node or lane, and the others stay as they are. Steps are in `step`, commands that name a
 //! vehicle in `tiles_vehicles`, the blocks in which a team lends the tiles in `sharing`.
 //!
 //! Source: this profile.
