@@ -305,20 +305,15 @@ impl Streets {
         }
     }
 
-    /// Whether the workers share the next step, as the gate says of the vehicles in cells; never where there is one tile.
-    fn shares_next_step<G: Gate>(&self, gate: &G) -> bool {
-        let (vehicles, fullest) = self.tiles.in_cells();
-        self.tiles.len() > 1 && gate.shares(vehicles, fullest)
-    }
-
-    /// How many threads the next steps take, the caller's among them: this alone where the workers do not share the next step, else one
-    /// for each tile.
+    /// How many threads the next steps take, the caller's among them: one for each tile where the gate says, of the vehicles in cells,
+    /// that the workers share the next step; else, and where there is one tile, the caller's alone.
     pub(crate) fn threads_of_steps<G: Gate>(&self, gate: &G) -> usize
         ensures some { 0 < result }
         ensures few { result ≤ most_workers }
     {
-        if self.shares_next_step(gate) {
-            return self.tiles.len().max(1);
+        let (vehicles, fullest) = self.tiles.in_cells();
+        if self.tiles.len() > 1 && gate.shares(vehicles, fullest) {
+            return self.tiles.len();
         }
         1
     }
