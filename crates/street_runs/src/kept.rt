@@ -25,9 +25,9 @@ use street_line::{
 ///
 /// # Errors
 ///
-/// `Read` with the file's name where it is no file that can be read, `Write` where it can not be written, locked, cut off or synced,
-/// or where that fails later; `BadTape` at its first line that is no command, or is refused: nothing was served then, and the file
-/// is as it was. Else the fault of the session.
+/// `Read` with the file's name where something else than a file has that name, or a read of it failed; `Write` where it can not be
+/// opened, made, locked, cut off or synced, or where a write or sync fails later; `BadTape` at its first line that is no command, or is
+/// refused: nothing was served then, and the file is as it was. Else the fault of the session.
 pub fn serve_kept<
     'a,
     R: Threads + Wait + Sync + Input + Print + Eprint + AllocGlobal + Files<File = File>,
@@ -45,7 +45,8 @@ pub fn serve_kept<
     serve_in(rt, &mut session, name, syncs)
 }
 
-/// Does the lines of the file of this name by this service, and then serves standard input by it as a session that is kept there;
+/// Opens the file of this name, or makes it, and locks it; does its lines by this service, cuts off what a crash left behind them, and
+/// tells on standard error how many were done again. Then it serves standard input by this service as a session that is kept there;
 /// synced where `syncs` is true.
 ///
 /// # Errors

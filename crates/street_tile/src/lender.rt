@@ -150,7 +150,7 @@ impl<'b, G: Gate + Sync, K: TeamNetwork> Work<Tile> for TileWork<'b, G, K> {
 
     ghost does = { λ part number shown x y. DoesWork K.net part shown x y };
 
-    /// Makes a part of a step on one tile, by the worker of this number; `shown` are the mouths, by which releases go.
+    /// Makes a part of a step on one tile, whose position among all is `number`; `shown` are the mouths, by which releases go.
     fn work(&self, part: u32, number: usize, shown: &[bool], item: &mut Tile) {
         work(self.net, self.gate, part, number as u32, shown, item);
     }

@@ -39,8 +39,8 @@ const DRIVE: u32 = 5;
 /// The part with entries, departures and detectors.
 const SETTLE: u32 = 6;
 
-/// A phase of a tile, by the worker of this number; the gate sees it come and leave. `shown` tells of each lane, by slot, whether its
-/// mouth is open; releases go by it, the other phases do not look at it.
+/// A phase of a tile; `worker` is the tile's position among all tiles, 0 to 63, whichever thread makes it, and the gate sees it come and
+/// leave. `shown` tells of each lane, by slot, whether its mouth is open; releases go by it, the other phases do not look at it.
 fn run_phase<G: Gate>(
     net: &Network,
     gate: &G,
@@ -63,8 +63,8 @@ fn run_phase<G: Gate>(
     gate.leave(worker, phase, tile);
 }
 
-/// A part of a step of a tile, one phase or two, by the worker of this number; `shown` are the mouths by slot, where `part` is
-/// `RELEASES`.
+/// A part of a step of a tile, one phase or two; `worker` is the tile's position among all tiles, as the gate is told, whichever thread
+/// makes it. `shown` are the mouths by slot, where `part` is `RELEASES`.
 pub(crate) fn work<G: Gate>(
     net: &Network,
     gate: &G,
