@@ -34,7 +34,7 @@ const THREAD: u64 = 3_300;
 /// step, and threads that stay, are worth their cost from different numbers of vehicles on: a gate is for the ones or the others.
 #[derive(Drop)]
 pub struct Unwatched {
-    /// From how many vehicles in cells on workers share a step, if half as many are in other tiles than the fullest: 0 is
+    /// From how many vehicles in cells on workers share a step, if half of that number are in other tiles than the fullest: 0 is
     /// always.
     pub from: u64,
     /// How many threads at most stay for the steps of an advance.
@@ -61,8 +61,8 @@ impl Unwatched {
 }
 
 impl Gate for Unwatched {
-    /// True from `from` vehicles in cells on, where the tiles other than the fullest have at least half as many: sharing saves only
-    /// their time, and one of two equal tiles has half.
+    /// True where at least `from` vehicles are in cells, and at least half of `from` in other tiles than the fullest: sharing saves only
+    /// the time of these, and of `from` vehicles on two equal tiles each has half.
     fn shares(&self, vehicles: u64, fullest: u64) -> bool {
         vehicles >= self.from && vehicles.saturating_sub(fullest) >= self.from / 2
     }

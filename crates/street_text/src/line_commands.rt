@@ -1,4 +1,4 @@
-//! From the bytes of a line to a command: one small function for each command.
+//! From the bytes of a line to a command: the reading of a line, and the commands `load` and `signal`; `number_commands` has the others.
 //!
 //! Source: this profile.
 ghost use Rattle.std.specs.Prelude.{◌≡◌, ◌⊎◌};
