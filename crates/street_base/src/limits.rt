@@ -89,7 +89,7 @@ pub const MOST_SESSIONS: usize = 1_024;
 /// How many reads a run asks of its input at most.
 pub const MOST_READS: u32 = 1_000_000_000;
 
-/// The limits are those of the definitions.
+/// The constants of this file are the limits that the definitions state.
 pub fn limits_are_defined()
     ensures clock { LAST_CLOCK ≡ last_clock }
     ensures load { (GREATEST_ID ≡ greatest_id) × (MOST_NODES ≡ most_nodes) × (MOST_LINKS ≡ most_links) × (MOST_TURNS ≡ most_turns) }

@@ -21,7 +21,7 @@ use street_stream::Counted;
 /// How often a caller looks for the other before it goes on alone.
 const TURNS: u64 = 10_000_000;
 
-/// Waits for the other caller. Whether it came.
+/// Counts this caller, and waits for the other, looking at most `TURNS` times. Whether it came.
 fn meet(callers: &AtomicU64) -> bool {
     callers.fetch_add(1, Ordering::SeqCst);
     for _ in 0..TURNS {
@@ -33,7 +33,7 @@ fn meet(callers: &AtomicU64) -> bool {
     false
 }
 
-/// The replies to these lines, where they were served to their end.
+/// The replies to these lines, served by this session. Nothing where they were not served to their end.
 fn serve_lines<R: Threads + Wait + Sync>(
     alloc: Global,
     session: &mut DeskSession<'_, R>,
@@ -50,14 +50,16 @@ fn serve_lines<R: Threads + Wait + Sync>(
     }
 }
 
-/// The line that asks for the vehicle which the second of some replies names.
+/// The line that asks for the vehicle which the second of some lines of reply names. Nothing where it names none, or memory was
+/// refused.
 fn question(alloc: Global, replies: &[u8]) -> Option<String> {
     let reply = text_of(replies).lines().nth(1)?;
     let car = reply.strip_prefix(r#"{"car":"#)?.strip_suffix("}")?;
     format!(in alloc; r#"{{"cmd":"vehicle","car":{car}}}"#).ok()
 }
 
-/// The replies to these lines, and then to a question for the vehicle that the second reply names.
+/// The replies to these lines, and then to a question for the vehicle that the second reply names. Nothing where they were not
+/// served to their end, or no vehicle is named.
 fn serve_and_ask<R: Threads + Wait + Sync>(
     alloc: Global,
     session: &mut DeskSession<'_, R>,
@@ -74,7 +76,8 @@ fn serve_and_ask<R: Threads + Wait + Sync>(
     Some(replies)
 }
 
-/// The calls of one caller, if it meets the other.
+/// The calls of one caller, with this pass, and what it was answered: nothing where it did not meet the other, which `callers`
+/// counts.
 fn answer<R: Threads + Wait + Sync>(
     rt: &R,
     alloc: Global,
@@ -96,7 +99,7 @@ fn answer<R: Threads + Wait + Sync>(
     }
 }
 
-/// The calls of both, who have the same lines.
+/// The calls of both callers, each on a thread of its own with a pass of its own, who have the same lines.
 fn answer_both<R: Threads + Wait + Sync>(
     rt: &R,
     alloc: Global,
@@ -126,8 +129,8 @@ fn answer_both<R: Threads + Wait + Sync>(
     )
 }
 
-/// Two callers with the same lines, who have a call for each place of their desk. Nothing where they did not meet, were not
-/// answered to the end, or are not told of all calls.
+/// Has two callers with the same lines call at a new desk, which has a place for so many calls, all that they make together.
+/// Nothing where they did not meet, were not answered to the end, or are not told of all calls.
 pub fn serve_both<R: Threads + Wait + Sync>(
     rt: &R,
     alloc: Global,

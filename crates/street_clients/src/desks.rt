@@ -24,7 +24,7 @@ pub struct Client {
     pub replies: Option<Vec<u8>>,
 }
 
-/// A desk with so many places, and the passes of its sessions 0 and 1. Nothing where memory was refused.
+/// A desk with a place for so many calls, nothing loaded, and the passes of its sessions 0 and 1. Nothing where memory was refused.
 pub fn desk_of_two(
     alloc: Global,
     calls: u64,
@@ -43,7 +43,8 @@ pub fn desk_of_two(
     }
 }
 
-/// Whether both passes are told of so many calls. The first then hears a note of the second.
+/// Whether both passes are told that so many calls were served. The first then hears a note of the second, and has seen all that
+/// both have.
 fn know_all(
     desk: &Desk<Unwatched>,
     one: &mut Pass<Unwatched>,
@@ -64,7 +65,7 @@ fn know_all(
     one_knows && two_knows
 }
 
-/// The tape of a desk that is ended. Nothing where the desk is torn, or memory was refused.
+/// Ends a desk by this pass, and gives its tape. Nothing where the desk is torn, or memory was refused.
 fn tape_of(alloc: Global, desk: Desk<Unwatched>, pass: Pass<Unwatched>) -> Option<Vec<u8>>
     requires { pass.desk ≡ desk }
     ensures { IfSome result (λ tape. (history : List Entry) × Finished pass history × (tape.items ≡ tape_text history)) }
@@ -79,8 +80,8 @@ fn tape_of(alloc: Global, desk: Desk<Unwatched>, pass: Pass<Unwatched>) -> Optio
     }
 }
 
-/// The tape of a desk that is ended, of whose calls two passes are told. Nothing where one is not told of so many calls, the
-/// desk is torn, or memory was refused.
+/// Ends a desk that has two passes, and gives its tape. Nothing where one pass is not told of so many calls, the desk is torn, or
+/// memory was refused.
 fn whole_tape(
     alloc: Global,
     desk: Desk<Unwatched>,
@@ -97,8 +98,8 @@ fn whole_tape(
     tape_of(alloc, desk, one)
 }
 
-/// Ends a desk: what two of its clients were answered, and the tape. Nothing where one was not answered to the end or is
-/// not told of so many calls, the desk is torn, or memory was refused.
+/// Ends a desk of so many calls: what two of its clients were answered, and the tape. Nothing where one was not answered to the end
+/// or is not told of so many calls, the desk is torn, or memory was refused.
 pub fn end_desk(
     alloc: Global,
     desk: Desk<Unwatched>,

@@ -36,6 +36,7 @@ const STEP_AND_ENTER: &str = r#"{"cmd":"advance","steps":1}
 {"cmd":"enter","plan":[10],"lane":0,"depart":0}
 "#;
 
+/// A step.
 const STEP: &str = r#"{"cmd":"advance","steps":1}
 "#;
 
@@ -80,17 +81,17 @@ const THREE_COUNTS: &[u8] = br#"{"error":1,"name":"NotLoaded"}
 {"error":1,"name":"NotLoaded"}
 "#;
 
-/// Clients were not served to the end.
+/// The error of clients that were not served to the end.
 fn not_served() -> io::Error {
     io::Error::from(io::ErrorKind::InvalidData)
 }
 
-/// The line of reply to a count after a tape.
+/// The line of reply to the count after a replay, with its LF.
 fn count_text(alloc: Global, retold: &Retold) -> io::Result<Vec<u8>> {
     reply_text(alloc, &retold.count).ok().ok_or(not_served())
 }
 
-/// The replies of a replay of the clients' tape, and to a count after it.
+/// What a replay of the clients' tape answers, and a count after it.
 fn retold_from<R: Threads + Sync + AllocGlobal>(rt: &R, told: &Told) -> io::Result<Retold>
     ensures { IfOk result (λ retold. IsRetold told.now.tape.items retold) }
 {
@@ -100,7 +101,7 @@ fn retold_from<R: Threads + Sync + AllocGlobal>(rt: &R, told: &Told) -> io::Resu
     }
 }
 
-/// Whether each reply is that of the tape.
+/// Whether each reply that the clients had is the one among these, which a replay of their tape gave.
 fn agrees_with(alloc: Global, told: &Told, replies: &[u8]) -> io::Result<bool>
     ensures { IfOk result (λ agrees. Decides agrees (Agrees told.now replies.now)) }
 {
@@ -110,7 +111,8 @@ fn agrees_with(alloc: Global, told: &Told, replies: &[u8]) -> io::Result<bool>
     }
 }
 
-/// Whether each reply is that of the tape; if so, this is said, with what a count answers after the tape.
+/// Replays the clients' tape. Whether each reply that they had is that of the replay; if so, this is printed under this name, with
+/// what a count answers after the tape.
 fn compare<R: Threads + Sync + Print + AllocGlobal>(
     rt: &R,
     name: &str,
@@ -132,7 +134,8 @@ fn compare<R: Threads + Sync + Print + AllocGlobal>(
     Ok(agrees)
 }
 
-/// A planner, whose replies are the same whatever the order between the two, and one who only counts.
+/// Plays two scripts, a planner, whose replies are the same whatever the order between the two, and one who only counts. Whether
+/// they were answered as they should be.
 fn two_scripts<R: Threads + Wait + Sync + Print + AllocGlobal + Files<File = File>>(
     rt: &R,
 ) -> io::Result<bool> {
@@ -141,7 +144,7 @@ fn two_scripts<R: Threads + Wait + Sync + Print + AllocGlobal + Files<File = Fil
     Ok(told.first.as_slice() == PLANNED && compare(rt, "two scripts", &told)?)
 }
 
-/// Two scripts of two counts at a desk with three places: three are answered, and one finds no place.
+/// Plays two scripts of two counts at a desk with three places. Whether three are answered, and one finds no place.
 fn three_places<R: Threads + Wait + Sync + Print + AllocGlobal + Files<File = File>>(
     rt: &R,
 ) -> io::Result<bool> {
@@ -169,8 +172,8 @@ fn many_lines(alloc: Global) -> Result<String, AllocError> {
     Ok(lines)
 }
 
-/// Two callers of a thousand calls each. Whoever has the turn, somebody waits to depart in each step, and every second step
-/// one departs.
+/// Plays two callers of a thousand calls each. Whoever has the turn, somebody waits to depart in each step, and every second step
+/// one departs. Whether they were answered as a replay is.
 fn many_calls<R: Threads + Wait + Sync + Print + AllocGlobal>(rt: &R) -> io::Result<bool> {
     let alloc = rt.alloc();
     let lines = many_lines(alloc)?;
@@ -178,13 +181,13 @@ fn many_calls<R: Threads + Wait + Sync + Print + AllocGlobal>(rt: &R) -> io::Res
     compare(rt, "two threads", &told)
 }
 
-/// Whether a caller was told that it loads or not, and then this of its vehicle.
+/// Whether these replies are that the caller has loaded, or that another had, as `loads` says, and then this of its vehicle.
 fn is_told(replies: &str, loads: bool, vehicle: &str) -> bool {
     let load = if loads { LOADED } else { NOT_LOADED_AGAIN };
     replies.strip_prefix(load) == Some(vehicle)
 }
 
-/// Whether one load is answered and the other refused, the vehicles are 0 and 1, and both wait.
+/// Whether of these replies to two callers one load is answered and the other refused, the vehicles are 0 and 1, and both wait.
 fn are_told(first: &str, second: &str) -> bool {
     [true, false].iter().any(|loads| {
         (is_told(first, *loads, FIRST_WAITS) && is_told(second, !*loads, SECOND_WAITS))
@@ -192,19 +195,21 @@ fn are_told(first: &str, second: &str) -> bool {
     })
 }
 
-/// Two callers of three calls each: each loads the same network, has a vehicle enter, and asks for it.
+/// Plays two callers of three calls each: each loads the same network, has a vehicle enter, and asks for it. Whether they were
+/// answered as they should be.
 fn six_calls<R: Threads + Wait + Sync + Print + AllocGlobal>(rt: &R) -> io::Result<bool> {
     let told = serve_both(rt, rt.alloc(), 6, LOAD_AND_ENTER).ok_or(not_served())?;
     Ok(are_told(text_of(&told.first), text_of(&told.second)) && compare(rt, "six calls", &told)?)
 }
 
-/// All of them. Whether each was answered as it should be.
+/// Plays all four, up to the first that goes wrong. Whether each was answered as it should be.
 fn play_all<R: Threads + Wait + Sync + Print + AllocGlobal + Files<File = File>>(
     rt: &R,
 ) -> io::Result<bool> {
     Ok(two_scripts(rt)? && three_places(rt)? && many_calls(rt)? && six_calls(rt)?)
 }
 
+/// The program: status 0 where all were answered as they should be, else 1.
 fn main(rt: HostRuntime) -> ExitCode {
     // Where standard error fails too, the status alone tells the fault.
     match play_all(&rt) {

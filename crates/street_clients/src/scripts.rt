@@ -15,7 +15,7 @@ use street_desk::{Desk, Pass};
 use street_engine::Unwatched;
 use street_line::{DeskSession, Script, run_scripts};
 
-/// The client of a script that has ended.
+/// The client of a script that has ended: with no replies where it has a fault.
 fn client_of<R: Threads + Wait + Sync>(script: Script<'_, R>) -> Client
     ensures pass { result.pass ≡ script.entry.session }
     ensures replies { MatchOption script.entry.fault
@@ -51,7 +51,8 @@ fn run_two<'a, R: Threads + Wait + Sync>(
     one.zip(two)
 }
 
-/// The clients of two scripts that are served at the desk. Nothing where memory was refused.
+/// Serves two scripts at the desk, each given as a pass and the name of its file, and gives their clients. Nothing where memory was
+/// refused.
 fn answer_both<'a, R: Threads + Wait + Sync + Files<File = File>>(
     rt: &'a R,
     alloc: Global,
@@ -69,8 +70,8 @@ fn answer_both<'a, R: Threads + Wait + Sync + Files<File = File>>(
     Some((client_of(one), client_of(two)))
 }
 
-/// Serves two scripts at once, which have a call for each place of their desk. Nothing where memory was refused, a file could
-/// not be read, or they are not told of all calls.
+/// Serves two scripts, by the names of their files, at once at a new desk, which has a place for so many calls, all that they make
+/// together. Nothing where memory was refused, a file could not be read, or they are not told of all calls.
 pub fn serve_both_scripts<R: Threads + Wait + Sync + Files<File = File>>(
     rt: &R,
     alloc: Global,

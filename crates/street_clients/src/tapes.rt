@@ -33,6 +33,7 @@ pub struct Retold {
 }
 
 impl Drop for Retold {
+    /// Drops its parts.
     fn drop(self) {
         let Retold {
             replies: _,
@@ -41,7 +42,7 @@ impl Drop for Retold {
     }
 }
 
-/// Replays a tape, and then counts.
+/// Replays a tape on a new engine, and then counts.
 ///
 /// # Errors
 ///
@@ -66,7 +67,7 @@ pub fn retell<R: Threads + Sync>(rt: &R, alloc: Global, tape: &[u8]) -> Result<R
     }
 }
 
-/// The text of lines, which are ASCII; of other bytes none.
+/// The text of these bytes, which are lines of ASCII; an empty one where they are no UTF-8.
 pub fn text_of(lines: &[u8]) -> &str
     ensures text { IsUtf8 lines.now → result.now ≡ lines.now }
     ensures none { (IsUtf8 lines.now → ⊥) → result.now ≡ [] }
@@ -74,14 +75,14 @@ pub fn text_of(lines: &[u8]) -> &str
     str::from_utf8(lines).unwrap_or("")
 }
 
-/// Where the first LF stands.
+/// Where the first LF stands, counted in bytes from 0.
 fn line_end(text: &[u8]) -> Option<usize>
     ensures { MatchOption result (HasNoEnd text.now (length text.now)) (EndsFirst text.now) }
 {
     text.iter().position(|byte| *byte == b'\n')
 }
 
-/// The first line that ends with LF, and what follows it.
+/// The first line that ends with LF, without it, and what follows it. Nothing where there is no LF.
 fn first_line(text: &[u8]) -> Option<(&[u8], &[u8])>
     ensures { MatchOption result
         ((cut text.now).0 ≡ [])
@@ -91,7 +92,11 @@ fn first_line(text: &[u8]) -> Option<(&[u8], &[u8])>
     Some((&text[..end], &text[end + 1..]))
 }
 
-/// Whether the line of a tape is a call of the session.
+/// Whether the line of a tape, without its LF, is a call of the session. A line that is no call is of none.
+///
+/// # Errors
+///
+/// Memory was refused.
 fn is_of(alloc: Global, line: &[u8], session: u64) -> Result<bool, Starved>
     ensures { IfOk result (λ own. own ≡ is_of session (entry_reading true line.now)) }
 {
@@ -102,7 +107,11 @@ fn is_of(alloc: Global, line: &[u8], session: u64) -> Result<bool, Starved>
     }
 }
 
-/// Of the lines of reply to these calls, one to each, those to the calls of the session.
+/// Of the lines of reply to these calls of a tape, one to each in their order, those to the calls of the session.
+///
+/// # Errors
+///
+/// Memory was refused.
 fn own_lines(
     alloc: Global,
     mut calls: &[u8],
@@ -127,7 +136,7 @@ fn own_lines(
 }
 
 impl Told {
-    /// Whether each of the two was answered to each of its calls as a replay answers, which has these lines of reply.
+    /// Whether each of the two was answered to each of its calls as a replay of the tape answers, whose lines of reply these are.
     ///
     /// # Errors
     ///
@@ -140,7 +149,11 @@ impl Told {
         Ok(first.as_slice() == self.first.as_slice() && second.as_slice() == self.second.as_slice())
     }
 
-    /// The lines of reply to the session's calls of the tape, whose first line is no call.
+    /// Of these lines of reply of a replay, those to the session's calls of the tape, whose first line is no call.
+    ///
+    /// # Errors
+    ///
+    /// Memory was refused.
     fn replies_to(&self, alloc: Global, replies: &[u8], session: u64) -> Result<Vec<u8>, Starved>
         ensures { IfOk result (λ own. own.items ≡ replies_to session self.now.tape.items replies.now) }
     {

@@ -25,6 +25,7 @@ IsLegalFrom m (e ∷ es) = Allows m e.command e.outcome × IsLegalFrom (state_af
 abbrev pub state_of : List Entry → State
 state_of history = state_from None history
 
+-- a history is legal from nothing loaded on
 abbrev pub IsLegal : List Entry → Type 0
 IsLegal history = IsLegalFrom None history
 
@@ -33,6 +34,7 @@ abbrev pub answers_from : State → List Entry → List (Reply × Outcome)
 answers_from m [] = []
 answers_from m (e ∷ es) = (reply_to m e.command e.outcome, e.outcome) ∷ answers_from (state_after m e.command e.outcome) es
 
+-- so from nothing loaded on
 abbrev pub answers_of : List Entry → List (Reply × Outcome)
 answers_of history = answers_from None history
 

@@ -14,6 +14,7 @@ pub record Recorded : Type 0 where
   pub history : List Entry
   pub calls : ℕ
 
+-- an engine with this journal, and room for so many calls
 abbrev pub recorded : List Entry → ℕ → Recorded
 recorded history calls = record { history = history; calls = calls }
 
@@ -21,6 +22,7 @@ recorded history calls = record { history = history; calls = calls }
 abbrev pub Turn : Type 0
 Turn = maybe.Option ℕ
 
+-- one where somebody has the turn
 abbrev pub turn_bit : Turn → ℕ
 turn_bit maybe.none = 0
 turn_bit (maybe.some seat) = 1
@@ -46,6 +48,7 @@ pub record Knows (calls sessions : ℕ) (history : List Entry) (busy : Turn) (se
 abbrev pub Apart : SeatView → SeatView → Type 0
 Apart v w = v.owns ≡ true → w.owns ≡ true → (v.greatest < w.least) ⊎ (w.greatest < v.least)
 
+-- any two seats own different sessions
 abbrev pub AllApart : List SeatView → Type 0
 AllApart views = (i j : ℕ) (v w : SeatView) → i ≢ j → get_elem? views i ≡ maybe.some v → get_elem? views j ≡ maybe.some w → Apart v w
 

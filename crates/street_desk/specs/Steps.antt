@@ -44,6 +44,7 @@ pub record Looks (v : SeatView) (n : ℕ) (w : SeatView) : Type 0 where
   pub even : n % 2 ≡ 0 → 2 * length w.seen ≡ n
   pub limit : v.live ≡ true → n ≤ 2 * v.calls + 1
 
+-- what a load tells the seat that makes it
 abbrev pub look : Step (Option Recorded) → Sat → ℕ → Sat → Type 0
 look st m n m' = (m'.1 ≡ m.1) × Looks m.0 n m'.0
 
@@ -84,9 +85,11 @@ last_one v = record v { also = []; turn = false; least = v.greatest }
 abbrev pub noted : SeatView → SeatView
 noted v = record v { also = []; turn = false; owns = false; least = 0; greatest = 0 }
 
+-- the longer of two histories
 abbrev pub longer : List Entry → List Entry → List Entry
 longer a b = if leb (length b) (length a) then a else b
 
+-- the greater of two numbers
 abbrev pub most : ℕ → ℕ → ℕ
 most a b = if leb b a then a else b
 

@@ -58,8 +58,8 @@ impl<G: Gate + Sync + Drop + Send> Model for Desk<G> {
 }
 
 impl<G: Gate + Sync + Drop + Send> Desk<G> {
-    /// The turn word: twice the number of finished calls, and one more during a turn. The seat then knows that number; where the
-    /// word is even, it has seen the whole history.
+    /// Reads the turn word: twice the number of finished calls, and one more during a turn. The seat then knows that number; where
+    /// the word is even, it has seen the whole history.
     fn look(&self, seat: &mut DeskSeat<G>) -> u64
         requires { seat.old.table_id ≡ self.now.table }
         ensures same { (seat.new.table_id ≡ seat.old.table_id) × (seat.new.id ≡ seat.old.id) × (seat.new.me.1 ≡ seat.old.me.1) }
@@ -130,7 +130,8 @@ impl<G: Gate + Sync + Drop + Send> Desk<G> {
         self.sleepers.fetch_sub(1, Ordering::SeqCst);
     }
 
-    /// Wakes one of those that sleep. Each is counted before its sleep tests the turn word, so that none is missed here.
+    /// Wakes one of those that sleep, if any does. Each is counted before its sleep tests the turn word, so that none is missed
+    /// here.
     fn wake(&self) {
         if self.sleepers.load(Ordering::SeqCst) > 0 {
             self.table.shared.wake_one(0);

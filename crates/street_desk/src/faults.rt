@@ -28,6 +28,7 @@ pub struct Full {
 
 /// Shows the count without the command.
 impl fmt::Debug for Full {
+    /// Writes `Full`, and how many calls were served.
     fn fmt<W: fmt::Write>(&self, f: &mut fmt::Formatter<W>) -> fmt::Result {
         f.debug_struct("Full")
             .field("served", &self.served)

@@ -20,7 +20,7 @@ pub struct Entry {
     pub session: u64,
     /// What it called.
     pub command: Command,
-    /// Whether the command was done.
+    /// How far the command was done.
     pub outcome: Outcome,
 }
 
@@ -30,6 +30,7 @@ pub struct Journal {
 }
 
 impl Drop for Journal {
+    /// Drops the calls.
     fn drop(self) {
         let Journal { entries: _ } = self;
     }
@@ -48,7 +49,7 @@ impl Model for Journal {
 }
 
 impl Journal {
-    /// The calls are a legal history: who calls this learns it, and nothing is done.
+    /// A law, for proofs; the call does nothing. The calls are a legal history.
     pub fn legal(&self)
         ensures { IsLegal self.now }
     {
@@ -116,8 +117,8 @@ impl<G: Gate + Sync + Drop> Recorder<G> {
         })
     }
 
-    /// Applies a command and writes it down, as called by a session. Answers the reply, and whether the command was done. The
-    /// journal takes no memory.
+    /// Applies a command, an advance by workers that may wait, and writes it down, as called by this session. Answers the reply,
+    /// and how far the command was done. The journal takes no memory.
     pub(crate) fn call<R: Threads + Wait + Sync>(
         &mut self,
         rt: &R,
@@ -140,7 +141,7 @@ impl<G: Gate + Sync + Drop> Recorder<G> {
         (reply, outcome)
     }
 
-    /// The engine, and the journal of all its calls.
+    /// Takes the recorder apart: the engine, and the journal of all its calls.
     pub(crate) fn into_parts(self) -> (Engine<G>, Journal)
         ensures history { result.1 ≡ self.history }
         ensures legal { IsLegal result.1 }

@@ -32,7 +32,7 @@ impl Model for Ends {
 }
 
 impl Ends {
-    /// The ends of no vehicles: no number is given yet.
+    /// The ends of no vehicles: no number is given yet. Takes no memory.
     pub(crate) fn new(alloc: Global) -> Ends
         ensures { result.ends ≡ [] }
     {
@@ -43,7 +43,7 @@ impl Ends {
         }
     }
 
-    /// How many numbers are given.
+    /// How many vehicles were given a number, from 0 on, ended or not.
     pub(crate) fn len(&self) -> CarNo
         ensures count { result ≡ length self.now.ends }
         ensures few { length self.now.ends ≤ most_vehicles }
@@ -51,7 +51,7 @@ impl Ends {
         self.ends.len() as CarNo
     }
 
-    /// How the vehicle of a number ended, if it did.
+    /// How the vehicle of a number ended; none where it has not, and where the number is not given.
     pub(crate) fn get(&self, number: CarNo) -> Option<End>
         ensures { result ≡ slice_index_or self.now.ends number None }
     {
@@ -61,14 +61,14 @@ impl Ends {
         }
     }
 
-    /// How many have arrived.
+    /// How many vehicles have arrived.
     pub(crate) fn arrived(&self) -> CarNo
         ensures { result ≡ count_by has_arrived self.now.ends }
     {
         self.arrived
     }
 
-    /// How many were taken out.
+    /// How many vehicles were taken out.
     pub(crate) fn taken(&self) -> CarNo
         ensures { result ≡ count_by was_taken self.now.ends }
     {

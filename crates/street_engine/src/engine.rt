@@ -34,7 +34,7 @@ const THREAD: u64 = 3_300;
 /// step, and threads that stay, are worth their cost from different numbers of vehicles on: a gate is for the ones or the others.
 #[derive(Drop)]
 pub struct Unwatched {
-    /// From how many vehicles in cells on workers share a step, if half as many are in other tiles than the fullest: 0 is
+    /// From how many vehicles in cells on workers share a step, if half of that number are in other tiles than the fullest: 0 is
     /// always.
     pub from: u64,
     /// How many threads at most stay for the steps of an advance.
@@ -61,16 +61,19 @@ impl Unwatched {
 }
 
 impl Gate for Unwatched {
-    // Sharing saves only the time of tiles other than the fullest, so these need half of the bound, as one of two equal tiles has.
+    /// True where at least `from` vehicles are in cells, and at least half of `from` in other tiles than the fullest: sharing saves only
+    /// the time of these, and of `from` vehicles on two equal tiles each has half.
     fn shares(&self, vehicles: u64, fullest: u64) -> bool {
         vehicles >= self.from && vehicles.saturating_sub(fullest) >= self.from / 2
     }
 
+    /// As many threads as the gate was made for.
     fn processors(&self) -> usize {
         self.processors
     }
 
-    // In thirds of what a vehicle on a full link of one lane takes, some 15 ns. Beside others a thread is slower, and it waits for them.
+    /// How long a step takes by so many threads, in thirds of what a vehicle on a full link of one lane takes, some 15 ns. Beside
+    /// others a thread is slower, and it waits for them. Of a gate that always shares, more threads are always sooner.
     fn step_time(&self, threads: usize, busiest: u64) -> u64 {
         if self.from == 0 {
             return u64::MAX - threads as u64;
@@ -92,6 +95,7 @@ pub struct Engine<G: Gate + Sync + Drop> {
 }
 
 impl<G: Gate + Sync + Drop> Drop for Engine<G> {
+    /// Drops what is loaded, and the gate.
     fn drop(self) {
         let Engine {
             alloc: _,
@@ -115,7 +119,8 @@ impl<G: Gate + Sync + Drop> Model for Engine<G> {
 }
 
 impl<G: Gate + Sync + Drop> Engine<G> {
-    /// An engine with nothing loaded, whose steps are made by so many workers, 1 to 64. Takes no memory.
+    /// An engine with nothing loaded, whose steps are made by so many workers at most, 1 to 64: for so many a network is cut when
+    /// it is loaded, and the gate says which steps they share. Takes no memory.
     pub fn new(alloc: Global, workers: u32, gate: G) -> Self
         requires some { 1 ≤ workers }
         requires few { workers ≤ most_workers }
@@ -129,8 +134,9 @@ impl<G: Gate + Sync + Drop> Engine<G> {
         }
     }
 
-    /// Serves one command: whatever state of the machine the engine stood for, it then stands for the machine's state after
-    /// the command, and the reply is the machine's, both under the outcome answered. A refused command leaves it equal.
+    /// Serves one command: whatever state of the machine the engine stood for, it then stands for the machine's state after the
+    /// command, and the reply is the machine's, both under the outcome answered, which tells how far memory let it be done. A
+    /// refused command leaves it equal. Waits for no other thread but those that it starts.
     pub fn apply<R: Threads + Sync>(&mut self, rt: &R, command: &Command) -> (Reply, Outcome)
         ensures serves { Serves self.old command.now result.0 result.1 self.new }
         ensures refused { (refusal : Refusal) → result.0 ≡ Refused refusal → self.new ≡ self.old }

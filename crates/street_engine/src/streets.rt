@@ -31,6 +31,7 @@ pub struct Streets {
 }
 
 impl Drop for Streets {
+    /// Drops its parts.
     fn drop(self) {
         let Streets {
             tiles: _,
@@ -51,7 +52,7 @@ impl Model for Streets {
     ghost invariant = { λ s. IsKept (streets_of s.tiles s.sites.items s.clock s.ends.ends) };
 }
 
-/// A call of `make`.
+/// So many steps, at most 16, or fewer where memory was refused, by one call of `make`: what they leave, and how many.
 fn make_some<M: Fn(Streets, u64) -> (Streets, u64)>(
     make: &M,
     streets: Streets,
@@ -93,14 +94,14 @@ impl Streets {
         })
     }
 
-    /// The network.
+    /// The network that was loaded.
     pub fn network(&self) -> &Network
         ensures { result.now ≡ self.now.tiles.network }
     {
         self.tiles.network()
     }
 
-    /// The tiles.
+    /// The tiles, with the network and all lanes.
     pub(crate) fn tiles(&self) -> &Tiles
         ensures { result.now ≡ self.now.tiles }
     {
@@ -123,7 +124,7 @@ impl Streets {
         self.ends.len()
     }
 
-    /// How the vehicle of a number ended, if it did.
+    /// How the vehicle of a number ended; none where it has not, and where the number was not given.
     pub fn end_of(&self, number: CarNo) -> Option<End>
         ensures { result ≡ slice_index_or self.now.ends number None }
     {
@@ -170,7 +171,7 @@ impl Streets {
         Ok(())
     }
 
-    /// A node has this signal plan from the next step on. Takes no memory.
+    /// The node at this position has this signal plan from the next step on. Takes no memory.
     pub fn set_signal(&mut self, node: NodeIx, plan: SignalPlan)
         requires { node < length self.old.tiles.network.nodes }
         ensures { StreetsSignal node plan self.old self.new }
@@ -230,7 +231,7 @@ impl Streets {
         self.tiles.lane(alloc, at)
     }
 
-    /// How many detectors stand.
+    /// How many detectors were placed.
     pub fn detectors(&self) -> usize
         ensures { result ≡ length self.now.sites }
     {
@@ -286,7 +287,8 @@ impl Streets {
         }
     }
 
-    /// The clock, and how many vehicles stand where or have ended how. Looks at counts that are kept.
+    /// The reply with the clock, how many vehicles were admitted, are in cells, in buffers or wait, and how many have arrived or
+    /// were taken out. Looks at counts that are kept.
     pub fn census(&self) -> Reply
         ensures { (m : Traffic) → StreetsStandFor self.now m → result ≡ census m }
     {
@@ -303,20 +305,15 @@ impl Streets {
         }
     }
 
-    /// Whether the workers share the next step, as the gate says of the vehicles in cells; never where there is one tile.
-    fn shares_next_step<G: Gate>(&self, gate: &G) -> bool {
-        let (vehicles, fullest) = self.tiles.in_cells();
-        self.tiles.len() > 1 && gate.shares(vehicles, fullest)
-    }
-
-    /// How many threads the next steps take, the caller's among them: this alone where the workers do not share the next step, else one
-    /// for each tile.
+    /// How many threads the next steps take, the caller's among them: one for each tile where the gate says, of the vehicles in cells,
+    /// that the workers share the next step; else, and where there is one tile, the caller's alone.
     pub(crate) fn threads_of_steps<G: Gate>(&self, gate: &G) -> usize
         ensures some { 0 < result }
         ensures few { result ≤ most_workers }
     {
-        if self.shares_next_step(gate) {
-            return self.tiles.len().max(1);
+        let (vehicles, fullest) = self.tiles.in_cells();
+        if self.tiles.len() > 1 && gate.shares(vehicles, fullest) {
+            return self.tiles.len();
         }
         1
     }

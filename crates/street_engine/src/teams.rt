@@ -65,32 +65,6 @@ impl<B: Begun> Model for Ran<B> {
     ghost invariant = { λ r. HaveRun B.begun B.most r.streets r.made };
 }
 
-impl<B: Begun> Ran<B> {
-    /// What a shift left, and how many steps it has made.
-    fn new(streets: Streets, made: u64) -> Self
-        requires { HaveRun B.begun B.most streets made }
-    {
-        Ran {
-            streets,
-            made,
-            of: PhantomData,
-        }
-    }
-
-    /// The streets as the shift left them, and how many steps it has made.
-    fn into_parts(self) -> (Streets, u64)
-        ensures made { result.1 ≡ self.made }
-        ensures ran { HaveRun B.begun B.most result.0 result.1 }
-    {
-        let Ran {
-            streets,
-            made,
-            of: _,
-        } = self;
-        (streets, made)
-    }
-}
-
 /// The steps of a shift, or fewer where memory was refused for one. Its threads are started in a scope, and have ended when it returns.
 /// `shared` has a tray for each of them, `spare` a block for each; `locks` are those of [`team_steps`].
 fn steps_in_scope<
@@ -127,7 +101,11 @@ fn steps_in_scope<
             let (streets, made) = streets.steps_with(&mut team, shift.steps);
             shared.end();
             join_all(rt, started);
-            Ran::new(streets, made)
+            Ran {
+                streets,
+                made,
+                of: PhantomData,
+            }
         },
     )
 }
@@ -163,7 +141,13 @@ fn steps_with_locks<
     let Ok(spare) = streets.tiles().blocks(alloc, shift.threads) else {
         return (streets, 0);
     };
-    steps_in_scope::<G, K, B, R>(rt, alloc, &shared, spare, locks, streets, shift).into_parts()
+    let ran = steps_in_scope::<G, K, B, R>(rt, alloc, &shared, spare, locks, streets, shift);
+    let Ran {
+        streets,
+        made,
+        of: _,
+    } = ran;
+    (streets, made)
 }
 
 /// The steps of a shift, or fewer where memory was refused for one: what they leave, and how many, which is none where memory for the

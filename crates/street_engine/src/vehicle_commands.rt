@@ -86,7 +86,7 @@ pub(crate) fn enter(
     }
 }
 
-/// Serves the taking out of the vehicle of a number, which has not ended, wherever it is. Takes no memory.
+/// Serves the taking out of the vehicle of a number, wherever it is; refused where it was not admitted or has ended. Takes no memory.
 pub(crate) fn take_out(streets: &mut Streets, car: u64) -> (Reply, Outcome)
     ensures serves { Serves (Some streets.old) (TakeOut car) result.0 result.1 (Some streets.new) }
     ensures refused { KeepsRefused (Some streets.old) result.0 (Some streets.new) }

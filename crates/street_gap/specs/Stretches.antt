@@ -15,8 +15,10 @@ abbrev pub KeepsSome : Option (Box Stretches) → Type 0
 KeepsSome None = Unit {0}
 KeepsSome (Some kept) = kept.value ≢ []
 
+-- what contracts see of the closed cells of a lane
 abbrev pub seen : Inside → List Stretch
 seen x = kept_stretches x.kept
 
+-- a lane without closed cells keeps no stretches
 abbrev pub HasSome : Inside → Type 0
 HasSome x = KeepsSome x.kept

@@ -21,7 +21,7 @@ pub(crate) fn cell_of(yard: &Yard, key: Option<Key>) -> Option<CellNo>
     }
 }
 
-/// The last cell that a key's car covers; none where there is no key.
+/// The last cell that a key's car covers, 0 where that would lie below cell 0; none where there is no key.
 pub(crate) fn rear_of(yard: &Yard, key: Option<Key>) -> Option<CellNo>
     requires { HasCar yard.now key }
     ensures { result ≡ option_map (rear_at yard.now) key }
@@ -66,7 +66,7 @@ pub fn last_above(yard: &Yard, list: ListId, from: Option<Key>, cell: CellNo) ->
     above
 }
 
-/// The lesser of the two cells, or the one that is there.
+/// The lesser of the two cells, or the one that is there; none where neither is.
 fn lesser(vehicle: Option<CellNo>, entrance: Option<CellNo>) -> Option<CellNo>
     ensures { result ≡ lesser vehicle entrance }
 {

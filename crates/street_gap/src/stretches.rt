@@ -58,7 +58,7 @@ fn beginning_beside(stretches: &[Stretch], cell: CellNo) -> usize
     stretches.partition_point(|stretch| stretch.first.saturating_sub(1) <= cell)
 }
 
-/// Takes out the stretches from `low` up to, but not including, `high`.
+/// Takes out the stretches at the positions from `low` up to, but not including, `high`; those behind them move up.
 fn remove_from(stretches: &mut Vec<Stretch>, low: usize, high: usize)
     requires ordered { low ≤ high }
     requires inside { high ≤ length stretches.old.items }
@@ -67,7 +67,7 @@ fn remove_from(stretches: &mut Vec<Stretch>, low: usize, high: usize)
     stretches.drain(low..high);
 }
 
-/// Writes a stretch in place of those from `low` up to, but not including, `high`.
+/// Writes a stretch in place of those at the positions from `low` up to, but not including, `high`, which are one or more.
 fn replace(stretches: &mut Vec<Stretch>, low: usize, high: usize, stretch: Stretch)
     requires some { low < high }
     requires inside { high ≤ length stretches.old.items }
@@ -77,7 +77,7 @@ fn replace(stretches: &mut Vec<Stretch>, low: usize, high: usize, stretch: Stret
     remove_from(stretches, low + 1, high);
 }
 
-/// Writes two stretches in place of those from `low` up to, but not including, `high`.
+/// Writes two stretches in place of those at the positions from `low` up to, but not including, `high`, which are one or more.
 ///
 /// # Errors
 /// Out of memory, and nothing changed. It is asked for only where the two take the place of one.
@@ -116,7 +116,7 @@ fn cells_on(stretches: &[Stretch]) -> u64
 }
 
 impl Stretches {
-    /// No stretches: no cell is closed.
+    /// No stretches: no cell is closed. `alloc` is for those that come later.
     pub(crate) fn new(alloc: Global) -> Stretches
         ensures { result ≡ [] }
     {
@@ -125,7 +125,7 @@ impl Stretches {
         }
     }
 
-    /// Whether no cell is closed.
+    /// Whether there are no stretches: no cell is closed.
     pub(crate) fn is_empty(&self) -> bool
         ensures { IsTrue result ↔ (self.now ≡ []) }
     {

@@ -5,9 +5,11 @@ use Rattle.street_lanes.specs.declared.detectors.Kind.{Kind}
 use Rattle.street_lanes.specs.declared.detectors.Kind.TheVariants.{Bare, Watched}
 use Rattle.street_lanes.specs.Detectors.{Detectors}
 
+-- the detectors of a lane that has none, or some
 abbrev pub detectors_of : Kind → Detectors
 detectors_of (Bare length) = record { size = length; meters = []; watches = [] }
 detectors_of (Watched meters) = meters.value
 
+-- what contracts see of the detectors of a lane
 abbrev pub seen : Inside → Detectors
 seen x = detectors_of x.kind

@@ -42,6 +42,7 @@ abbrev pub opens_to : NetSpec → Option SignalPlan → ℕ → Place → ℕ �
 opens_to net plan step place buffered next =
     option_map_or (λ next. serves net place next && is_green plan place next step && has_room net place buffered) next true
 
+-- the same, to a vehicle by its next link
 abbrev pub is_open_to : NetSpec → Option SignalPlan → ℕ → Place → ℕ → Vehicle → Bool
 is_open_to net plan step place buffered v = opens_to net plan step place buffered (next_link v)
 

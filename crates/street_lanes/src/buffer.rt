@@ -8,8 +8,8 @@ use street_base::{Car, LinkIx, Step};
 use street_rule::Dice;
 use street_yard::{ListId, Yard};
 
-/// The link to which the first car of a list, a buffer's, goes on, if it is ready by the clock. Its plan is not read: the yard
-/// keeps next links apart.
+/// The link to which the first car of a list, a buffer's, goes on, by its position; none where the list is empty or the car is
+/// not ready by the clock. Its plan is not read: the yard keeps next links apart.
 fn first_next(yard: &Yard, list: ListId, clock: Step) -> Option<LinkIx>
     requires { list.0 < length yard.now.lists }
     ensures { result ≡ ready_next clock (option_map queued_of (slice_get (cars_on yard.now list.0) 0)) }
@@ -21,8 +21,8 @@ fn first_next(yard: &Yard, list: ListId, clock: Step) -> Option<LinkIx>
     yard.next_link(key)
 }
 
-/// Takes the first car of a list out of the yard; nobody where the list is empty. The dice put the draws that they keep for it
-/// aside, where they are found again once it has another key.
+/// Takes the first car of a list, a buffer's, out of the yard, and answers it; nobody where the list is empty. The dice put the
+/// draws that they keep for it aside, where they are found again once it has another key.
 fn let_go(yard: &mut Yard, dice: &mut Dice, list: ListId) -> Option<Car>
     requires { list.0 < length yard.old.lists }
     ensures goes { LetsGo list.0 yard.old yard.new result }
@@ -35,7 +35,8 @@ fn let_go(yard: &mut Yard, dice: &mut Dice, list: ListId) -> Option<Car>
 }
 
 impl Lanes {
-    /// The link to which the front of a lane's buffer goes on, if it is ready by the clock. Its plan is not read.
+    /// The link to which the front of a lane's buffer goes on, by its position; none where nobody is in the buffer or the front
+    /// is not ready by the clock. The lane is that of this number on the tile. The plan is not read.
     pub fn next_of_front(&self, lane: usize, clock: Step) -> Option<LinkIx>
         requires { lane < length self.now.lanes }
         ensures { (s : LaneState) → LaneStands (lane_of self.now lane) s → result ≡ ready_next clock (slice_get s.queue 0) }
@@ -43,7 +44,8 @@ impl Lanes {
         first_next(&self.yard, buffer_list(lane), clock)
     }
 
-    /// Takes the front out of a lane's buffer; nobody where the buffer is empty.
+    /// Takes the front out of the buffer of a lane, by its number on the tile, whether it is ready or not, and answers it;
+    /// nobody where the buffer is empty. There is room for one car more then.
     pub fn let_go(&mut self, lane: usize) -> Option<Car>
         requires { lane < length self.old.lanes }
         ensures goes { GoesAt lane without_front self.old self.new }

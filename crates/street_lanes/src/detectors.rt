@@ -16,6 +16,7 @@ pub struct Detectors {
 }
 
 impl Drop for Detectors {
+    /// Drops each field.
     fn drop(self) {
         let Detectors { kind: _ } = self;
     }
@@ -67,8 +68,8 @@ impl Detectors {
         }
     }
 
-    /// Places one more detector in a cell of the lane, whose place is `at`, with a period of 1 to 100,000 steps; it notes from
-    /// the step `start` on. Answers its number among those of the lane, from 0.
+    /// Places one more detector in a cell of the lane, whose place in the network is `at`, with a period of 1 to 100,000 steps;
+    /// it notes from the step `start` on. Answers its number among those of the lane, from 0.
     ///
     /// # Errors
     /// Memory was refused; the detectors are as they were.
@@ -99,7 +100,8 @@ impl Detectors {
         }
     }
 
-    /// The reply with the rows of a detector, by its number among those of the lane, if there is one.
+    /// The reply with the rows of a detector, by its number among those of the lane, from 0; none where there is no such
+    /// detector.
     ///
     /// # Errors
     /// Memory was refused.

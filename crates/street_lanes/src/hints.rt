@@ -23,7 +23,7 @@ struct Mark {
 }
 
 impl Mark {
-    /// Whether the marked one goes before a car: by depart, then by number.
+    /// Whether the marked one departs before a car: by depart, then by number.
     fn is_ahead_of(&self, car: &Car) -> bool {
         self.depart < car.step || self.depart == car.step && self.number < car.number
     }
@@ -38,8 +38,9 @@ struct Marks {
 }
 
 impl Marks {
-    /// From whom on to look for a car's place: where all marks go before the car, from the last on the list; else from the last of
-    /// those that do and are still right, or nobody. Adds to `hops` how many marks it passed that were no longer right.
+    /// From whom on to look for a car's place on a list of those who wait: where all marks go before the car, from the last on
+    /// the list; else from the last of those that do and are still right, or nobody. Adds to `hops` how many marks it passed
+    /// that were no longer right.
     fn near(&self, yard: &Yard, list: ListId, car: &Car, hops: &mut usize) -> Option<Key>
         requires { list.0 < length yard.now.lists }
         ensures { IsOnList yard.now list.0 result }
@@ -59,7 +60,8 @@ impl Marks {
         None
     }
 
-    /// Makes the marks of a list anew, as far as there is memory, and counts what searches pass from 0 on.
+    /// Makes the marks of a list anew, one for the first of each 16 on it, as far as there is memory, and counts what searches
+    /// pass from 0 on.
     fn renew(&mut self, yard: &Yard, list: ListId)
         requires { list.0 < length yard.now.lists }
     {
@@ -117,7 +119,7 @@ impl Hints {
         })
     }
 
-    /// The key that the vehicle of a number may have, if there is a hint; it may be another's.
+    /// The key that the vehicle of a number may have, if there is a hint; it may be another's by now.
     pub(crate) fn key_of(&self, number: CarNo) -> Option<Key> {
         let at = self
             .given
@@ -128,13 +130,14 @@ impl Hints {
         }
     }
 
-    /// A vehicle, with a greater number than those before it, begins to wait under a key. Where memory is refused there is no hint.
+    /// Notes that a vehicle, with a greater number than those before it, begins to wait under a key. Where memory is refused
+    /// there is no hint.
     pub(crate) fn give(&mut self, number: CarNo, key: Key) {
         let _refused = self.given.push(Given { number, key }).is_err();
     }
 
-    /// From whom on to look for the place of a car among those who wait on a lane; nobody means from the front. Adds to `hops` how
-    /// many marks it passed that were no longer right.
+    /// From whom on to look for the place of a car on `list`, those who wait on the lane `lane` of the tile; nobody means from
+    /// the front. Adds to `hops` how many marks it passed that were no longer right.
     pub(crate) fn near(
         &self,
         yard: &Yard,
@@ -152,8 +155,9 @@ impl Hints {
         }
     }
 
-    /// Notes that a search on the list of those who wait on a lane passed so many keys and marks. Where at least 64 wait, the marks
-    /// are made anew once searches have passed more than four times as many as wait. Where memory is refused there are fewer marks.
+    /// Notes that a search on `list`, those who wait on the lane `lane` of the tile, passed so many keys and marks. Where at
+    /// least 64 wait, the marks are made anew once searches have passed more than four times as many as wait. Where memory is
+    /// refused there are fewer marks.
     pub(crate) fn note(&mut self, yard: &Yard, lane: usize, list: ListId, hops: usize)
         requires { list.0 < length yard.now.lists }
     {

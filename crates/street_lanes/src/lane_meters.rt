@@ -39,7 +39,7 @@ impl Model for LaneMeters {
     ghost invariant = { IsSound };
 }
 
-/// A watch of a cell that has seen nothing.
+/// A watch of a cell that has seen nothing: nobody passed.
 fn watch_at(cell: CellNo) -> Watch
     ensures { result ≡ record { cell = cell; passes = 0; speeds = 0 } }
 {
@@ -50,7 +50,7 @@ fn watch_at(cell: CellNo) -> Watch
     }
 }
 
-/// Sets each watch to one of its meter's cell that has seen nothing.
+/// Sets each watch to one that has seen nothing, in the cell of the meter at the same position.
 fn clear(watches: &mut [Watch], meters: &[Meter])
     requires { length watches.old ≡ length meters.now }
     ensures { watches.new ≡ map cleared meters.now }
@@ -60,7 +60,8 @@ fn clear(watches: &mut [Watch], meters: &[Meter])
     }
 }
 
-/// Whether somebody on a list, that of a lane's cells, covers a cell. It is walked from its front down to the cell.
+/// Whether somebody on a list, that of a lane's cells, covers a cell, with the front or a part behind it. It is walked from its
+/// front down to the cell.
 fn covers(yard: &Yard, cells: ListId, cell: CellNo) -> bool
     requires { cells.0 < length yard.now.lists }
     ensures { (count : ℕ) → IsLane yard.now cells.0 count → result ≡ is_covered (cells_at yard.now cells.0 count) cell }
@@ -79,7 +80,8 @@ fn covers(yard: &Yard, cells: ListId, cell: CellNo) -> bool
 }
 
 impl Lanes {
-    /// Whether somebody covers a cell of a lane.
+    /// Whether somebody covers a cell of a lane, with the front or a part behind it. The lane is that of this number on the
+    /// tile.
     pub fn is_covered(&self, lane: usize, cell: CellNo) -> bool
         requires { lane < length self.now.lanes }
         ensures { (s : LaneState) → LaneStands (lane_of self.now lane) s → result ≡ is_covered s.track.cells cell }
@@ -88,7 +90,8 @@ impl Lanes {
     }
 }
 
-/// A meter notes what its watch saw, and whether its cell is covered now. Its lane is that of this number among `own`.
+/// A meter notes what its watch saw in the step, and whether its cell is covered now. Its lane is that of this number among
+/// `own`.
 fn note_one(meter: &mut Meter, watch: Watch, own: &Lanes, lane: usize)
     requires lane { lane < length own.now.lanes }
     requires in_time { next_step meter.old < last_clock }
@@ -99,7 +102,8 @@ fn note_one(meter: &mut Meter, watch: Watch, own: &Lanes, lane: usize)
     meter.note(watch.passes, watch.speeds, u32::from(covered));
 }
 
-/// Each meter notes what its watch saw, and whether its cell is covered now. Their lane is that of this number among `own`.
+/// Each meter notes what its watch saw in the step, the one at the same position, and whether its cell is covered now. Their
+/// lane is that of this number among `own`.
 fn note_all(meters: &mut [Meter], watches: &[Watch], own: &Lanes, lane: usize)
     requires lane { lane < length own.now.lanes }
     requires even { length watches.now ≡ length meters.old }
@@ -113,7 +117,7 @@ fn note_all(meters: &mut [Meter], watches: &[Watch], own: &Lanes, lane: usize)
 }
 
 impl LaneMeters {
-    /// For a lane of so many cells that is to have detectors: none so far. Takes no memory.
+    /// For a lane of so many cells that is to have detectors: none so far. Takes no memory; `alloc` is for those that come.
     pub(crate) fn new(alloc: Global, length: CellNo) -> LaneMeters
         ensures { result ≡ record { size = length; meters = []; watches = [] } }
     {
@@ -144,8 +148,8 @@ impl LaneMeters {
         note_all(&mut self.meters, &self.watches, own, lane);
     }
 
-    /// Places one more detector in a cell of the lane, whose place is `at`, with a period of 1 to 100,000 steps; it notes from
-    /// the step `start` on. Answers its number among those of the lane, from 0.
+    /// Places one more detector in a cell of the lane, whose place in the network is `at`, with a period of 1 to 100,000 steps;
+    /// it notes from the step `start` on. Answers its number among those of the lane, from 0.
     ///
     /// # Errors
     /// Memory was refused; the detectors are as they were.
@@ -175,7 +179,8 @@ impl LaneMeters {
         Ok(number)
     }
 
-    /// The reply with the rows of a detector, by its number among those of the lane, if there is one.
+    /// The reply with the rows of a detector, by its number among those of the lane, from 0; none where there is no such
+    /// detector.
     ///
     /// # Errors
     /// Memory was refused.

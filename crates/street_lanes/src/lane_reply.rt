@@ -25,6 +25,7 @@ trait CarEntry: Sized {
 impl CarEntry for BufferEntry {
     ghost shown = { shown_in_buffer };
 
+    /// A car in a buffer: its number, its speed and its ready step.
     fn of(car: &CarView<'_>) -> BufferEntry {
         BufferEntry {
             car: u64::from(car.number),
@@ -37,6 +38,7 @@ impl CarEntry for BufferEntry {
 impl CarEntry for CellEntry {
     ghost shown = { shown_in_cell };
 
+    /// A car in a cell: its number, the cell of its front, its speed and its size.
     fn of(car: &CarView<'_>) -> CellEntry {
         CellEntry {
             car: u64::from(car.number),
@@ -50,6 +52,7 @@ impl CarEntry for CellEntry {
 impl CarEntry for WaitingEntry {
     ghost shown = { shown_waiting };
 
+    /// A car that waits: its number and its depart.
     fn of(car: &CarView<'_>) -> WaitingEntry {
         WaitingEntry {
             car: u64::from(car.number),
@@ -58,7 +61,7 @@ impl CarEntry for WaitingEntry {
     }
 }
 
-/// What is shown of the cars on a list, the front first, in entries of one kind.
+/// What is shown of the cars on a list, the front first, in entries of one kind: those of a buffer, of cells, or of who waits.
 ///
 /// # Errors
 /// Memory for them was refused.
@@ -79,7 +82,7 @@ fn entries<E: CarEntry + Drop>(
     Ok(Listing::from_vec(entries))
 }
 
-/// What is shown of closed stretches, in their order.
+/// What is shown of closed stretches, in their order: the first and the last cell of each.
 ///
 /// # Errors
 /// Memory for them was refused.
@@ -100,8 +103,8 @@ fn closed_entries(
 }
 
 impl Lanes {
-    /// All of a lane: its buffer from the front, the vehicles from the greatest cell on, its closed stretches, and who
-    /// waits, the first to depart first. Takes memory for what it answers.
+    /// All of a lane, by its number on the tile: its buffer from the front, the vehicles from the greatest cell on, its closed
+    /// stretches, and who waits, the first to depart first. Takes memory for what it answers.
     ///
     /// # Errors
     /// Memory for the answer was refused.

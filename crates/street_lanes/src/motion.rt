@@ -34,7 +34,7 @@ pub(crate) struct Leg<'a> {
     pub(crate) clock: Step,
 }
 
-/// The node that a link runs to.
+/// The node that a link runs to, as it was loaded.
 fn end_node(net: &Network, link: LinkIx) -> NodeSpec
     requires { link < length net.now.links }
     ensures node { end_node net.now link ≡ Some result }
@@ -61,7 +61,8 @@ fn exit_is_open(yard: &Yard, leg: &Leg<'_>, buffer: ListId, next: Option<LinkIx>
     (yard.list_len(buffer) as u64) < end.capacity && leg.net.serves(leg.at.link, leg.at.lane, next)
 }
 
-/// Whether the signals show green to those who go on to a link; without a plan they always do.
+/// Whether the signal plan of the node that the lane runs to shows green to those who go on from this lane to the link `next`;
+/// without a plan it always does.
 fn is_shown_green(leg: &Leg<'_>, next: LinkIx) -> bool
     ensures { result ≡ is_green leg.now.signal.now leg.now.at next leg.now.clock }
 {
@@ -97,8 +98,8 @@ fn exit_for(yard: &Yard, road: &Road<'_>, leg: &Leg<'_>, buffer: ListId, front: 
     exit_is_open(yard, leg, buffer, yard.next_link(front))
 }
 
-/// A car that has left its lane arrives, if it is on its last link: it is taken out and its number answered. Else it comes
-/// last into the buffer, and may go on from the step `ready`.
+/// A car that has left its lane arrives, if it is on its last link: it is taken out and its number answered. Else it comes last
+/// into the list `buffer`, may go on from the step `ready`, and none is answered.
 fn settle(yard: &mut Yard, buffer: ListId, key: Key, ready: Step) -> Option<CarNo>
     requires list { buffer.0 < length yard.old.lists }
     requires loose { IsLoose yard.old key }
@@ -114,8 +115,9 @@ fn settle(yard: &mut Yard, buffer: ListId, key: Key, ready: Step) -> Option<CarN
     None
 }
 
-/// The motion of a lane in a step; answers who has arrived, and each watch notes who went past it. Nothing is done where nobody is
-/// in its cells. The exit is asked for the front vehicle alone, since it matters to nobody else.
+/// The motion of a lane in a step; answers the number of who has arrived, if somebody has, and each watch notes who went past
+/// it. A leaver that has not arrived is in the buffer then. Nothing is done where nobody is in the lane's cells. The exit is
+/// asked for the front vehicle alone, since it matters to nobody else.
 fn drive_leg(
     yard: &mut Yard,
     dice: &mut Dice,
@@ -148,9 +150,10 @@ fn drive_leg(
 }
 
 impl Lanes {
-    /// The motion of a lane in a step, with no watches: all vehicles in its cells drive on, and at most one leaves. A leaver on its
-    /// last link has arrived: its number is answered, and there is room for one more. Any other comes last into the lane's buffer,
-    /// from where it may go on after the residence of the node. Takes no memory.
+    /// The motion of a lane, by its number on the tile, in the step `clock`, with no watches: all vehicles in its cells drive
+    /// on, and at most one leaves. A leaver on its last link has arrived: its number is answered, and there is room for one
+    /// more. Any other comes last into the lane's buffer, from where it may go on after the residence of the node. Takes no
+    /// memory.
     ///
     /// `signal` is that of the node that the lane runs to; its plan is looked up where the front vehicle asks.
     pub fn drive(
@@ -170,7 +173,8 @@ impl Lanes {
         self.drive_cells(net, lane, clock, signal, &mut [])
     }
 
-    /// As [`drive`](Self::drive), and the watches of the lane's detectors have then seen this motion and no other.
+    /// As [`drive`](Self::drive), and the watches of `detectors`, which are the lane's, have then seen this motion and no
+    /// other. The meters note it only with [`Detectors::note`].
     pub fn drive_watched(
         &mut self,
         net: &Network,
@@ -194,7 +198,7 @@ impl Lanes {
         }
     }
 
-    /// The motion of a lane, seen by these watches. It stands apart from the look at the lane's list in `drive`, so that a lane
+    /// As [`drive`](Self::drive), seen by these watches. It stands apart from the look at the lane's list there, so that a lane
     /// without vehicles and detectors costs no call.
     #[inline(never)]
     fn drive_cells(

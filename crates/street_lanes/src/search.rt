@@ -18,7 +18,8 @@ pub(crate) fn stands_on(yard: &Yard, list: ListId, key: Key, number: CarNo) -> b
     }
 }
 
-/// The key on a list whose car has the number; none where there is none. First it is asked whether that is the key of the hint.
+/// The key on a list whose car has the number; none where there is none. First it is asked whether that is the key of the hint;
+/// else the list is walked.
 pub(crate) fn seek(yard: &Yard, list: ListId, number: CarNo, hint: Option<Key>) -> Option<Key>
     requires { list.0 < length yard.now.lists }
     ensures sought { IsSought yard.now list.0 number result }
@@ -39,7 +40,8 @@ pub(crate) fn seek(yard: &Yard, list: ListId, number: CarNo, hint: Option<Key>) 
     None
 }
 
-/// The key on one of a lane's lists whose car has the number; none where there is none. On each list the hint is asked first.
+/// The key on one of the three lists of a lane, by its number on the tile, whose car has the number; none where there is none.
+/// On each list the hint is asked first.
 pub(crate) fn seek_on_lane(
     yard: &Yard,
     lane: usize,
@@ -60,7 +62,7 @@ pub(crate) fn seek_on_lane(
     seek(yard, waiting_list(lane), number, *hint)
 }
 
-/// Takes the car of a key, which is on a list, out of the list and of the yard.
+/// Takes the car of a key, which is on a list, out of the list and of the yard, and answers it.
 pub(crate) fn take_out(yard: &mut Yard, key: Key) -> Car
     requires { IsSome (list_on yard.old key) }
     ensures { TakesOut yard.old yard.new key result }

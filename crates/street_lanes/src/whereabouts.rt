@@ -24,7 +24,7 @@ fn link_id(net: &NetSpec, link: LinkIx) -> u64
     }
 }
 
-/// The plan of a car from its present link on.
+/// The links of a car's plan from its present link on, by their positions.
 fn remaining_plan<'a>(car: &CarView<'a>) -> &'a [LinkIx]
     ensures { result.now ≡ remaining_plan (vehicle_of (viewed car.now)) }
 {
@@ -32,7 +32,7 @@ fn remaining_plan<'a>(car: &CarView<'a>) -> &'a [LinkIx]
     &plan[usize::from(car.at).min(plan.len())..]
 }
 
-/// The identifiers of the links of a car's remaining plan.
+/// The identifiers of the links of a car's plan from its present link on.
 ///
 /// # Errors
 /// Memory for them was refused.
@@ -117,8 +117,8 @@ fn told_waiting(
 }
 
 impl Lanes {
-    /// Where the vehicle of a number is on a lane, if it is there; what is told holds where it stands there at most once. Takes
-    /// memory for the plan that it answers.
+    /// Where the vehicle with the number `number` is on the lane `lane` of the tile, if it is there; what is told holds where
+    /// it stands there at most once. Takes memory for the plan that it answers.
     ///
     /// # Errors
     /// Memory for the plan was refused.

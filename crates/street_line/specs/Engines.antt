@@ -20,6 +20,7 @@ abbrev pub MachineServes : State → Command → Served → State → Type 0
 MachineServes old command (Answered reply) new = (outcome : Outcome) × Answers old command reply outcome new
 MachineServes old command Full new = ⊥
 
+-- the command of a line, if it calls one
 abbrev pub called : Said → List Command
 called silent = []
 called (faulty fault) = []

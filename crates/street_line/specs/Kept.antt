@@ -66,6 +66,7 @@ module _ {S : Type 0} (serves : S → Command → Served → S → Type 0) where
   KeepsLine old line effect new = (out : List ℕ) × (entry : List ℕ) × KeepsSaid old.0 (said line) line out entry new.0
       × (effect ≡ effect_of (said line) out) × (new.1 ≡ old.1 ++ entry)
 
+  -- so by an answer that gives this, of a line that says this
   abbrev pub AnswersKept : S × List ℕ → Said → List ℕ → Answer → S × List ℕ → Type 0
   AnswersKept old what line answer new = (out : List ℕ) × (entry : List ℕ) × KeepsSaid old.0 what line out entry new.0
       × Gives answer (effect_of what out) × (new.1 ≡ old.1 ++ entry)

@@ -25,6 +25,7 @@ pub data Said : Type 0 where
   faulty : LineFault → Said
   calls : Command → Said
 
+-- what a line that is not blank is, by what was read in it
 abbrev pub said_by : Result Command LineFault → Said
 said_by (Ok c) = calls c
 said_by (Err f) = faulty f
@@ -33,11 +34,13 @@ said_by (Err f) = faulty f
 unfoldable pub said : List ℕ → Said
 said line = if is_blank line then silent else said_by (reading line)
 
+-- it calls a command
 abbrev pub is_call : Said → Bool
 is_call silent = false
 is_call (faulty f) = false
 is_call (calls c) = true
 
+-- it gets a reply: all but a blank line
 abbrev pub has_reply : Said → Bool
 has_reply silent = false
 has_reply (faulty f) = true

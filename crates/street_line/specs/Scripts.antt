@@ -45,5 +45,6 @@ abbrev pub IsRunFrom : {F R : Type 0} → Option F → Script R → Script R →
 IsRunFrom None old new = (new.session ≡ old.session) × (new.replies ≡ old.replies) × (new.fault ≡ old.fault)
 IsRunFrom (Some file) old new = (text : List ℕ) × ScriptServed old.session text new.replies.items new.fault new.session
 
+-- the script was served, if its file was opened
 abbrev pub IsRun : {R : Type 0} → Script R → Script R → Type 0
 IsRun old new = IsRunFrom old.file old new

@@ -7,6 +7,7 @@ use Rattle.street_stream.specs.declared.answer.Answer.{Answer}
 use Rattle.street_line.specs.Runs.{Said, is_call, has_reply, said, Done}
 use Rattle.street_line.specs.declared.service.Served.{Served}
 
+-- the reply of a line, if it gets one
 abbrev pub reply_of : Bool → List ℕ → Option (List ℕ)
 reply_of false out = None
 reply_of true out = Some out
@@ -15,6 +16,7 @@ reply_of true out = Some out
 abbrev pub effect_of : Said → List ℕ → Effect
 effect_of what out = record { is_call = is_call what; reply = reply_of (has_reply what) out }
 
+-- a line that says this was served, and gave this effect
 abbrev pub IsAnswered : {S : Type 0} → (S → Command → Served → S → Type 0) → S → Said → Effect → S → Type 0
 IsAnswered serves old what effect new = (out : List ℕ) × Done serves old what out new × (effect ≡ effect_of what out)
 
@@ -22,5 +24,6 @@ IsAnswered serves old what effect new = (out : List ℕ) × Done serves old what
 abbrev pub IsAnsweredBy : {S : Type 0} → (S → Command → Served → S → Type 0) → S → Said → Answer → S → Type 0
 IsAnsweredBy serves old what answer new = (effect : Effect) × IsAnswered serves old what effect new × Gives answer effect
 
+-- so of the line itself
 abbrev pub IsServed : {S : Type 0} → (S → Command → Served → S → Type 0) → S → List ℕ → Effect → S → Type 0
 IsServed serves old line effect new = IsAnswered serves old (said line) effect new

@@ -44,6 +44,7 @@ module _ {D W : Type 0} (remaining : D → Option (List ℕ)) (contents : W → 
   abbrev pub MachineServesAll : State → Counted D → Counted W → Counted D → Counted W → Tally → Type 0
   MachineServesAll old reader writer read written tally = (new : State) × ServesAll MachineServes remaining contents old reader writer new read written tally
 
+  -- so of the first lines, where a fault ended the run
   abbrev pub MachineServesFirst : State → Counted D → Counted W → Counted D → Counted W → RunFault → Type 0
   MachineServesFirst old reader writer read written fault =
       (new : State) × ServesFirst MachineServes remaining contents old reader writer new read written fault
@@ -53,6 +54,7 @@ module _ {D W : Type 0} (remaining : D → Option (List ℕ)) (contents : W → 
   EngineServesAll before reader writer after read written tally = (old : State) → StandsFor before old
       → (new : State) × StandsFor after new × ServesAll MachineServes remaining contents old reader writer new read written tally
 
+  -- so of the first lines, where a fault ended the run
   abbrev pub EngineServesFirst : EngineView → Counted D → Counted W → EngineView → Counted D → Counted W → RunFault → Type 0
   EngineServesFirst before reader writer after read written fault = (old : State) → StandsFor before old
       → (new : State) × StandsFor after new × ServesFirst MachineServes remaining contents old reader writer new read written fault

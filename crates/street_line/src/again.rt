@@ -56,7 +56,7 @@ struct Doer<'a, S> {
     reader: &'a mut LineReader,
 }
 
-/// Whether a command was done whole.
+/// Whether a command that was answered so was done whole: it was not refused, and did not want memory.
 fn is_done(reply: &Reply) -> bool
     ensures { result ≡ is_done reply.now }
 {
@@ -66,7 +66,7 @@ fn is_done(reply: &Reply) -> bool
     }
 }
 
-/// Why a line that was answered so is not done.
+/// Why a command that was answered so, and not done whole, is not done again.
 fn undone_of(reply: &Reply) -> Undone {
     match reply {
         Reply::Refused(_) => Undone::Bad,
@@ -74,7 +74,11 @@ fn undone_of(reply: &Reply) -> Undone {
     }
 }
 
-/// Does what a line says that is not blank.
+/// Has the service do the command of a line that is not blank. No reply is printed.
+///
+/// # Errors
+///
+/// `Bad` where the line is no command, or is refused; `Starved` where memory ran out, also for the last steps of an advance.
 fn do_line<S: Service>(
     alloc: Global,
     reader: &mut LineReader,
@@ -116,6 +120,7 @@ impl<'a, S: Service> LineHandler for Doer<'a, S> {
 
     ghost ready = { S.ready };
 
+    /// Does the command of a line, and gives no reply to it; of a blank line it does nothing.
     fn take(&mut self, alloc: Global, line: &PartialLine) -> Result<Answer, Undone> {
         if line.is_blank() {
             return Ok(Answer {
@@ -127,7 +132,7 @@ impl<'a, S: Service> LineHandler for Doer<'a, S> {
     }
 }
 
-/// What ended a run whose lines before these were done.
+/// The fault of lines of which one ended so, where `before` lines ended before the first of them.
 fn fault_of(halt: &Halt<Undone>, before: u128) -> AgainFault
     ensures { IsInLine result }
 {
@@ -139,7 +144,7 @@ fn fault_of(halt: &Halt<Undone>, before: u128) -> AgainFault
     }
 }
 
-/// Does the lines that end in the next bytes of a text, and answers how many these are. `before` is how many lines ended
+/// Does the lines that end in the next bytes of a text, and answers how many lines these are. `before` is how many lines ended
 /// before them: it serves for the number of a bad line alone.
 fn do_more<S: Service>(
     alloc: Global,
@@ -164,7 +169,8 @@ fn do_more<S: Service>(
     }
 }
 
-/// How many bytes the lines have that have ended, where so many had before these bytes, which follow so many.
+/// How many bytes of a text stand up to its last LF, it included, when these bytes have come too: `before` is how many did without
+/// them, and `total` how many bytes came before them.
 fn ended_bytes(before: u64, total: u64, bytes: &[u8]) -> u64
     requires { total + length bytes.now < 2 ^ 63 }
     ensures { (seen : List ℕ) → before + length (cut seen).1 ≡ length seen → total ≡ length seen

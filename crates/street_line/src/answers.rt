@@ -9,7 +9,11 @@ use std::alloc::Global;
 use street_base::Starved;
 use street_text::{error_text, reply_text};
 
-/// The line that answers a command, with its LF.
+/// The line that answers a command, with its LF: its reply, or error 23 where it was not called.
+///
+/// # Errors
+///
+/// `Starved` where there was no memory for it.
 #[tactic(auto, unfolding(crate::specs::Runs::served_line))]
 pub(crate) fn served_text(alloc: Global, served: Served) -> Result<Vec<u8>, Starved>
     ensures { IfOk result (λ text. text.items ≡ served_line served) }

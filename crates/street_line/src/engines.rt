@@ -24,6 +24,7 @@ pub struct EngineSession<'a, R: Threads + Sync> {
 }
 
 impl<'a, R: Threads + Sync> Drop for EngineSession<'a, R> {
+    /// Drops the engine.
     fn drop(self) {
         let EngineSession { rt: _, engine: _ } = self;
     }
@@ -38,7 +39,7 @@ impl<'a, R: Threads + Sync> Model for EngineSession<'a, R> {
 }
 
 impl<'a, R: Threads + Sync> EngineSession<'a, R> {
-    /// The engine as a service. Takes no memory.
+    /// The engine as a service, on this runtime's threads. Takes no memory.
     pub fn new(rt: &'a R, engine: Engine<Unwatched>) -> EngineSession<'a, R>
         ensures { result ≡ engine }
     {
@@ -54,6 +55,7 @@ impl<'a, R: Threads + Sync> Service for EngineSession<'a, R> {
 
     ghost ready = { IsSync R.row };
 
+    /// Has the engine apply the command. It always answers.
     fn serve(&mut self, command: Command) -> Served {
         let (reply, _outcome) = self.engine.apply(self.rt, &command);
         Served::Answered(reply)

@@ -50,7 +50,7 @@ fn is_change(reply: &Reply) -> bool
     }
 }
 
-/// Whether an advance stopped before its last step.
+/// Whether this is the reply of an advance that stopped before its last step, for want of memory.
 fn is_short(reply: &Reply) -> bool
     ensures { result ≡ is_short reply.now }
 {
@@ -60,7 +60,8 @@ fn is_short(reply: &Reply) -> bool
     }
 }
 
-/// Notes what is kept of a line that was served so.
+/// Puts a line, and LF, behind the entries where its command changed something, as its reply tells; of any other line nothing is
+/// kept.
 ///
 /// # Errors
 ///
@@ -81,7 +82,7 @@ fn note(entries: &mut Vec<u8>, line: &[u8], served: &Served) -> Result<(), Starv
     Ok(())
 }
 
-/// What is answered to a command that was served so.
+/// The answer to a command that was served so, with the text of its reply. Lack of memory for the text stands in the answer.
 fn replied(alloc: Global, served: Served) -> Answer
     ensures call { result.is_call ≡ true }
     ensures text { GivesText result.reply (Some (served_line served)) }
@@ -98,7 +99,12 @@ fn replied(alloc: Global, served: Served) -> Answer
     }
 }
 
-/// What is answered to a line that is not blank, of which is noted what is kept.
+/// Has the service serve the command of a line that is not blank, puts the line behind the entries where it is kept, and gives the
+/// answer; a faulty line is answered by its fault.
+///
+/// # Errors
+///
+/// Memory ran out to read the line, for the answer of its fault, to note it, or for the last steps of an advance.
 fn answer<S: Service>(
     alloc: Global,
     reader: &mut LineReader,
@@ -142,6 +148,7 @@ impl<'a, S: Service> LineHandler for KeptServer<'a, S> {
 
     ghost ready = { S.ready };
 
+    /// Serves a line, and notes it where it is kept; a blank line gets no reply.
     fn take(&mut self, alloc: Global, line: &PartialLine) -> Result<Answer, Starved> {
         if line.is_blank() {
             return Ok(Answer {
@@ -159,7 +166,8 @@ impl<'a, S: Service> LineHandler for KeptServer<'a, S> {
     }
 }
 
-/// Serves the lines that end in the next bytes of a text.
+/// Serves the lines that end in the next bytes of a text. What is kept of them and their replies are given back: nothing is written
+/// yet.
 ///
 /// # Errors
 ///
@@ -193,7 +201,7 @@ pub(crate) fn serve_more<S: Service>(
     }
 }
 
-/// Serves the last line of a text that has ended, where it has no LF.
+/// Serves the last line of a text that has ended, where bytes stand behind its last LF, as [`serve_more`] does.
 ///
 /// # Errors
 ///

@@ -26,7 +26,7 @@ pub enum KeptFault {
     Log,
 }
 
-/// Where the log or the writer failed.
+/// The fault of a session that is kept, where the log or the writer failed.
 fn fault_of(fault: KeepFault) -> KeptFault
     ensures { result ≡ fault_of fault }
 {
@@ -78,7 +78,7 @@ fn pass_more<S: Service, L: Log, W: Write>(
     }
 }
 
-/// Serves the last line of a text that has ended, where it has no LF, as [`pass_more`] does.
+/// Serves the last line of a text that has ended, where bytes stand behind its last LF, as [`pass_more`] does.
 ///
 /// # Errors
 ///

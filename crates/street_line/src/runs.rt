@@ -15,7 +15,7 @@ use street_base::{MOST_READS, Starved};
 use street_stream::{Cause, Counted, FaultKind, Limits, RunFault, Tally, drive_lines};
 use street_text::{LONGEST_LINE, LineReader};
 
-/// Why the lines were not served to their end: one ends the run only where memory ran out.
+/// The fault of a run of lines that this ended: a line ends it only where memory ran out.
 fn kind_of(cause: Cause<Starved>) -> FaultKind
     ensures { result ≡ kind_of cause }
 {

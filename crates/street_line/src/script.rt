@@ -62,7 +62,8 @@ impl<'a, R: Threads + Wait + Sync> Script<'a, R> {
         }
     }
 
-    /// Serves all lines of the file, if it was opened, and keeps the replies.
+    /// Serves all lines of the file, if it was opened and not served yet, and keeps the replies and what ended them before the file
+    /// did.
     fn run(&mut self, alloc: Global)
         ensures desk { self.new.session.desk ≡ self.old.session.desk }
         ensures run { IsRun self.old self.new }
@@ -97,7 +98,7 @@ pub fn answer_all<R: Threads + Wait + Sync, D: Read>(
     }
 }
 
-/// Replies go to memory, where a write fails for lack of memory alone.
+/// The fault of a run whose replies go to memory: a write fails there for lack of memory alone, and is told as that.
 fn in_memory(kind: FaultKind) -> FaultKind
     ensures { result ≡ memory_kind kind }
 {

@@ -77,6 +77,7 @@ impl<'a, S: Service> LineHandler for LineServer<'a, S> {
 
     ghost ready = { S.ready };
 
+    /// Serves a line as `answer` does; a blank line gets no reply.
     fn take(&mut self, alloc: Global, line: &PartialLine) -> Result<Answer, Starved> {
         if line.is_blank() {
             return Ok(Answer {

@@ -22,7 +22,7 @@ pub trait Service {
 
     ghost ready: { Type 0 };
 
-    /// Serves one command.
+    /// Serves one command: what it answers, or that no place is left for the call.
     fn serve(&mut self, command: Command) -> Served
         requires { ready }
         ensures { serves self.old command result self.new };

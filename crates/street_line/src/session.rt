@@ -40,7 +40,7 @@ impl<'a, R: Threads + Wait + Sync> DeskSession<'a, R> {
         DeskSession { rt, desk, pass }
     }
 
-    /// The pass as it stands. Takes no memory.
+    /// Gives back the pass, which has seen all calls of the session. Takes no memory.
     pub fn into_pass(self) -> Pass<Unwatched>
         ensures { result ≡ self.entry }
     {
@@ -56,6 +56,7 @@ impl<'a, R: Threads + Wait + Sync> Service for DeskSession<'a, R> {
 
     ghost ready = { IsSync R.row };
 
+    /// Has the desk call the command by this pass: it is answered, or told as full where no place is left.
     fn serve(&mut self, command: Command) -> Served {
         match self.desk.call(self.rt, &mut self.pass, command) {
             Ok(reply) => Served::Answered(reply),

@@ -25,6 +25,7 @@ pub struct TeamSession<'a, R: Threads + Wait + Sync> {
 }
 
 impl<'a, R: Threads + Wait + Sync> Drop for TeamSession<'a, R> {
+    /// Drops the engine.
     fn drop(self) {
         let TeamSession { rt: _, engine: _ } = self;
     }
@@ -39,7 +40,7 @@ impl<'a, R: Threads + Wait + Sync> Model for TeamSession<'a, R> {
 }
 
 impl<'a, R: Threads + Wait + Sync> TeamSession<'a, R> {
-    /// The engine as a service. Takes no memory.
+    /// The engine as a service, on this runtime's threads. Takes no memory.
     pub fn new(rt: &'a R, engine: Engine<Unwatched>) -> TeamSession<'a, R>
         ensures { result ≡ engine }
     {
@@ -55,6 +56,7 @@ impl<'a, R: Threads + Wait + Sync> Service for TeamSession<'a, R> {
 
     ghost ready = { IsSync R.row };
 
+    /// Has the engine apply the command, an advance by workers that stay. It always answers, if it returns.
     fn serve(&mut self, command: Command) -> Served {
         let (reply, _outcome) = self.engine.apply_by_team(self.rt, &command);
         Served::Answered(reply)

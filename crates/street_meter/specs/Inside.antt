@@ -6,6 +6,7 @@ use Rattle.street_base.specs.declared.reply.RunningRow.{RunningRow}
 use Rattle.street_meter.specs.declared.meter.Meter.TheInside.{Inside}
 use Rattle.street_meter.specs.Meter.{Meter}
 
+-- what contracts see of a meter
 abbrev pub shown : Inside → Meter
 shown m = record {
   place = m.site.at;

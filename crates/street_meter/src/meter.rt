@@ -42,6 +42,7 @@ pub struct Meter {
 }
 
 impl Drop for Meter {
+    /// Drops each field.
     fn drop(self) {
         let Meter {
             site: _,
@@ -65,7 +66,7 @@ impl Model for Meter {
     ghost invariant = { IsSound };
 }
 
-/// A running row of no steps.
+/// The running row of a period whose first step is `start`, before that step is noted.
 fn begun_at(start: u64) -> RunningRow
     ensures { result ≡ row_from start }
 {
@@ -78,7 +79,7 @@ fn begun_at(start: u64) -> RunningRow
     }
 }
 
-/// The running row as one that is full.
+/// The row of a full period, from the running one with all its steps.
 fn ended(row: RunningRow) -> MeterRow
     ensures { result ≡ row_full row }
 {
@@ -90,7 +91,8 @@ fn ended(row: RunningRow) -> MeterRow
     }
 }
 
-/// The running row with one step more.
+/// The running row with one step more: how many vehicles passed in it, the sum of their speeds (cells a step), and 1 if the
+/// cell was occupied at its end, or else 0.
 fn with_step(row: RunningRow, passes: u32, speeds: u32, occupied: u32) -> RunningRow
     requires steps { row.steps < most_period }
     requires passes { row.passes ≤ row.steps * 2 ^ 32 }
@@ -108,7 +110,7 @@ fn with_step(row: RunningRow, passes: u32, speeds: u32, occupied: u32) -> Runnin
 }
 
 impl Meter {
-    /// A meter that has noted nothing. The period is 1 to 100,000 steps; the first step noted is `start`, at most
+    /// A meter of a cell that has noted nothing. The period is 1 to 100,000 steps; the first step noted is `start`, at most
     /// `LAST_CLOCK`.
     ///
     /// # Errors
@@ -132,8 +134,9 @@ impl Meter {
         })
     }
 
-    /// Notes a step: how many vehicles passed, the sum of their speeds, and 1 if the cell was occupied at its end. The step
-    /// lies before `LAST_CLOCK`. Takes no memory.
+    /// Notes the next step: how many vehicles passed, the sum of their speeds (cells a step), and 1 if the cell was occupied at
+    /// its end, or else 0. A row that is full is put to the full ones, of which the last 32 are kept. The step lies before
+    /// `LAST_CLOCK`. Takes no memory.
     pub fn note(&mut self, passes: u32, speeds: u32, occupied: u32)
         requires { next_step self.old < last_clock }
         ensures placed { IsPlacedAs self.new self.old }
@@ -149,7 +152,7 @@ impl Meter {
         }
     }
 
-    /// The running row, and the rows of the last 32 full periods.
+    /// The running row, and the rows of the last full periods, at most 32, the oldest first.
     ///
     /// # Errors
     /// Out of memory for the rows.
@@ -163,7 +166,7 @@ impl Meter {
         })
     }
 
-    /// Where the meter is.
+    /// The lane and the cell that the meter watches.
     pub fn site(&self) -> MeterSite
         ensures lane { self.now.place ≡ result.at }
         ensures cell { self.now.cell ≡ result.cell }
@@ -171,7 +174,7 @@ impl Meter {
         self.site
     }
 
-    /// How many steps a row sums.
+    /// How many steps a row sums: 1 to 100,000.
     pub fn period(&self) -> u32
         ensures { result ≡ self.now.period }
     {

@@ -4,9 +4,11 @@ use Rattle.street_base.specs.declared.net.NodeSpec.{NodeSpec}
 use Rattle.street_base.specs.declared.net.LinkSpec.{LinkSpec}
 use Rattle.street_base.specs.declared.net.TurnSpec.{TurnSpec}
 
+-- the identifiers of nodes, in their order
 abbrev pub ids_of_nodes : List NodeSpec → List ℕ
 ids_of_nodes nodes = map (λ node. node.id) nodes
 
+-- the identifiers of links, in their order
 abbrev pub ids_of_links : List LinkSpec → List ℕ
 ids_of_links links = map (λ link. link.id) links
 
@@ -14,5 +16,6 @@ ids_of_links links = map (λ link. link.id) links
 abbrev pub turn_key : TurnSpec → ℕ × ℕ × ℕ
 turn_key t = (t.link, t.lane, t.next)
 
+-- the keys of turns, in their order
 abbrev pub keys_of_turns : List TurnSpec → List (ℕ × ℕ × ℕ)
 keys_of_turns turns = map turn_key turns

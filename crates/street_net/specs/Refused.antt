@@ -17,7 +17,7 @@ TellsFault first StarvedLoad = Unit {0}
 
 -- ---- plans
 
--- a lane of this link serves the next link
+-- some lane of this link serves the next link
 abbrev pub has_turn : NetSpec → ℕ → ℕ → Bool
 has_turn net link next = list_any (λ lane. serves net (record { link = link; lane = lane }) next) (range_with_len 0 (link_at net link).lanes)
 

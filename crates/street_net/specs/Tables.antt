@@ -51,7 +51,7 @@ pub record AreInLanes (net : NetSpec) (listed : List (Vec Place Global)) : Type 
 abbrev pub turn_by_position : Place → ℕ → TurnSpec → Turn
 turn_by_position place next t = record { link = place.link; lane = place.lane; next = next; next_lane = t.next_lane }
 
--- a turn of the load, by the positions of its links
+-- a turn of the load, by the positions of its links; 0 for one that is not there
 abbrev pub seen_turn : NetSpec → TurnSpec → Turn
 seen_turn net t = record { link = unwrap_or (link_of net t.link) 0; lane = t.lane; next = unwrap_or (link_of net t.next) 0; next_lane = t.next_lane }
 
@@ -82,11 +82,11 @@ pub record IsStart (turns : List Turn) (list start : ℕ) : Type 0 where
   pub before : (k : ℕ) (d : Turn) → k < start → list_number (slice_index_or turns k d) < list
   pub after : (k : ℕ) (d : Turn) → start ≤ k → k < length turns → list ≤ list_number (slice_index_or turns k d)
 
--- where each list starts
+-- for each list, where it starts
 abbrev pub AreStarts : List ℕ → List Turn → Type 0
 AreStarts starts turns = (list d : ℕ) → list < length starts → IsStart turns list (slice_index_or starts list d)
 
--- the turns from where this list starts to where the next one does
+-- the turns of a list: those from where it starts to where the next one does
 abbrev pub list_at : List ℕ → List Turn → ℕ → List Turn
 list_at starts turns list = between (slice_index_or starts list 0) (slice_index_or starts (list + 1) 0) turns
 

@@ -21,7 +21,7 @@ pub(crate) struct Brief {
 // A step asks of every link: the table of the most links fits a nearer cache, where their `LinkSpec`s do not.
 const _: () = prove!(size_of::<Brief>() == 8);
 
-/// For each link what a step asks of it. `nodes` are the identifiers of the nodes.
+/// For each link, in the order of the load, what a step asks of it. `nodes` are the identifiers of the nodes, in their order.
 ///
 /// # Errors
 ///

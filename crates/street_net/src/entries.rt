@@ -14,14 +14,15 @@ use street_base::{
     MOST_NODES, MOST_RESIDENCE, MOST_TURNS, NetSpec, NodeSpec, TurnSpec,
 };
 
-/// Whether a number is in a range, with both its ends.
+/// Whether a number is in a range, its two bounds included.
 fn is_within(low: u64, high: u64, number: u64) -> bool
     ensures { result ≡ is_within low high number }
 {
     low <= number && number <= high
 }
 
-/// Whether a node is bad at its position. `seen` are the identifiers before it.
+/// Whether the node at a position of the load is bad: past the most nodes, its identifier too great or that of one before it,
+/// its residence or its capacity out of range. `seen` are the identifiers of the nodes before it.
 pub(crate) fn is_bad_node(spec: &NetSpec, seen: &IndexSet<u64>, at: usize, node: &NodeSpec) -> bool
     requires { seen.now.keys ≡ ids_of_nodes (take at spec.now.nodes) }
     ensures { result ≡ is_bad_node spec.now at node.now }
@@ -33,7 +34,9 @@ pub(crate) fn is_bad_node(spec: &NetSpec, seen: &IndexSet<u64>, at: usize, node:
         || !is_within(1, MOST_CAPACITY, node.capacity)
 }
 
-/// Whether a link is bad at its position. `seen` are the identifiers before it, `nodes` those of all nodes.
+/// Whether the link at a position of the load is bad: past the most links, its identifier too great or that of one before it,
+/// an end that is no node, its lanes, length or limit out of range. `seen` are the identifiers of the links before it, `nodes`
+/// those of all nodes.
 pub(crate) fn is_bad_link(
     spec: &NetSpec,
     nodes: &IndexSet<u64>,
@@ -55,7 +58,8 @@ pub(crate) fn is_bad_link(
         || !is_within(1, MOST_LIMIT, link.limit)
 }
 
-/// Whether a turn joins two links. `ids` are the identifiers of all links.
+/// Whether a turn joins two links: both are in the load and have the turn's lanes, and the next one runs from the node that the
+/// first runs to. `ids` are the identifiers of all links.
 fn joins(spec: &NetSpec, ids: &IndexSet<u64>, turn: &TurnSpec) -> bool
     requires { ids.now.keys ≡ ids_of_links spec.now.links }
     ensures { result ≡ joins spec.now turn.now }
@@ -71,7 +75,8 @@ fn joins(spec: &NetSpec, ids: &IndexSet<u64>, turn: &TurnSpec) -> bool
     }
 }
 
-/// Whether a turn is bad at its position. `seen` are the keys before it, `ids` the identifiers of all links.
+/// Whether the turn at a position of the load is bad: past the most turns, joining no two links, or with the lane and the next
+/// link of one before it. `seen` are the keys of the turns before it, `ids` the identifiers of all links.
 pub(crate) fn is_bad_turn(
     spec: &NetSpec,
     ids: &IndexSet<u64>,

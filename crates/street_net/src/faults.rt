@@ -45,6 +45,7 @@ impl From<AllocError> for NetFault {
 
     ghost from_gives = { λ _ fault. fault ≡ Starved };
 
+    /// Memory was refused: `?` passes it on as `Starved`.
     fn from(_error: AllocError) -> NetFault {
         NetFault::Starved
     }
@@ -56,6 +57,7 @@ impl<T: Drop> From<AllocFailed<T>> for NetFault {
 
     ghost from_gives = { λ _ fault. fault ≡ Starved };
 
+    /// The same where a value came back with the error: it is dropped.
     fn from(_error: AllocFailed<T>) -> NetFault {
         NetFault::Starved
     }
@@ -67,6 +69,7 @@ impl From<AllocError> for PlanFault {
 
     ghost from_gives = { λ _ fault. fault ≡ Starved };
 
+    /// Memory was refused: `?` passes it on as `Starved`.
     fn from(_error: AllocError) -> PlanFault {
         PlanFault::Starved
     }

@@ -10,14 +10,15 @@ use street_base::{LinkSpec, NetSpec, TurnSpec};
 /// What tells a turn from others: its link, its lane and its next link.
 pub(crate) type TurnKey = (u64, u64, u64);
 
-/// The key of a turn.
+/// What tells a turn from others: the identifier of its link, its lane, and the identifier of its next link.
 pub(crate) fn turn_key(turn: &TurnSpec) -> TurnKey
     ensures { result ≡ turn_key turn.now }
 {
     (turn.link, turn.lane, turn.next)
 }
 
-/// Where the node with an identifier stands. `ids` are those of all nodes.
+/// The position in the load of the node with an identifier, if one has it. `ids` are the identifiers of all nodes, in their
+/// order.
 pub(crate) fn find_node(spec: &NetSpec, ids: &IndexSet<u64>, id: u64) -> Option<usize>
     requires { ids.now.keys ≡ ids_of_nodes spec.now.nodes }
     ensures { result ≡ node_of spec.now id }
@@ -25,7 +26,8 @@ pub(crate) fn find_node(spec: &NetSpec, ids: &IndexSet<u64>, id: u64) -> Option<
     ids.get_index_of(&id)
 }
 
-/// Where the link with an identifier stands. `ids` are those of all links.
+/// The position in the load of the link with an identifier, if one has it. `ids` are the identifiers of all links, in their
+/// order.
 pub(crate) fn find_link(spec: &NetSpec, ids: &IndexSet<u64>, id: u64) -> Option<usize>
     requires { ids.now.keys ≡ ids_of_links spec.now.links }
     ensures { result ≡ link_of spec.now id }
@@ -33,7 +35,7 @@ pub(crate) fn find_link(spec: &NetSpec, ids: &IndexSet<u64>, id: u64) -> Option<
     ids.get_index_of(&id)
 }
 
-/// The link with an identifier. `ids` are those of all links.
+/// The link with an identifier, as it was loaded, if one has it. `ids` are the identifiers of all links, in their order.
 pub(crate) fn link_with<'a>(spec: &'a NetSpec, ids: &IndexSet<u64>, id: u64) -> Option<&'a LinkSpec>
     requires { ids.now.keys ≡ ids_of_links spec.now.links }
     ensures { option_copied result ≡ link_with spec.now id }
@@ -42,7 +44,8 @@ pub(crate) fn link_with<'a>(spec: &'a NetSpec, ids: &IndexSet<u64>, id: u64) -> 
     spec.links.as_slice().get(position)
 }
 
-/// Whether a node before a position has an identifier. `seen` are those of the nodes before it.
+/// Whether a node before the position `at` of the load has the identifier `id`. `seen` are the identifiers of the nodes before
+/// it.
 pub(crate) fn is_repeated_node(spec: &NetSpec, seen: &IndexSet<u64>, at: usize, id: u64) -> bool
     requires { seen.now.keys ≡ ids_of_nodes (take at spec.now.nodes) }
     ensures { result ≡ list_any (λ node. node.id == id) (take at spec.now.nodes) }
@@ -50,7 +53,8 @@ pub(crate) fn is_repeated_node(spec: &NetSpec, seen: &IndexSet<u64>, at: usize, 
     seen.contains(&id)
 }
 
-/// Whether a link before a position has an identifier. `seen` are those of the links before it.
+/// Whether a link before the position `at` of the load has the identifier `id`. `seen` are the identifiers of the links before
+/// it.
 pub(crate) fn is_repeated_link(spec: &NetSpec, seen: &IndexSet<u64>, at: usize, id: u64) -> bool
     requires { seen.now.keys ≡ ids_of_links (take at spec.now.links) }
     ensures { result ≡ list_any (λ link. link.id == id) (take at spec.now.links) }
@@ -58,7 +62,8 @@ pub(crate) fn is_repeated_link(spec: &NetSpec, seen: &IndexSet<u64>, at: usize, 
     seen.contains(&id)
 }
 
-/// Whether a turn before a position is the same. `seen` are the keys of the turns before it.
+/// Whether a turn before the position `at` of the load leads from the same lane to the same next link. `seen` are the keys of
+/// the turns before it.
 pub(crate) fn is_repeated_turn(
     spec: &NetSpec,
     seen: &IndexSet<TurnKey>,

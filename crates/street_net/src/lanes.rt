@@ -11,7 +11,8 @@ use crate::briefs::Brief;
 use std::alloc::{AllocError, Global};
 use street_base::{LaneNo, LinkIx, NetSpec, Place};
 
-/// Where a lane stands in a list of two entries a link.
+/// The position of a lane's entry in a list that has two entries for each link, one a lane, in the order of the links: also a
+/// link of one lane takes two.
 pub fn slot(link: LinkIx, lane: LaneNo) -> usize
     requires { 2 * link + lane < 18446744073709551616 }
     ensures { result ≡ 2 * link + lane }
@@ -19,7 +20,8 @@ pub fn slot(link: LinkIx, lane: LaneNo) -> usize
     2 * link.position() + usize::from(lane)
 }
 
-/// For each node the lanes that run to it, in the order of release. `briefs` are those of the links.
+/// For each node, in the order of the load, the lanes that run to it, in the order of release: by the position of the link,
+/// then by the lane. `briefs` are those of all links.
 ///
 /// # Errors
 ///
@@ -41,7 +43,11 @@ pub(crate) fn lanes_by_end(
     Ok(lists)
 }
 
-/// So many lists of no lanes.
+/// So many empty lists, to be filled with the lanes that run to each node.
+///
+/// # Errors
+///
+/// Memory was refused.
 fn no_lanes(alloc: Global, count: usize) -> Result<Vec<Vec<Place>>, AllocError>
     ensures count { IfOk result (λ lists. length lists.items ≡ count) }
     ensures empty { IfOk result (λ lists. EachIndex lists.items (λ k. (d : Vec Place Global) → (slice_index_or lists.items k d).items ≡ [])) }
@@ -53,7 +59,11 @@ fn no_lanes(alloc: Global, count: usize) -> Result<Vec<Vec<Place>>, AllocError>
     Ok(lists)
 }
 
-/// Adds the lanes of a link to a list.
+/// Adds the lanes of a link, `lanes` of them from 0 on, to the end of a list.
+///
+/// # Errors
+///
+/// Memory was refused; lanes added till then stay.
 fn add_lanes(list: &mut Vec<Place>, link: LinkIx, lanes: LaneNo) -> Result<(), AllocError>
     ensures { OnOk result (list.new.items
         ≡ list.old.items ++ map (λ k. record { link = link; lane = k }) (range_with_len 0 lanes)) }

@@ -16,7 +16,7 @@ use street_base::{
     Part,
 };
 
-/// The identifiers of the nodes.
+/// Checks the nodes of a load, and answers their identifiers, in their order.
 ///
 /// # Errors
 ///
@@ -46,7 +46,7 @@ pub(crate) fn read_nodes(alloc: Global, spec: &NetSpec) -> Result<IndexSet<u64>,
     Ok(ids)
 }
 
-/// The identifiers of the links. `nodes` are the identifiers of the nodes.
+/// Checks the links of a load, and answers their identifiers, in their order. `nodes` are the identifiers of all nodes.
 ///
 /// # Errors
 ///
@@ -75,7 +75,7 @@ pub(crate) fn read_links(
     Ok(ids)
 }
 
-/// Checks the turns. `links` are the identifiers of the links.
+/// Checks the turns of a load. `links` are the identifiers of all links.
 ///
 /// # Errors
 ///
@@ -103,7 +103,7 @@ pub(crate) fn read_turns(
     Ok(())
 }
 
-/// Checks the values.
+/// Checks the values of a load: zone, dawdle, change and start.
 ///
 /// # Errors
 ///
@@ -121,7 +121,7 @@ pub(crate) fn read_values(spec: &NetSpec) -> Result<(), NetFault>
     }
 }
 
-/// The first fault among the values.
+/// The position of the first bad value of a load: zone is 0, dawdle 1, change 2, start 3. `None` where all are in their ranges.
 fn values_fault(spec: &NetSpec) -> Option<u64>
     ensures { result ≡ values_fault spec.now }
 {

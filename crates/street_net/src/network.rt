@@ -30,6 +30,7 @@ pub struct Network {
 }
 
 impl Drop for Network {
+    /// Drops each field.
     fn drop(self) {
         let Network {
             spec: _,
@@ -56,7 +57,11 @@ impl Model for Network {
         n.turns.starts.items n.turns.turns.items n.nexts.items };
 }
 
-/// A load that equals `spec`.
+/// A copy of a load, which a network keeps.
+///
+/// # Errors
+///
+/// Memory was refused.
 fn copy_spec(alloc: Global, spec: &NetSpec) -> Result<NetSpec, AllocError>
     ensures { IfOk result (λ copy. copy ≡ spec.now) }
 {
@@ -72,7 +77,11 @@ fn copy_spec(alloc: Global, spec: &NetSpec) -> Result<NetSpec, AllocError>
     })
 }
 
-/// The identifiers of the nodes, and those of the links, of a load without faults.
+/// Checks all of a load, and answers the identifiers of its nodes and those of its links, in their orders.
+///
+/// # Errors
+///
+/// `Bad` with the load's first fault. `Starved` where memory was refused.
 fn identifiers(alloc: Global, spec: &NetSpec) -> Result<(IndexSet<u64>, IndexSet<u64>), NetFault>
     ensures keys { IfOk result (λ ids. (ids.0.keys ≡ ids_of_nodes spec.now.nodes) × (ids.1.keys ≡ ids_of_links spec.now.links)) }
     ensures faultless { OnOk result (network_fault spec.now ≡ None) }
@@ -88,7 +97,12 @@ fn identifiers(alloc: Global, spec: &NetSpec) -> Result<(IndexSet<u64>, IndexSet
 // What a network keeps of each link, of each node and of the turns.
 type Tables = (Vec<Brief>, Vec<Vec<Place>>, TurnTable);
 
-/// The tables of a load without faults.
+/// The tables of a load without faults: what a step asks of each link, the lanes that run to each node, and the turns from each
+/// lane. `nodes` and `links` are the identifiers of all nodes and of all links.
+///
+/// # Errors
+///
+/// Memory was refused.
 fn tables(
     alloc: Global,
     spec: &NetSpec,
@@ -107,7 +121,7 @@ fn tables(
 }
 
 impl Network {
-    /// Checks a load, and copies it.
+    /// The network of a load, if that has no fault: the load is checked and copied, and the tables of its look-ups are made.
     ///
     /// # Errors
     ///
@@ -135,7 +149,7 @@ impl Network {
         Ok(network)
     }
 
-    /// What the network was loaded from.
+    /// What the network was loaded from. It has no fault.
     pub fn spec(&self) -> &NetSpec
         ensures value { result.now ≡ self.now }
         ensures faultless { network_fault self.now ≡ None }
@@ -143,7 +157,7 @@ impl Network {
         &self.spec
     }
 
-    /// The position of the link with an identifier.
+    /// The position of the link with an identifier, if one has it.
     pub fn link_of(&self, id: u64) -> Option<LinkIx>
         ensures position { result ≡ link_of self.now id }
         ensures within { IfSome result (λ link. link < length self.now.links) }
@@ -152,7 +166,7 @@ impl Network {
         Some(LinkIx::new(position as u16))
     }
 
-    /// The position of the node with an identifier.
+    /// The position of the node with an identifier, if one has it.
     pub fn node_of(&self, id: u64) -> Option<NodeIx>
         ensures position { result ≡ node_of self.now id }
         ensures within { IfSome result (λ node. node < length self.now.nodes) }
@@ -161,7 +175,7 @@ impl Network {
         Some(NodeIx::new(position as u16))
     }
 
-    /// The node that a link runs to.
+    /// The position of the node that a link runs to.
     pub fn end_of(&self, link: LinkIx) -> NodeIx
         requires { link < length self.now.links }
         ensures position { node_of self.now (link_at self.now link).to ≡ Some result }
@@ -180,7 +194,7 @@ impl Network {
         &self.in_lanes[node.position()]
     }
 
-    /// The turn from a lane to a next link, if there is one; found among the lane's own turns.
+    /// The turn from a lane to a next link, both links by their positions, if there is one; found among the lane's own turns.
     pub fn turn(&self, link: LinkIx, lane: LaneNo, next: LinkIx) -> Option<Turn>
         ensures { let place : Place = record { link = link; lane = lane } in
             result ≡ option_map (turn_by_position place next) (turn self.now place next) }
@@ -191,7 +205,8 @@ impl Network {
         turn_to(self.turns.list(list_of(link, lane)), next)
     }
 
-    /// Whether a lane has a turn to a next link. Most have few, which lie close together; else it is found among the lane's turns.
+    /// Whether a lane has a turn to a next link, both links by their positions. Of most lanes all next links are among the four
+    /// that are kept close together; else it is found among the lane's turns.
     #[inline]
     pub fn serves(&self, link: LinkIx, lane: LaneNo, next: LinkIx) -> bool
         ensures { let place : Place = record { link = link; lane = lane } in
@@ -203,7 +218,8 @@ impl Network {
         }
     }
 
-    /// The same, by the lane's turns.
+    /// Whether a lane has a turn to a next link, found among the lane's turns. [`Network::serves`] asks it where the next links
+    /// that are kept do not have the link.
     #[inline(never)]
     fn has_turn(&self, link: LinkIx, lane: LaneNo, next: LinkIx) -> bool
         ensures { let place : Place = record { link = link; lane = lane } in
@@ -212,7 +228,8 @@ impl Network {
         self.turn(link, lane, next).is_some()
     }
 
-    /// Next links that a lane serves, where some are kept.
+    /// The next links that are kept of a lane, at most four, each of which it serves; it may serve others too. `None` where
+    /// none are kept of the link, or the link has no such lane.
     #[inline]
     fn nexts_from(&self, link: LinkIx, lane: LaneNo) -> Option<Nexts>
         ensures { let place : Place = record { link = link; lane = lane } in IfSome result (AreServed self.now place) }
@@ -229,7 +246,8 @@ impl Network {
         }
     }
 
-    /// The next link of a lane's turn at a position, or none where there is no such turn.
+    /// The next link of the lane's turn at the position `at`, in the order of the next links, or the one that [`NO_LINK`] names
+    /// where the lane has no such turn.
     fn next_at(&self, link: LinkIx, lane: LaneNo, at: usize) -> LinkIx
         requires there { link < length self.now.links }
         requires lane { lane < 2 }
@@ -247,7 +265,7 @@ impl Network {
         }
     }
 
-    /// The next links of a lane's first turns.
+    /// The next links of a lane's first four turns, in the order of the next links; with fewer turns the rest name no link.
     fn first_nexts(&self, link: LinkIx, lane: LaneNo) -> Nexts
         requires there { link < length self.now.links }
         requires lane { lane < 2 }
@@ -261,7 +279,7 @@ impl Network {
         }
     }
 
-    /// The next links of the first turns from both lanes of each link.
+    /// For each link, in the order of the load, the next links of the first four turns from both of its lanes.
     ///
     /// # Errors
     ///
@@ -288,7 +306,7 @@ impl Network {
         self.briefs[link.position()].length
     }
 
-    /// The speed limit of a link.
+    /// The speed limit of a link, in cells a step.
     pub fn limit_of(&self, link: LinkIx) -> Speed
         requires { link < length self.now.links }
         ensures { result ≡ (link_at self.now link).limit }
@@ -296,7 +314,7 @@ impl Network {
         self.briefs[link.position()].limit
     }
 
-    /// How many lanes a link has.
+    /// How many lanes a link has: 1 or 2.
     pub fn lanes_of(&self, link: LinkIx) -> LaneNo
         requires { link < length self.now.links }
         ensures { result ≡ (link_at self.now link).lanes }

@@ -29,7 +29,7 @@ pub(crate) struct Pair {
 const _: () = prove!(size_of::<Pair>() == 16);
 
 impl Nexts {
-    /// Whether a link is one of them. All are compared, for no jump.
+    /// Whether a link is one of them; the number that names no link never is. All four are compared, which takes no branch.
     #[inline]
     pub(crate) fn has(self, next: LinkIx) -> bool
         ensures { result ≡ has_next self next }

@@ -11,7 +11,7 @@ use std::alloc::{AllocError, Global};
 use street_base::{LinkIx, MOST_PLAN, Plan};
 
 impl Network {
-    /// Whether a lane of a link has a turn to a next link.
+    /// Whether some lane of a link has a turn to a next link, both by their positions.
     fn leads_to(&self, link: LinkIx, next: LinkIx) -> bool
         requires { link < length self.now.links }
         ensures { result ≡ has_turn self.now link next }
@@ -19,7 +19,8 @@ impl Network {
         (0..self.lanes_of(link)).any(|lane| self.serves(link, lane, next))
     }
 
-    /// The link of a later entry of a plan, if the entry is good. `before` is the link of the entry before it.
+    /// The link of the entry at the position `at` of a plan, if the entry is good: it is a link to which a lane of the link
+    /// before has a turn, and not past the most links of a plan. `before` is the link of the entry before it.
     fn later_link(&self, plan: &[u64], at: usize, before: LinkIx) -> Option<LinkIx>
         requires later { 0 < at }
         requires within { at < length plan.now }
@@ -36,7 +37,8 @@ impl Network {
         self.leads_to(before, link).then_some(link)
     }
 
-    /// The first link of a plan, or the position of the plan's first bad entry. Takes no memory.
+    /// The first link of a plan that has no bad entry, or else the position of the first bad one; an empty plan is bad at 0.
+    /// Takes no memory.
     fn first_link(&self, plan: &[u64]) -> Result<LinkIx, u64>
         ensures link { IfOk result (λ link. link_of self.now (slice_index plan.now 0) ≡ Some link) }
         ensures is_link { IfOk result (λ link. link < length self.now.links) }
@@ -60,9 +62,9 @@ impl Network {
         Ok(first)
     }
 
-    /// Why a plan is refused to a vehicle that enters on a lane of the plan's first link: `Bad` with the position of the
-    /// first bad entry, else `Lane` where the first link has no such lane. Looks at 1,024 entries at most, and takes no
-    /// memory.
+    /// Why a plan of identifiers is refused to a vehicle that enters on a lane of the plan's first link, or `None` where it is
+    /// not: `Bad` with the position of the first bad entry, else `Lane` where the first link has no such lane. Looks at 1,024
+    /// entries at most, and takes no memory.
     pub fn plan_refusal(&self, plan: &[u64], lane: u64) -> Option<PlanFault>
         ensures { result ≡ plan_refusal self.now plan.now lane }
     {
@@ -73,7 +75,7 @@ impl Network {
         }
     }
 
-    /// The links of a plan of identifiers that has no bad entry. Takes memory for the plan's length.
+    /// The links of a plan of identifiers that has no bad entry, by their positions. Takes memory for the plan's length.
     ///
     /// # Errors
     ///
@@ -93,8 +95,8 @@ impl Network {
         Ok(Plan::from_vec(links))
     }
 
-    /// The links of a plan of identifiers, for a vehicle that enters on a lane of the first. Takes memory for the plan's
-    /// length.
+    /// The links of a plan of identifiers, by their positions, for a vehicle that enters on a lane of the first. Takes memory
+    /// for the plan's length.
     ///
     /// # Errors
     ///

@@ -25,7 +25,7 @@ pub(crate) struct TurnTable {
     turns: Vec<Turn>,
 }
 
-/// The number of the list of the turns from a lane.
+/// The number of the list of the turns from a lane: each link has two lists, in the order of the links, one a lane.
 pub(crate) fn list_of(link: LinkIx, lane: LaneNo) -> usize
     ensures value { result ≡ 2 * link + lane }
     ensures within { result ≤ 2 * 65535 + 255 }
@@ -34,7 +34,7 @@ pub(crate) fn list_of(link: LinkIx, lane: LaneNo) -> usize
 }
 
 impl TurnTable {
-    /// The turns of a load. `links` are the identifiers of the links.
+    /// The table of the turns of a load without faults. `links` are the identifiers of all links.
     ///
     /// # Errors
     ///
@@ -55,7 +55,7 @@ impl TurnTable {
         Ok(TurnTable { starts, turns })
     }
 
-    /// The turns of the list with a number.
+    /// The turns of the list with a number (see [`list_of`]), in the order of their next links.
     pub(crate) fn list(&self, list: usize) -> &[Turn]
         requires there { list + 1 < length self.now.starts.items }
         requires cut { AreStarts self.now.starts.items self.now.turns.items }
@@ -67,7 +67,11 @@ impl TurnTable {
     }
 }
 
-/// All turns by the positions of their links, in the order of the load. `links` are the identifiers of the links.
+/// All turns by the positions of their links, in the order of the load. `links` are the identifiers of all links.
+///
+/// # Errors
+///
+/// Memory was refused.
 fn turns_by_position(
     alloc: Global,
     spec: &NetSpec,
@@ -85,7 +89,7 @@ fn turns_by_position(
     Ok(turns)
 }
 
-/// A turn by the positions of its links.
+/// A turn of the load by the positions of its links. `links` are the identifiers of all links.
 fn by_position(spec: &NetSpec, links: &IndexSet<u64>, turn: &TurnSpec) -> Turn
     requires faultless { network_fault spec.now ≡ None }
     requires joins { joins spec.now turn.now ≡ true }
@@ -102,14 +106,14 @@ fn by_position(spec: &NetSpec, links: &IndexSet<u64>, turn: &TurnSpec) -> Turn
     }
 }
 
-/// By what the turns are sorted: first by their lists, then by their next links.
+/// The number by which the turns are sorted: first by their lists, then by their next links.
 fn rank_of(turn: &Turn) -> usize
     ensures { result ≡ turn_rank turn.now }
 {
     list_of(turn.link, turn.lane) * NEXTS + usize::from(turn.next.as_u16())
 }
 
-/// Where each of so many lists starts among turns in the order of their lists.
+/// For each of so many lists, where it starts among turns in the order of their lists.
 ///
 /// # Errors
 ///
@@ -127,7 +131,7 @@ fn starts_of(alloc: Global, turns: &[Turn], lists: usize) -> Result<Vec<u16>, Al
     Ok(starts)
 }
 
-/// Where a list starts among turns in the order of their lists.
+/// Where a list starts among turns in the order of their lists: how many turns stand in lists before it.
 fn start_of(turns: &[Turn], list: usize) -> usize
     requires { IsNonDecreasingBy list_number turns.now }
     ensures { IsStart turns.now list result }
@@ -135,7 +139,7 @@ fn start_of(turns: &[Turn], list: usize) -> usize
     turns.partition_point(|turn| list_of(turn.link, turn.lane) < list)
 }
 
-/// The turn to a next link, among turns in the order of their next links.
+/// The turn to a next link, among turns in the order of their next links, if one leads there.
 pub(crate) fn turn_to(turns: &[Turn], next: LinkIx) -> Option<Turn>
     requires { IsNonDecreasingBy (λ t. t.next) turns.now }
     ensures { FindsTurn turns.now next result }

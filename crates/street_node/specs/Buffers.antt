@@ -33,6 +33,7 @@ pub record AreListed (y : Yard) (ns : List ℕ) : Type 0 where
   pub within : All (λ n. n < length y.lists) ns
   pub apart : IsApart ns
 
+-- the buffers are lists of the yard, no two the same
 abbrev pub AreIn : Yard → Buffers → Type 0
 AreIn y b = AreListed y b.lists
 

@@ -36,6 +36,7 @@ queue_after m from = if gives m from then drop 1 (lane_at m from).queue else (la
 abbrev pub begins_at : NetSpec → ℕ → Place → Bool
 begins_at net node p = option_map_or (λ begin. begin == node) (node_of net (link_at net p.link).from) false
 
+-- the lane is one of the network, and its link begins at this node
 pub record IsAhead (net : NetSpec) (node : ℕ) (p : Place) : Type 0 where
   pub link : p.link < length net.links
   pub lane : p.lane < (link_at net p.link).lanes

@@ -10,6 +10,7 @@ use Rattle.street_net.specs.Prelude.{mouth}
 abbrev pub times : Place → List Place → ℕ
 times q ps = sum_by (λ p. one_if (is_place q p)) ps
 
+-- no lane stands in the list twice
 abbrev pub AtMostOnce : List Place → Type 0
 AtMostOnce ps = (q : Place) → times q ps ≤ 1
 

@@ -47,7 +47,8 @@ impl Buffers {
         }
     }
 
-    /// Whether the buffer of a lane, by its position in `Network::in_lanes`, holds fewer vehicles than the capacity.
+    /// Whether one more vehicle finds room in the buffer of a lane, by its position in `Network::in_lanes`: it holds fewer than
+    /// its capacity.
     pub fn has_room(&self, yard: &Yard, lane: usize) -> bool
         requires lane { lane < length self.now.lists }
         requires lists { AreIn yard.now self.now }
@@ -56,8 +57,8 @@ impl Buffers {
         yard.list_len(self.lists[lane]) < self.capacity
     }
 
-    /// Puts a loose vehicle last into the buffer of a lane, by its position in `Network::in_lanes`. It may go on from the step
-    /// `ready`.
+    /// Puts a loose vehicle last into the buffer of a lane, by its position in `Network::in_lanes`. The buffer has room. The
+    /// vehicle may go on from the step `ready`.
     pub fn take_in(&self, yard: &mut Yard, lane: usize, key: Key, ready: Step)
         requires lane { lane < length self.now.lists }
         requires lists { AreIn yard.old self.now }

@@ -10,7 +10,8 @@ use street_base::{
 };
 use street_net::Network;
 
-/// Whether this is a turn of the network, and the link that it leaves runs to the node with the identifier `node`.
+/// Whether this, with its links by identifiers, is a turn of the network, and the link that it leaves runs to the node with the
+/// identifier `node`.
 fn is_turn_to(net: &Network, node: u64, green: &GreenSpec) -> bool
     ensures { result ≡ is_turn_to net.now node green.now }
 {
@@ -30,7 +31,7 @@ fn is_turn_to(net: &Network, node: u64, green: &GreenSpec) -> bool
     links[link.position()].to == node
 }
 
-/// Whether all these are turns of the network, and the links that they leave run to the node.
+/// Whether all these are turns of the network, and the links that they leave run to the node with the identifier `node`.
 fn are_turns_to(net: &Network, node: u64, greens: &[GreenSpec]) -> bool
     ensures { result ≡ list_all (is_turn_to net.now node) greens.now }
 {
@@ -42,8 +43,8 @@ fn are_turns_to(net: &Network, node: u64, greens: &[GreenSpec]) -> bool
     true
 }
 
-/// Whether the phase at the position `at` of a plan is bad: `at` is past the most phases, its duration is out of range, it has
-/// too many green turns, or one of them is no turn to the node.
+/// Whether the phase at the position `at` of a plan for the node with the identifier `node` is bad: `at` is past the most
+/// phases, its duration is out of range, it has too many green turns, or one of them is no turn to the node.
 fn is_bad_phase(net: &Network, node: u64, at: usize, phase: &PhaseSpec) -> bool
     ensures { result ≡ is_bad_phase net.now node at phase.now }
 {
@@ -52,7 +53,7 @@ fn is_bad_phase(net: &Network, node: u64, at: usize, phase: &PhaseSpec) -> bool
     at >= MOST_PHASES || !lasts || greens.len() > MOST_GREENS || !are_turns_to(net, node, greens)
 }
 
-/// The position of the first bad phase, if one is bad.
+/// The position of the first bad phase of a plan for the node with the identifier `node`, if one is bad.
 fn phases_fault(net: &Network, node: u64, phases: &[PhaseSpec]) -> Option<u64>
     ensures { result ≡ first_bad (is_bad_phase net.now node) phases.now }
 {
@@ -79,8 +80,8 @@ pub(crate) fn cycle_of(net: &Network, node: u64, phases: &[PhaseSpec]) -> u64
     cycle
 }
 
-/// The first fault of a signal plan, if it has one: the position of a bad phase, or the number of phases for a bad offset, which
-/// is not below the cycle; both are in steps. A plan of no phases is bad at 0.
+/// The first fault of a signal plan for the node with the identifier `node`, if it has one: the position of a bad phase, or the
+/// number of phases for a bad offset, which is not below the cycle; both are in steps. A plan of no phases is bad at 0.
 pub(crate) fn signal_fault(
     net: &Network,
     node: u64,

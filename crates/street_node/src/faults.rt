@@ -18,25 +18,25 @@ pub enum SignalFault {
     Starved,
 }
 
-// So that `?` answers `Starved` where memory was refused.
 impl From<AllocError> for SignalFault {
     ghost use Rattle.std.specs.Prelude.{◌≡◌};
     ghost use Rattle.street_node.specs.declared.faults.SignalFault.TheVariants.{Starved};
 
     ghost from_gives = { λ _ fault. fault ≡ Starved };
 
+    /// Memory was refused: `?` passes it on as `Starved`.
     fn from(_error: AllocError) -> SignalFault {
         SignalFault::Starved
     }
 }
 
-// The same where the refusal gives the value back that found no room, which is dropped.
 impl<T: Drop> From<AllocFailed<T>> for SignalFault {
     ghost use Rattle.std.specs.Prelude.{◌≡◌};
     ghost use Rattle.street_node.specs.declared.faults.SignalFault.TheVariants.{Starved};
 
     ghost from_gives = { λ _ fault. fault ≡ Starved };
 
+    /// The same where a value came back with the error: it is dropped.
     fn from(_error: AllocFailed<T>) -> SignalFault {
         SignalFault::Starved
     }

@@ -54,7 +54,7 @@ impl GreenTurn {
     }
 }
 
-/// The order of turns: by the link, then by the lane, then by the next link.
+/// The order in which green turns are kept: by the link, then by the lane, then by the next link.
 fn in_order(turn: &GreenTurn, other: &GreenTurn) -> Ordering
     ensures { result ≡ turn_cmp turn.now other.now }
 {

@@ -25,6 +25,7 @@ pub struct SignalPlan {
 
 // Written out, so that the check of a function that drops one sees this type alone, and nothing below it.
 impl Drop for SignalPlan {
+    /// Drops each field.
     fn drop(self) {
         let SignalPlan {
             offset: _,

@@ -42,6 +42,7 @@ pub struct Dice {
 }
 
 impl Drop for Dice {
+    /// Drops each field.
     fn drop(self) {
         let Dice {
             rng: _,
@@ -76,8 +77,8 @@ fn leaves_choice(odds: u16) -> bool
     0 < odds && odds < 1000
 }
 
-/// The greatest word of the cipher whose draw is below the odds, where these leave a choice; else some word, as the bits are not
-/// asked then. To compare words with it spares the scaling of each to a draw.
+/// The greatest word of the cipher whose draw is below the odds (of 1,000), where these leave a choice; else some word, as the
+/// bits are not asked then. To compare words with it spares the scaling of each to a draw.
 fn last_of(odds: u16) -> u32
     ensures { 0 < odds → odds < 1000 → result ≡ (odds * 2 ^ 32 - 1) / 1000 }
 {
@@ -117,7 +118,7 @@ fn four(rng: &mut ChaCha20Rng, lane: u32, slow: u32) -> u64
         .to_bitmask()
 }
 
-/// As [`four`], of sixteen words.
+/// As [`four`], of sixteen words: sixteen bits, the first word's the lowest.
 #[inline(always)]
 fn sixteen(rng: &mut ChaCha20Rng, lane: u32, slow: u32) -> u64
     ensures bound { result < 2 ^ 16 }
@@ -156,7 +157,7 @@ fn drawn(rng: &mut ChaCha20Rng, number: CarNo, block: u32, dawdle: u16, change: 
     }
 }
 
-/// Adds copies of `first` up to so many places. Where there are as many already, it adds none.
+/// Adds copies of `first` until there are so many places. Where there are as many already, it adds none.
 ///
 /// # Errors
 ///
@@ -213,7 +214,8 @@ impl Dice {
         drawn(&mut self.rng, 0, 0, self.dawdle, self.change)
     }
 
-    /// Makes room to keep the draws of so many vehicles. Every answer stays what it was.
+    /// Makes room to keep the draws of so many vehicles, and never gives room back. Every answer stays what it was, also where
+    /// memory is refused.
     ///
     /// # Errors
     ///
@@ -230,7 +232,7 @@ impl Dice {
     }
 
     /// The draws kept at the place `at` are put aside, as their vehicle gives up that place: where it is asked for at another
-    /// place, they are found again, unless others were put over them. Takes no memory.
+    /// place, they are found again, unless others were put over them. Without such a place nothing is done. Takes no memory.
     pub fn put_aside(&mut self, at: usize)
         ensures { self.new ≡ self.old }
     {
@@ -241,7 +243,8 @@ impl Dice {
         }
     }
 
-    /// The draws kept at one place are kept at another too, to which their vehicle has gone. Takes no memory.
+    /// The draws kept at one place are kept at another too, to which their vehicle has gone. Without one of the places nothing
+    /// is done. Takes no memory.
     pub fn follow(&mut self, from: usize, to: usize)
         ensures { self.new ≡ self.old }
     {
@@ -306,7 +309,8 @@ impl Dice {
         bit(kept.bits, 2 * (step % 32) + 1)
     }
 
-    /// Whether the draw of a step lets the vehicle change lane. Its draws are kept as those of `dawdles` are. Takes no memory.
+    /// Whether the draw of a step lets the vehicle change lane. Its draws are kept at the place `at`, as those of
+    /// [`Dice::dawdles`] are. Takes no memory.
     pub fn may_change(&mut self, at: usize, step: Step, number: CarNo) -> bool
         ensures value { result ≡ nat_lt (lane_draw self.old.seed number step) self.old.change }
         ensures same { self.new ≡ self.old }

@@ -10,7 +10,7 @@ use rand_core::SeedableRng;
 use rand_core::utils::NextWord;
 use street_base::CarNo;
 
-/// The draw of a word of the cipher, from 0 to 999: the word, scaled.
+/// The draw of a word of the cipher, from 0 to 999: the word, of 32 bits, scaled.
 pub(crate) fn scaled(word: u32) -> u16
     ensures { result ≡ word * 1000 / 2 ^ 32 }
 {
@@ -26,8 +26,9 @@ pub(crate) fn generator(seed: u64) -> ChaCha20Rng
     ChaCha20Rng::from_seed(bytes)
 }
 
-/// The draw, from 0 to 999, of a network's seed at a place of a vehicle's stream: at `2 * step` the one by which it changes
-/// lane or does not, at `2 * step + 1` the one by which it dawdles or does not.
+/// The draw, from 0 to 999, of a network's seed at a place of the stream of the vehicle with the number `car`: at `2 * step`
+/// the one by which it changes lane or does not, at `2 * step + 1` the one by which it dawdles or does not. `Dice` tells
+/// faster whether a draw is below the odds.
 pub fn draw(seed: u64, car: CarNo, place: u64) -> u16
     ensures { result ≡ draw seed car place }
 {

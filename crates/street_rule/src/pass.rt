@@ -13,7 +13,8 @@ use crate::sight::{Outlook, decide, zone_begin};
 use street_base::{LaneNo, Step};
 use street_yard::{Key, Yard};
 
-/// Gives a key its mark, or takes it, as `mark` says. Few change lane, so that mostly nothing is to be written.
+/// Gives a key the mark of one that changes lane, or takes it, as `mark` says. Few change lane, so that mostly nothing is to be
+/// written.
 fn set_mark(yard: &mut Yard, key: Key, mark: bool)
     requires { IsSome (entry_at yard.old key) }
     ensures { yard.new ≡ record yard.old { kept = mark_set yard.old.kept key mark } }
@@ -67,8 +68,8 @@ fn mark_from(
     goes
 }
 
-/// Marks each vehicle of one lane that goes to the other, and takes the mark of each that stays. Answers whether there is one
-/// that goes.
+/// Marks each vehicle of one lane that goes to the other in the step, and takes the mark of each that stays; nobody moves yet.
+/// Answers whether there is one that goes.
 fn mark_pass(yard: &mut Yard, road: &Road<'_>, lane: LaneNo, step: Step, dice: &mut Dice) -> bool
     requires lanes { length road.now.lanes ≡ 2 }
     requires lane { lane ≤ 1 }

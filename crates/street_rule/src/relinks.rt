@@ -6,8 +6,8 @@ ghost use Rattle.street_rule.specs.Prelude.{IsFallen, Carries, Relinks};
 use street_gap::last_above;
 use street_yard::{Key, ListId, Yard};
 
-/// A key goes from its list to another, right behind the key `position` there, or to the front where that is `None`. Its mark is
-/// cleared.
+/// A key goes from its list to another, right behind the key `position` there, or to the front where that is `None`. Its mark
+/// is cleared; its cell and speed stay.
 fn carry(yard: &mut Yard, from: ListId, to: ListId, position: Option<Key>, key: Key)
     requires from { from.0 < length yard.old.lists }
     requires to { to.0 < length yard.old.lists }
@@ -21,8 +21,8 @@ fn carry(yard: &mut Yard, from: ListId, to: ListId, position: Option<Key>, key: 
     yard.insert_behind(to, position, key);
 }
 
-/// Each marked key of one list goes to its position on the other, behind all whose vehicles are above its own, and its mark is
-/// cleared. As cells fall along both lists, each position is sought from the one before on.
+/// Each marked key of the list `from` goes to its position on the list `to`, behind all whose vehicles are above its own, and
+/// its mark is cleared. As cells fall along both lists, each position is sought from the one before on.
 pub(crate) fn relink(yard: &mut Yard, from: ListId, to: ListId)
     requires from { from.0 < length yard.old.lists }
     requires to { to.0 < length yard.old.lists }

@@ -18,8 +18,8 @@ pub struct RoadLane<'a> {
     pub closures: &'a Closures,
 }
 
-/// A link of a network, with the one or two of its lanes that a pass needs. Contracts see the network, the link's position, and for each lane the
-/// list and the closed stretches.
+/// A link of a network, with the one or two of its lanes that a pass needs. Contracts see the network, the link's position, and
+/// for each lane the list and the closed stretches.
 #[derive(Drop)]
 pub struct Road<'a> {
     network: &'a Network,
@@ -43,7 +43,8 @@ impl<'a> Model for Road<'a> {
 }
 
 impl<'a> Road<'a> {
-    /// A link of the network, by its position, with both lanes of two, 0 first, or one alone, whichever it is.
+    /// A link of the network, by its position, with both lanes where it has two, lane 0 as `first`, or with one of its lanes
+    /// alone, whichever it is.
     pub fn new(
         network: &'a Network,
         link: LinkIx,
@@ -63,7 +64,7 @@ impl<'a> Road<'a> {
         }
     }
 
-    /// The network.
+    /// The network that the link is of.
     pub fn network(&self) -> &'a Network
         ensures { result.now ≡ self.now.network }
     {
@@ -78,21 +79,21 @@ impl<'a> Road<'a> {
         self.link
     }
 
-    /// How many cells each lane has.
+    /// How many cells each lane of the link has.
     pub fn length(&self) -> CellNo
         ensures { result ≡ length_of self.now }
     {
         self.length
     }
 
-    /// The greatest speed on the link, in cells a step.
+    /// The speed limit of the link, in cells a step.
     pub fn limit(&self) -> Speed
         ensures { result ≡ (link_at self.now.network self.now.link).limit }
     {
         self.limit
     }
 
-    /// How many lanes there are: 1 or 2.
+    /// How many lanes the road was made with: 1 or 2.
     pub fn lanes(&self) -> LaneNo
         ensures value { result ≡ length self.now.lanes }
         ensures some { 1 ≤ result }
@@ -101,7 +102,8 @@ impl<'a> Road<'a> {
         if self.second.is_some() { 2 } else { 1 }
     }
 
-    /// The lane of a number, 0 or 1.
+    /// One of the lanes that the road was made with, counted from 0: on a road of one lane that is 0, whichever lane of the
+    /// link it is.
     pub fn lane(&self, lane: LaneNo) -> RoadLane<'a>
         requires { lane < length self.now.lanes }
         ensures { lane_seen result ≡ lane_of self.now lane }

@@ -22,9 +22,9 @@ const FAR: CellNo = 16;
 /// The gap behind must be longer than this, in cells.
 const CLOSE_BEHIND: CellNo = 5;
 
-/// Whether a vehicle with this gap ahead wants the other lane: as it is slow (the gap is less than one more than its speed) or, in
-/// the turn zone, as its lane does not serve its next link. In the zone a slow one wants it only where the other lane serves that
-/// link too. `next` is `None` where its plan ends on this link.
+/// Whether a vehicle with this gap ahead (in cells) wants the other lane: as it is slow (the gap is less than one more than its
+/// speed) or, in the turn zone, as its lane does not serve its next link. In the zone a slow one wants it only where the other
+/// lane serves that link too. `next` is `None` where its plan ends on this link.
 fn wishes(
     road: &Road<'_>,
     lane: LaneNo,
@@ -52,7 +52,8 @@ fn wishes(
     }
 }
 
-/// The first cell of the turn zone of a link; the link's length where the zone has no cells.
+/// The first cell of the turn zone at the end of a link: 0 where the zone is as long as the link, the link's length where the
+/// zone has no cells.
 pub(crate) fn zone_begin(road: &Road<'_>) -> CellNo
     ensures { result ≡ length_of road.now - road.now.network.zone }
 {
@@ -60,8 +61,9 @@ pub(crate) fn zone_begin(road: &Road<'_>) -> CellNo
     u64::from(road.length()).saturating_sub(zone) as CellNo
 }
 
-/// Whether the gap from a cell up to an obstacle is less than one more than the speed. The sum where nothing is in sight
-/// takes the place of a branch that the processor cannot predict where there are few vehicles on each lane.
+/// Whether a vehicle in this cell is slow: its gap up to the obstacle is less than one more than its speed. The gap is 16 where
+/// nothing is in sight. To reckon it then with a cell far ahead spares a branch that the processor cannot predict where there
+/// are few vehicles on each lane.
 fn is_slow(obstacle: Option<CellNo>, cell: CellNo, speed: Speed) -> bool
     ensures { result ≡ nat_lt (gap_between obstacle cell) (speed + 1) }
 {
@@ -84,9 +86,9 @@ fn is_unserved(road: &Road<'_>, lane: LaneNo, next: Option<LinkIx>) -> bool
     }
 }
 
-/// Whether a vehicle with this obstacle ahead may want the other lane at all: it is slow, or its lane does not serve its next link
-/// in the turn zone, which begins with the cell `zone`. Whether the other lane does is not asked yet. All is reckoned, for one
-/// branch on the answer.
+/// Whether a vehicle with this obstacle ahead may want the other lane at all: it is slow, or its lane does not serve its next
+/// link in the turn zone, which begins with the cell `zone`. Whether the other lane serves it is not asked yet. All is
+/// reckoned, for one branch on the answer.
 fn may_wish(
     road: &Road<'_>,
     lane: LaneNo,
@@ -103,9 +105,9 @@ fn may_wish(
     is_slow(obstacle, cell, speed) | ((zone <= cell) & is_unserved(road, lane, next))
 }
 
-/// Whether another lane has room for a vehicle of this speed, beside its cells from its front `cell` to its rear: no cell beside is
-/// closed, the gap ahead is above one more than the speed, and the gap behind above 5. `above` is the last key there whose vehicle
-/// is above `cell`. Whoever covers a cell beside leaves no gap, and is not asked for.
+/// Whether another lane has room for a vehicle of this speed, beside its cells from its front `cell` to its rear: no cell
+/// beside is closed, the gap ahead is above one more than the speed, and the gap behind above 5 cells. `above` is the last key
+/// there whose vehicle is above `cell`. Whoever covers a cell beside leaves no gap, and is not asked for.
 fn fits(
     yard: &Yard,
     other: RoadLane<'_>,
@@ -150,9 +152,9 @@ pub(crate) struct Outlook<'a> {
     pub(crate) step: Step,
 }
 
-/// Whether the vehicle of a key, with this gap ahead, goes to the other lane. `above` is as [`decide`] has it. Room is looked for
-/// before the turns of the lanes, which lie farther away in memory; the draw is asked last. It stands apart from the walk, since
-/// most vehicles do not come here.
+/// Whether the vehicle of a key, with this gap ahead (in cells), goes to the other lane, as [`decide`] tells it of a vehicle
+/// that [`may_wish`] lets want it; `above` is as there. Room is looked for before the turns of the lanes, which lie farther
+/// away in memory; the draw is asked last. It stands apart from the walk, since most vehicles do not come here.
 #[inline(never)]
 fn decide_beside(
     yard: &Yard,
@@ -188,8 +190,9 @@ fn decide_beside(
     Decision { above, goes }
 }
 
-/// Whether the vehicle of a key goes to the other lane. `ahead` is the rear of the vehicle ahead; `above` is a key of the
-/// other lane whose vehicle is above the cell beside, from which on to look there, or `None` to look from the front. Nothing of
+/// Whether the vehicle of a key goes to the other lane in the step: it wants to, has room there, and its draw lets it. Nobody
+/// moves. `ahead` is the rear of the vehicle ahead; `above` is a key of the other lane whose vehicle is above the cell beside,
+/// from which on to look there, or `None` to look from the front. The answer has such a key for the next driver too. Nothing of
 /// the other lane is read where [`may_wish`] is false.
 pub(crate) fn decide(
     yard: &Yard,

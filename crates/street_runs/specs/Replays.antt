@@ -46,10 +46,12 @@ CountedStops unread before left after fault =
 
 -- so from one counted stream to another
 module _ {D W : Type 0} (remaining : D → Option (List ℕ)) (contents : W → Option (List ℕ)) where
+  -- the tape was replayed, and the count answered
   abbrev pub ReplaysAndCounts : Counted D → Counted W → Counted D → Counted W → Type 0
   ReplaysAndCounts reader writer read written =
       ReplaysCounted (remaining reader.stream) (contents writer.stream) (remaining read.stream) (contents written.stream)
 
+  -- a fault ended the replay or the count
   abbrev pub ReplayOrCountStops : Counted D → Counted W → Counted D → Counted W → TapeFault → Type 0
   ReplayOrCountStops reader writer read written fault =
       CountedStops (remaining reader.stream) (contents writer.stream) (remaining read.stream) (contents written.stream) fault

@@ -29,6 +29,7 @@ pub record IsOpened {R : Type 0} (desk : DeskView) (place : ℕ) (script : Scrip
   pub replies : script.replies.items ≡ []
   pub fault : IsNone script.fault ↔ IsSome script.file
 
+-- each script is the session of its place, and was not served yet
 abbrev pub AreOpened : {R : Type 0} → DeskView → List (Script R) → Type 0
 AreOpened {R} desk scripts = (k : ℕ) (d : Script R) → k < length scripts → IsOpened desk k (slice_index_or scripts k d)
 

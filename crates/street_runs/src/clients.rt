@@ -63,8 +63,8 @@ pub fn serve_input<'a, R: Threads + Wait + Sync + Input + Print + AllocGlobal + 
     served.and(taped)
 }
 
-/// Serves the lines of a text as the one session of a new desk, as [`run_alone`] does from nothing loaded. It returns how the
-/// run went, the desk, and the pass that has seen its calls.
+/// Serves the lines of a text as the one session of a new desk, with a place for so many calls, as [`run_alone`] does from nothing
+/// loaded. It returns how the run went, the desk, and the pass that has seen its calls.
 ///
 /// # Errors
 ///
@@ -212,7 +212,11 @@ fn answer_scripts<'a, R: Threads + Wait + Sync, W: Write>(
     served.and(printed)
 }
 
-/// A pass for each session, the last first, as a pass gives away the greatest of its sessions.
+/// A pass for each of so many sessions, 1 or more, that of the last first, as a pass gives away the greatest of its sessions.
+///
+/// # Errors
+///
+/// `Starved` where there was no memory for their list.
 fn passes_of(
     alloc: Global,
     desk: &Desk<Unwatched>,
@@ -235,7 +239,12 @@ fn passes_of(
     Ok(passes)
 }
 
-/// The scripts, their files opened in the order of the names. The session of each has its place among them as its number.
+/// The scripts of these names, in order, each with its file opened, and its place among them as the number of its session. One
+/// whose file can not be opened has that fault.
+///
+/// # Errors
+///
+/// `Starved` where there was no memory for their list, or for that of their passes.
 fn open_scripts<'a, R: Threads + Wait + Sync + Files<File = File>>(
     rt: &'a R,
     alloc: Global,
@@ -258,7 +267,11 @@ fn open_scripts<'a, R: Threads + Wait + Sync + Files<File = File>>(
     Ok(scripts)
 }
 
-/// The first fault in the order of the names.
+/// Whether scripts were served to their end.
+///
+/// # Errors
+///
+/// The fault of the first of them that has one, with its name among `names`, which are in the order of the scripts.
 fn first_fault<'a, R: Threads + Wait + Sync>(
     scripts: &[Script<'_, R>],
     names: &[&'a str],
@@ -275,7 +288,11 @@ fn first_fault<'a, R: Threads + Wait + Sync>(
     Ok(())
 }
 
-/// Writes the replies of scripts in their order, and passes them on.
+/// Writes the replies of scripts, in their order, and flushes.
+///
+/// # Errors
+///
+/// `Write` of standard output: the replies are written up to some byte.
 fn print_replies<R: Threads + Wait + Sync, W: Write>(
     writer: &mut Counted<W>,
     scripts: &[Script<'_, R>],
@@ -292,7 +309,8 @@ fn print_replies<R: Threads + Wait + Sync, W: Write>(
     Ok(())
 }
 
-/// The first script's pass, when it has heard a note of every other's. A note takes no memory, so none is left out.
+/// The first script's pass, when it has heard a note of every other's, so that the desk can be ended with it. A note takes no
+/// memory, so none is left out.
 fn told_pass<R: Threads + Wait + Sync>(
     desk: &Desk<Unwatched>,
     mut scripts: Vec<Script<'_, R>>,
@@ -308,7 +326,7 @@ fn told_pass<R: Threads + Wait + Sync>(
     pass
 }
 
-/// Has a pass hear a note of each script's.
+/// Has a pass hear a note of each of these scripts' passes, so that it has seen all that they were told.
 fn hear_all<R: Threads + Wait + Sync>(
     desk: &Desk<Unwatched>,
     pass: &mut Pass<Unwatched>,
@@ -325,7 +343,7 @@ fn hear_all<R: Threads + Wait + Sync>(
     }
 }
 
-/// The pass of a script.
+/// The pass of a script that is done; its replies and fault are dropped.
 fn pass_of<R: Threads + Wait + Sync>(script: Script<'_, R>) -> Pass<Unwatched>
     ensures { result ≡ script.entry.session }
 {
@@ -333,7 +351,8 @@ fn pass_of<R: Threads + Wait + Sync>(script: Script<'_, R>) -> Pass<Unwatched>
     session.into_pass()
 }
 
-/// Has a pass hear a note of another, of the same desk. `Desk::note` always makes one, as its clause `given` says.
+/// Has a pass hear a note of another of the same desk, so that it has seen all that the other has. `Desk::note` always makes one,
+/// as its clause `given` says.
 fn hear_of(desk: &Desk<Unwatched>, pass: &mut Pass<Unwatched>, mut other: Pass<Unwatched>)
     requires { (pass.old.desk ≡ desk.now) × (other.desk ≡ desk.now) }
     ensures same { Same pass.old pass.new }

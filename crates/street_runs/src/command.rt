@@ -11,7 +11,7 @@ use std::alloc::{AllocError, Global};
 /// The program's version.
 const VERSION: &str = "1.0.0";
 
-/// A word with no value.
+/// What the parser is told of a word with no value: its name, which is said behind two dashes, and its text in the help.
 fn flag<'a>(alloc: Global, name: &'a str, help: &'a str) -> Arg<'a>
     ensures rule { rule_of result ≡ flag_rule name.entry.now }
     ensures local { result.global ≡ false }
@@ -22,7 +22,8 @@ fn flag<'a>(alloc: Global, name: &'a str, help: &'a str) -> Arg<'a>
         .help(help)
 }
 
-/// An option with one value.
+/// What the parser is told of an option with one value: its name, which is said behind two dashes, the word for its value, and its
+/// text in the help.
 fn option<'a>(alloc: Global, name: &'a str, value: &'a str, help: &'a str) -> Arg<'a>
     ensures rule { rule_of result ≡ option_rule name.entry.now }
     ensures local { result.global ≡ false }
@@ -34,7 +35,7 @@ fn option<'a>(alloc: Global, name: &'a str, value: &'a str, help: &'a str) -> Ar
         .help(help)
 }
 
-/// The scripts, of which there may be any number.
+/// What the parser is told of the scripts, of which it takes any number.
 fn scripts<'a>(alloc: Global) -> Arg<'a>
     ensures rule { rule_of result ≡ script_rule }
     ensures local { result.global ≡ false }
@@ -46,7 +47,11 @@ fn scripts<'a>(alloc: Global) -> Arg<'a>
         .help("Files of commands, at most 1024. Each is a session with a thread of its own")
 }
 
-/// The options, and then the scripts.
+/// What the parser is told of all words: the options, and then the scripts.
+///
+/// # Errors
+///
+/// `AllocError` where there was no memory for it.
 fn arguments<'a>(alloc: Global) -> Result<Vec<Arg<'a>>, AllocError>
     ensures rules { IfOk result (λ v. map rule_of v.items ≡ streetsim_rules) }
     ensures local { IfOk result (λ v. All (λ a. a.global ≡ false) v.items) }
@@ -105,7 +110,11 @@ fn arguments<'a>(alloc: Global) -> Result<Vec<Arg<'a>>, AllocError>
     ]?)
 }
 
-/// The command `streetsim`.
+/// What the parser is told of the command `streetsim`: its words, its help and its version.
+///
+/// # Errors
+///
+/// `AllocError` where there was no memory for it.
 pub(crate) fn streetsim<'a>(alloc: Global) -> Result<Command<'a>, AllocError>
     ensures { IfOk result (λ command. app_of command ≡ streetsim_app) }
 {

@@ -25,7 +25,7 @@ const CALLS: u64 = 65_536;
 const COMPANY: &str =
     "the arguments '--endless' and '--keep <FILE>' cannot be used with scripts, '--calls <N>', '--tape <FILE>', '--replay <FILE>' or '--upgrade <FILE>'";
 
-/// The number that a word says, where it is from 1 to `most`.
+/// The number that a word says in decimal digits, where it is from 1 to `most`; none for any other word.
 fn number_of(word: &str, most: u64) -> Option<u64>
     ensures { SomeIff result (IsCount most word.now) (digits_value 10 (without_leading_plus word.now)) }
 {
@@ -35,7 +35,11 @@ fn number_of(word: &str, most: u64) -> Option<u64>
     }
 }
 
-/// The number of an option, from 1 to `most`, or the default where the option is not used.
+/// The number that is said of the option of this name, from 1 to `most`, or the default where the option is not used.
+///
+/// # Errors
+///
+/// `Bad` where something else is said; `Starved` where memory was refused to tell so.
 fn number(
     alloc: Global,
     command: &mut Command<'_>,
@@ -62,7 +66,7 @@ fn number(
     Err(bad_words(command, ErrorKind::ValueValidation, text.as_str()))
 }
 
-/// Whether a word with no value is said.
+/// Whether the word of this name, which has no value, is said.
 fn is_said(matches: &ArgMatches<'_>, name: &str) -> bool
     ensures { result ≡ is_said (first_of name.now (rows_of (found_of matches.now))) }
 {
@@ -72,7 +76,7 @@ fn is_said(matches: &ArgMatches<'_>, name: &str) -> bool
     }
 }
 
-/// The fault that tells what is wrong with the words.
+/// The fault of words that are wrong in this way, with this text; `Starved` where memory was refused for it.
 fn bad_words(command: &mut Command<'_>, kind: ErrorKind, text: &str) -> WordsFault
     ensures { TellsBad kind result }
 {
@@ -101,7 +105,11 @@ pub fn options<'a>(alloc: Global, words: &'a [String]) -> Result<Options<'a>, Wo
     }
 }
 
-/// The options that words ask this command for.
+/// The options that words ask this command for, the program's name first.
+///
+/// # Errors
+///
+/// Those of [`options`].
 fn asked<'a>(
     alloc: Global,
     command: &mut Command<'a>,
@@ -117,7 +125,11 @@ fn asked<'a>(
     matched(alloc, command, &matches)
 }
 
-/// The options that the parser's matches say.
+/// The options that the parser's matches say, with the defaults of those that they do not say.
+///
+/// # Errors
+///
+/// `Bad` where a number is out of its range, or options do not stand together; `Starved` where memory was refused.
 fn matched<'a>(
     alloc: Global,
     command: &mut Command<'a>,
@@ -153,7 +165,11 @@ fn matched<'a>(
     }
 }
 
-/// The scripts that the words name, in order.
+/// The scripts that the words name, in their order: the words that are no options and no values of one.
+///
+/// # Errors
+///
+/// `AllocError` where there was no memory for the list.
 fn named_scripts<'a>(alloc: Global, matches: &ArgMatches<'a>) -> Result<Vec<&'a str>, AllocError>
     ensures scripts { IfOk result (λ v. map (λ s. s.now) v.items
         ≡ unwrap_or (option_map raw_values (matched_of (found_of matches.now) (codes "script"))) []) }
@@ -166,7 +182,8 @@ fn named_scripts<'a>(alloc: Global, matches: &ArgMatches<'a>) -> Result<Vec<&'a 
     Ok(scripts)
 }
 
-/// What is wrong with these options together, if anything is.
+/// What is wrong with these options together, if anything is: a replay or an upgrade beside what it excludes, or too many scripts.
+/// What `--endless` and `--keep` exclude is `misfit_alone`.
 fn misfit(found: &Options<'_>) -> Option<(ErrorKind, &'static str)>
     ensures none { IsNone result → StandsTogether found.now × (vec_len found.now.scripts ≤ most_sessions) }
     ensures some { IsSome result → StandsTogether found.now → most_sessions < vec_len found.now.scripts }
@@ -202,7 +219,7 @@ fn is_deskless(found: &Options<'_>) -> bool
     found.keep.is_some()
 }
 
-/// Whether scripts or tapes are there.
+/// Whether scripts, a tape to write, a replay or an upgrade are asked for, beside which `--endless` and `--keep` may not stand.
 fn has_company(found: &Options<'_>) -> bool
     ensures not { result ≡ false → HasNoCompany found.now }
     ensures is { result ≡ true → HasNoCompany found.now → ⊥ }
@@ -230,8 +247,8 @@ fn lacks_file(found: &Options<'_>) -> bool
     found.keep.is_none()
 }
 
-/// What is wrong with these options where there is no desk, if anything is. `says_calls` tells whether the words say how many calls
-/// there are.
+/// What is wrong with `--endless`, `--keep` and `--unsynced` among these options, if anything is. `says_calls` tells whether the
+/// words say how many calls there are.
 fn misfit_alone(found: &Options<'_>, says_calls: bool) -> Option<(ErrorKind, &'static str)>
     ensures none { IsNone result → StandsAlone found.now × (IsDeskless found.now → says_calls ≡ false) }
     ensures some { IsSome result → StandsAlone found.now → IsDeskless found.now × (says_calls ≡ true) }

@@ -19,7 +19,8 @@ use street_base::Starved;
 use street_engine::{Engine, Unwatched};
 use street_line::{Counted, EngineSession, RunFault, Tally, TeamSession, run_engine, run_team};
 
-/// Serves standard input by an engine alone, and writes each reply as it comes.
+/// Serves standard input by an engine alone, with up to so many workers, 1 to 64, and writes each reply as it comes. No call is
+/// kept, so there is no end of calls.
 ///
 /// # Errors
 ///

@@ -33,6 +33,7 @@ impl fmt::Display for Fault<'_> {
 
     ghost output = { λ fault. Some (text_of fault) };
 
+    /// The text that is told of a fault, with no LF.
     fn fmt<W: fmt::Write>(&self, f: &mut fmt::Formatter<W>) -> fmt::Result {
         match self {
             Fault::BadArguments => write!(f, "bad arguments"),
@@ -46,7 +47,7 @@ impl fmt::Display for Fault<'_> {
 }
 
 impl<'a> Fault<'a> {
-    /// The status that the program ends with.
+    /// The status that the program ends with: 2 for bad arguments, else 1.
     pub fn status(self) -> u8
         ensures { result ≡ status_of self.entry }
     {
@@ -56,7 +57,7 @@ impl<'a> Fault<'a> {
         }
     }
 
-    /// The fault of a run that reads one thing and writes another, by their names.
+    /// The fault of a run that reads one thing and writes another: `read` and `written` are their names, as they are told.
     pub fn of_run(kind: FaultKind, read: &'a str, written: &'a str) -> Fault<'a>
         ensures { result ≡ fault_of_run kind read.entry written.entry }
     {
@@ -85,6 +86,7 @@ impl From<Starved> for Fault<'_> {
 
     ghost from_gives = { λ _ fault. fault ≡ OutOfMemory };
 
+    /// Lack of memory, as a fault of the program.
     fn from(_error: Starved) -> Self {
         Fault::OutOfMemory
     }

@@ -25,9 +25,9 @@ use street_line::{
 ///
 /// # Errors
 ///
-/// `Read` with the file's name where it is no file that can be read, `Write` where it can not be written, locked, cut off or synced,
-/// or where that fails later; `BadTape` at its first line that is no command, or is refused: nothing was served then, and the file
-/// is as it was. Else the fault of the session.
+/// `Read` with the file's name where something else than a file has that name, or a read of it failed; `Write` where it can not be
+/// opened, made, locked, cut off or synced, or where a write or sync fails later; `BadTape` at its first line that is no command, or is
+/// refused: nothing was served then, and the file is as it was. Else the fault of the session.
 pub fn serve_kept<
     'a,
     R: Threads + Wait + Sync + Input + Print + Eprint + AllocGlobal + Files<File = File>,
@@ -45,7 +45,9 @@ pub fn serve_kept<
     serve_in(rt, &mut session, name, syncs)
 }
 
-/// Does the lines of the file, and serves standard input by this service as a session that is kept there.
+/// Opens the file of this name, or makes it, and locks it; does its lines by this service, cuts off what a crash left behind them, and
+/// tells on standard error how many were done again. Then it serves standard input by this service as a session that is kept there;
+/// synced where `syncs` is true.
 ///
 /// # Errors
 ///
@@ -77,7 +79,7 @@ fn serve_in<'a, S: Service, R: Input + Print + Eprint + AllocGlobal + Files<File
     }
 }
 
-/// The fault of lines that were to be done again, by the name of their file.
+/// The fault of the program where the lines of the file of this name were not all done again.
 fn fault_of_again<'a>(fault: AgainFault, name: &'a str) -> Fault<'a>
     ensures { result ≡ again_fault fault name.entry }
 {
@@ -87,7 +89,7 @@ fn fault_of_again<'a>(fault: AgainFault, name: &'a str) -> Fault<'a>
     }
 }
 
-/// The fault of a session that is kept in the file of this name.
+/// The fault of the program where a session that is kept in the file of this name ended so.
 fn fault_of_kept<'a>(fault: KeptFault, name: &'a str) -> Fault<'a>
     ensures { IsKeptFault fault name.entry result }
 {
@@ -144,7 +146,11 @@ fn settle<'a, R: Files<File = File>>(
     }
 }
 
-/// Cuts the file off behind so many bytes, where it has more, and syncs it and its folder where `syncs` is true.
+/// Cuts the file off behind its first `bytes` bytes, where it has more, and syncs it and its folder where `syncs` is true.
+///
+/// # Errors
+///
+/// That of the file or of its folder; the file may be cut off then.
 fn cut_and_sync<R: Files<File = File>>(
     rt: &R,
     file: &File,
@@ -162,7 +168,7 @@ fn cut_and_sync<R: Files<File = File>>(
     Ok(())
 }
 
-/// The folder of a file.
+/// The folder that a file of this name is in: all before the last `/`, and `.` where there is none.
 fn folder_of(name: &str) -> &str {
     match name.rsplit_once('/') {
         Some(("", _name)) => "/",
@@ -171,7 +177,7 @@ fn folder_of(name: &str) -> &str {
     }
 }
 
-/// Tells on standard error how many lines were done again, where there were some.
+/// Tells on standard error how many lines of the file of this name were done again, where there were some.
 fn tell(rt: &impl Eprint, again: Again, name: &str) {
     if again.lines > 0 {
         let lines = again.lines;

@@ -38,6 +38,7 @@ impl Log for LogFile {
 
     ghost has_failed = { λ log. log.has_failed ≡ true };
 
+    /// Writes these bytes behind the end of the file, or the first of them, and answers how many. Notes a failure.
     fn append(&mut self, bytes: &[u8]) -> io::Result<usize> {
         let result = self.file.write(bytes);
         match result {
@@ -47,6 +48,7 @@ impl Log for LogFile {
         result
     }
 
+    /// Has what was written outlive the machine, where that is asked for; else does nothing. Notes a failure.
     fn sync(&mut self) -> io::Result<()> {
         if !self.syncs {
             return Ok(());

@@ -27,7 +27,11 @@ pub const STANDARD_INPUT: &str = "standard input";
 /// The name of standard output in faults.
 pub const STANDARD_OUTPUT: &str = "standard output";
 
-/// Writes a text to standard output.
+/// Writes a text to standard output, with no flush.
+///
+/// # Errors
+///
+/// `Write` of standard output: the text is written up to some byte.
 pub fn write_out<W: Write>(writer: &mut Counted<W>, text: &[u8]) -> Result<(), Fault<'static>>
     ensures written { OnOk result (Appends (W.contents writer.old.stream) (W.contents writer.new.stream) text.now) }
     ensures part { OnErr result (IsBegun (W.contents writer.old.stream) (W.contents writer.new.stream) text.now) }
@@ -39,7 +43,11 @@ pub fn write_out<W: Write>(writer: &mut Counted<W>, text: &[u8]) -> Result<(), F
     Ok(())
 }
 
-/// Passes on what standard output was given.
+/// Flushes standard output.
+///
+/// # Errors
+///
+/// `Write` of standard output.
 pub fn pass_on<W: Write>(writer: &mut Counted<W>) -> Result<(), Fault<'static>>
     ensures kept { Keeps (W.contents writer.old.stream) (W.contents writer.new.stream) }
     ensures flushed { OnOk result (IsFlushed writer.new) }
@@ -51,7 +59,11 @@ pub fn pass_on<W: Write>(writer: &mut Counted<W>) -> Result<(), Fault<'static>>
     Ok(())
 }
 
-/// Writes a text to standard output, and passes it on.
+/// Writes a text to standard output, and flushes.
+///
+/// # Errors
+///
+/// `Write` of standard output: the text is written up to some byte.
 pub fn print_text<W: Write>(writer: &mut Counted<W>, text: &[u8]) -> Result<(), Fault<'static>>
     ensures written { OnOk result (Appends (W.contents writer.old.stream) (W.contents writer.new.stream) text.now) }
     ensures flushed { OnOk result (IsFlushed writer.new) }
@@ -62,7 +74,12 @@ pub fn print_text<W: Write>(writer: &mut Counted<W>, text: &[u8]) -> Result<(), 
     pass_on(writer)
 }
 
-/// Ends the desk and writes its tape to the file of this name. With no name no tape is asked for, and none is written.
+/// Ends the desk and writes its tape to a new file of this name, in the place of one that is there. With no name no tape is asked
+/// for, and none is written.
+///
+/// # Errors
+///
+/// `Write` with the file's name, or `OutOfMemory`.
 pub fn keep_tape<'a, R: Files<File = File>>(
     rt: &R,
     alloc: Global,
@@ -80,8 +97,8 @@ pub fn keep_tape<'a, R: Files<File = File>>(
     end_with_tape(alloc, desk, pass, &mut Counted::new(file), name)
 }
 
-/// Ends the desk and writes its journal as a tape, under this name in faults. A desk that was left within a turn is told as
-/// a tape that could not be written.
+/// Ends the desk by the pass that has seen all, and writes its journal as a tape; faults tell this name. A desk that was left
+/// within a turn, as a thread of it ended there, is told as a tape that could not be written.
 fn end_with_tape<'a, W: Write>(
     alloc: Global,
     desk: Desk<Unwatched>,
@@ -102,7 +119,7 @@ fn end_with_tape<'a, W: Write>(
     }
 }
 
-/// Writes a journal as a tape, under this name in faults.
+/// Writes a journal as a tape; faults tell this name.
 fn write_journal<'a, W: Write>(
     alloc: Global,
     journal: &Journal,
@@ -121,21 +138,29 @@ fn write_journal<'a, W: Write>(
     }
 }
 
-/// Makes a file to be written.
+/// Makes a file of this name to be written, empty, in the place of one that is there.
+///
+/// # Errors
+///
+/// `Write` with its name, or `OutOfMemory`.
 fn create_file<'a, R: Files<File = File>>(rt: &R, name: &'a str) -> Result<File, Fault<'a>>
     ensures { IfErr result (IsFileFault (Write name.entry)) }
 {
     File::create(rt, name).map_err(|error| of_file(&error, Fault::Write(name)))
 }
 
-/// Opens a file to be read.
+/// Opens the file of this name to be read.
+///
+/// # Errors
+///
+/// `Read` with its name, or `OutOfMemory`.
 pub fn open_file<'a, R: Files<File = File>>(rt: &R, name: &'a str) -> Result<File, Fault<'a>>
     ensures { IfErr result (IsFileFault (Read name.entry)) }
 {
     File::open(rt, name).map_err(|error| of_file(&error, Fault::Read(name)))
 }
 
-/// The fault of a file that could not be opened, perhaps because memory ran out.
+/// The fault of a file where this error came: `OutOfMemory` where memory ran out, else the one that is given.
 pub(crate) fn of_file<'a>(error: &io::Error, otherwise: Fault<'a>) -> Fault<'a>
     ensures starved { LacksMemory error.now → result ≡ OutOfMemory }
     ensures other { (LacksMemory error.now → ⊥) → result ≡ otherwise.entry }

@@ -78,7 +78,11 @@ fn replay_and_count<R: Threads + Sync, D: Read, W: Write>(
     }
 }
 
-/// Writes the line of a reply, and passes it on.
+/// Writes the line of a reply, with LF, and flushes.
+///
+/// # Errors
+///
+/// `Starved` where there was no memory for the line: nothing is written; `Write` where it was not written whole.
 fn print_reply<W: Write>(
     alloc: Global,
     reply: &Reply,

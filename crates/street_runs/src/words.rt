@@ -12,7 +12,7 @@ use thiserror::Error;
 /// What the words ask for. Files are named as in the words.
 #[derive(Debug, PartialEq, Eq, Drop)]
 pub struct Options<'a> {
-    /// How many threads share each step, 1 to 64.
+    /// At most how many workers share each step, 1 to 64.
     pub workers: u32,
     /// How many calls there is a place for, 1 to 1,000,000.
     pub calls: u64,
@@ -51,6 +51,7 @@ pub enum WordsFault {
 impl From<clap::Error> for WordsFault {
     ghost from_gives = { ToldOf };
 
+    /// What the parser told, as the reason why there are no options: help, lack of memory, or bad words.
     fn from(error: clap::Error) -> WordsFault {
         match error.kind() {
             ErrorKind::DisplayHelp | ErrorKind::DisplayVersion => WordsFault::Help(error),
@@ -63,6 +64,7 @@ impl From<clap::Error> for WordsFault {
 impl From<AllocError> for WordsFault {
     ghost from_gives = { λ _ fault. fault ≡ Starved };
 
+    /// Lack of memory, as the reason why there are no options.
     fn from(_error: AllocError) -> WordsFault {
         WordsFault::Starved
     }

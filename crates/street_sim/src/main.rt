@@ -22,6 +22,7 @@ use street_runs::{
     serve_input, serve_kept, serve_scripts, upgrade_tape,
 };
 
+/// The program: does what the words of the command line ask for, and ends with status 0, or with that of the fault that it tells.
 fn main(rt: HostRuntime) -> ExitCode {
     match program_words(&rt) {
         Ok(words) => run(&rt, words.as_slice()),
@@ -30,7 +31,7 @@ fn main(rt: HostRuntime) -> ExitCode {
     }
 }
 
-/// Does what the words ask for, and tells what goes wrong.
+/// Does what the words ask for, tells what goes wrong on standard error, and answers the status. Help goes to standard output.
 fn run<R: Threads + Wait + Sync + Input + Print + Eprint + AllocGlobal + Files<File = File>>(
     rt: &R,
     words: &[String],
@@ -49,7 +50,7 @@ fn run<R: Threads + Wait + Sync + Input + Print + Eprint + AllocGlobal + Files<F
     }
 }
 
-/// Ends with what became of a run: its fault is told.
+/// The status of the program after a run that went so: 0, or that of its fault, which is told on standard error.
 fn end_with(rt: &impl Eprint, run: Result<(), Fault<'_>>) -> ExitCode
     ensures done { OnOk run.entry (exit_status result ≡ 0) }
     ensures broken { IfErr run.entry (λ fault. exit_status result ≡ status_of fault) }
@@ -60,7 +61,7 @@ fn end_with(rt: &impl Eprint, run: Result<(), Fault<'_>>) -> ExitCode
     }
 }
 
-/// Tells a fault on standard error. Where that fails too, the status alone tells it.
+/// Tells a fault on standard error, and answers its status. Where that fails too, the status alone tells it.
 fn tell(rt: &impl Eprint, fault: Fault<'_>) -> ExitCode
     ensures { exit_status result ≡ status_of fault.entry }
 {
@@ -68,7 +69,7 @@ fn tell(rt: &impl Eprint, fault: Fault<'_>) -> ExitCode
     ExitCode::from(fault.status())
 }
 
-/// Tells on standard error that the words are wrong, and in a line of its own which one and why.
+/// Tells on standard error that the words are wrong, and in a line of its own which one and why. Answers status 2.
 fn tell_words(rt: &impl Eprint, why: &str) -> ExitCode
     ensures { exit_status result ≡ status_of faults.BadArguments }
 {

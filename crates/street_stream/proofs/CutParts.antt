@@ -1,5 +1,5 @@
 -- A text that is cut into lines a part at a time.
-use Rattle.std.proofs.Common.{◌≡◌, ◌≢◌, ℕ, zero, suc, ◌<◌, ◌==◌, arith, List, [], ◌∷◌, ◌++◌, length, take, drop, ◌+◌, slice_index, true, false, inl, inr, refl, sym, ap, ◌∙◌, subst, append_assoc, append-nil, eq-eqb}
+use Rattle.std.proofs.Common.{◌≡◌, ℕ, zero, suc, ◌<◌, ◌==◌, arith, List, [], ◌∷◌, ◌++◌, length, take, drop, ◌+◌, slice_index, true, inl, inr, refl, sym, ap, ◌∙◌, append_assoc, eq-eqb}
 use Rattle.std.proofs.lemmas.List.{take_more, take-append-drop, length-drop, get_or-drop}
 use Rattle.std.proofs.lemmas.Bool.{cases_eq, ne_eqb, eqb-true}
 use Rattle.street_stream.proofs.Cut.{cut_inside, cut_newline, cut_none}

@@ -1,5 +1,5 @@
 -- What a log holds goes on.
-use Rattle.std.proofs.Common.{◌≡◌, ℕ, List, [], ◌++◌, Option}
+use Rattle.std.proofs.Common.{ℕ, List, [], ◌++◌, Option}
 use Rattle.std.proofs.KnownBytes.{Appends-nil, Appends-trans}
 use Rattle.street_stream.specs.Logs.{Extends}
 

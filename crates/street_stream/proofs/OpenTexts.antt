@@ -1,5 +1,5 @@
 -- A text that goes on from a line that has not ended.
-use Rattle.std.proofs.Common.{◌≡◌, ℕ, List, [], Option, refl}
+use Rattle.std.proofs.Common.{ℕ, List, [], Option, refl}
 use Rattle.std.proofs.KnownBytes.{Appends-nil}
 use Rattle.street_stream.proofs.CutParts.{cut_alone}
 use Rattle.street_stream.specs.HandledLines.{Effect, IsTally}

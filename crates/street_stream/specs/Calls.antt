@@ -10,9 +10,11 @@ use Rattle.street_stream.specs.declared.tally.FaultKind.TheVariants.{Read, Write
 abbrev pub Gives : Type 0 → Type 1
 Gives R = R → List ℕ → Result ℕ Error → R → List ℕ → Type 0
 
+-- what a write takes, of these bytes, and what it gives
 abbrev pub Takes : Type 0 → Type 1
 Takes W = W → List ℕ → Result ℕ Error → W → Type 0
 
+-- what a flush does, and what it gives
 abbrev pub Passes : Type 0 → Type 1
 Passes W = W → Result (Unit {0}) Error → W → Type 0
 
@@ -37,9 +39,11 @@ IsCutShort {W} takes passes old new = OnlyWrites takes old new ⊎ ((mid : W) ×
 
 -- ---- the reader
 
+-- one read, whatever it gave
 abbrev pub IsRead : {R : Type 0} → Gives R → R → R → Type 0
 IsRead gives old new = (buffer : List ℕ) × (result : Result ℕ Error) × (filled : List ℕ) × gives old buffer result new filled
 
+-- one read, and it failed
 abbrev pub IsReadThatFailed : {R : Type 0} → Gives R → R → R → Type 0
 IsReadThatFailed gives old new = (buffer : List ℕ) × (error : Error) × (filled : List ℕ) × gives old buffer (Err error) new filled
 

@@ -20,14 +20,17 @@ pub record Effect : Type 0 where
   pub is_call : Bool
   pub reply : Option (List ℕ)
 
+-- there is a text, perhaps of no bytes
 abbrev pub has_text : Option (List ℕ) → Bool
 has_text None = false
 has_text (Some out) = true
 
+-- the bytes of the text, none where there is no text
 abbrev pub text_in : Option (List ℕ) → List ℕ
 text_in None = []
 text_in (Some out) = out
 
+-- the line gets a reply
 abbrev pub has_reply : Effect → Bool
 has_reply e = has_text e.reply
 
@@ -37,6 +40,7 @@ GivesText (Ok None) reply = reply ≡ None
 GivesText (Ok (Some text)) reply = reply ≡ Some text.items
 GivesText (Err starved) reply = (out : List ℕ) × (0 < length out) × (reply ≡ Some out)
 
+-- the answer tells what the line gave
 pub record Gives (answer : Answer) (effect : Effect) : Type 0 where
   pub is_call : answer.is_call ≡ effect.is_call
   pub text : GivesText answer.reply effect.reply
@@ -64,9 +68,11 @@ abbrev pub output : List Effect → List ℕ
 output [] = []
 output (e ∷ es) = text_in e.reply ++ output es
 
+-- how many of the lines were calls
 abbrev pub calls_in : List Effect → ℕ
 calls_in es = count_by (λ e. e.is_call) es
 
+-- how many of them get a reply
 abbrev pub replies_in : List Effect → ℕ
 replies_in es = count_by has_reply es
 

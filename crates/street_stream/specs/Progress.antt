@@ -1,8 +1,8 @@
 -- A run of lines as far as it has come.
 -- Source: this profile.
-use Rattle.std.specs.Prelude.{◌≡◌, ℕ, ◌+◌, ◌*◌, ◌^◌, ◌<◌, ◌≤◌, List, [], ◌++◌, length, take, if◌then◌else◌, Option, Some, Result, Ok, Err, ⊤}
+use Rattle.std.specs.Prelude.{◌≡◌, ℕ, ◌+◌, ◌*◌, ◌^◌, ◌<◌, ◌≤◌, List, [], ◌++◌, length, take, if◌then◌else◌, Option, Some, Result, Ok, Err, OnOk, IfErr, ⊤}
 use Rattle.std.specs.Io.KnownBytes.{Appends}
-use Rattle.street_stream.specs.Faults.{IsAtRead}
+use Rattle.street_stream.specs.Faults.{IsAtRead, IsCausedByLine}
 use Rattle.street_stream.specs.HandledLines.{Effect, Meaning, has_reply, text_in, Handles, output, IsTally, Breaks}
 use Rattle.street_stream.specs.Lines.{cut, lines_of, IsPart}
 use Rattle.street_stream.specs.declared.answer.Cause.{Cause}
@@ -131,6 +131,30 @@ module _ {S Stop W : Type 0} (meaning : Meaning S Stop) (contents : W → Option
   abbrev pub FinishStops : S → Counted W → Progress → S → Counted W → Progress → Cause Stop → Type 0
   FinishStops old writer progress new written ended cause =
       FinishBreaks meaning.takes meaning.stops meaning.longest old (contents writer.stream) progress new (contents written.stream) cause ended.tally
+
+  -- what became of the line of this part: it was handled and counted; or it ended the run, or its reply is not whole, and why is told
+  pub record TakesLine (old : S) (writer : Counted W) (part : PartialLine) (tally : Tally) (done : Result (Unit {0}) (Cause Stop))
+      (new : S) (written : Counted W) (counted : Tally) : Type 0 where
+    pub taken : OnOk done (TakesTo old writer part tally new written counted)
+    pub grows : OnOk done (Grows tally counted 1)
+    pub broken : IfErr done (TakeStops old writer part tally new written counted)
+    pub caused : IfErr done (λ cause. IsCausedByLine cause written)
+
+  -- what became of these bytes, in which so many lines end at most: they were fed, or the run ended in them, and why is told
+  pub record FeedsBytes (old : S) (writer : Counted W) (progress : Progress) (bytes : List ℕ) (lines : ℕ) (done : Result (Unit {0}) (Cause Stop))
+      (new : S) (written : Counted W) (fed : Progress) : Type 0 where
+    pub feeds : OnOk done (FeedsTo old writer progress bytes new written fed)
+    pub grows : OnOk done (Grows progress.tally fed.tally lines)
+    pub broken : IfErr done (FeedStops old writer progress bytes new written fed)
+    pub caused : IfErr done (λ cause. IsCausedByLine cause written)
+
+  -- what became of the end of the text: its last line was handled, where it had none or one without an end, or it ended the run, and why is told
+  pub record FinishesText (old : S) (writer : Counted W) (progress : Progress) (done : Result (Unit {0}) (Cause Stop))
+      (new : S) (written : Counted W) (over : Progress) : Type 0 where
+    pub finishes : OnOk done (FinishesTo old writer progress new written over)
+    pub grows : OnOk done (Grows progress.tally over.tally 1)
+    pub broken : IfErr done (FinishStops old writer progress new written over)
+    pub caused : IfErr done (λ cause. IsCausedByLine cause written)
 
 -- how a run ended that has come so far
 abbrev pub ended : {T Stop : Type 0} → Result T (Cause Stop) → Progress → Result Tally (Halt Stop)

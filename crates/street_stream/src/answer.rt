@@ -38,6 +38,7 @@ pub struct Halt<S> {
 impl<S> From<FaultKind> for Cause<S> {
     ghost from_gives = { λ kind cause. cause ≡ causes.Run kind };
 
+    /// A fault of a run, as the cause that ended it.
     fn from(kind: FaultKind) -> Cause<S> {
         Cause::Run(kind)
     }
@@ -46,6 +47,7 @@ impl<S> From<FaultKind> for Cause<S> {
 impl<S> From<Starved> for Cause<S> {
     ghost from_gives = { λ _ cause. cause ≡ causes.Run kinds.Starved };
 
+    /// Lack of memory, as the cause that ended a run: the fault `Starved`.
     fn from(_error: Starved) -> Cause<S> {
         Cause::Run(FaultKind::Starved)
     }

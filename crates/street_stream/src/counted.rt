@@ -43,7 +43,7 @@ impl<T> Counted<T> {
         }
     }
 
-    /// The reader or writer.
+    /// Gives back the reader or writer, as its calls have left it. The counts are dropped.
     pub fn into_inner(self) -> T
         ensures { result ≡ self.stream }
     {
@@ -71,7 +71,8 @@ impl<T> Counted<T> {
         self.empty_writes
     }
 
-    /// Whether each read but the first was made right behind a flush of the writer that did not fail.
+    /// Of a reader: whether each read was made by [`read_behind`](Self::read_behind), and each but the first right behind a flush
+    /// of the writer that did not fail. False before the first read.
     pub fn is_prompt(&self) -> bool
         ensures { result ≡ self.now.is_prompt }
     {
@@ -104,6 +105,8 @@ impl<R: Source> Counted<R> {
 impl<R: Source> Read for Counted<R> {
     ghost remaining = { λ c. R.remaining c.stream };
 
+    /// Reads once into the buffer, and counts the call, and its failure. The read stands behind no writer: from then on the reader
+    /// is not prompt.
     fn read(&mut self, buffer: &mut [u8]) -> io::Result<usize>
         ensures bound { ReadsAtMost result buffer.new }
         ensures bytes { ReadConsumes (R.remaining self.old.stream) (R.remaining self.new.stream) result buffer.new }
@@ -127,6 +130,8 @@ impl<R: Source> Read for Counted<R> {
 impl<W: Sink> Write for Counted<W> {
     ghost contents = { λ c. W.contents c.stream };
 
+    /// Writes once, and counts the call, its failure, and that it took no byte. What was taken may wait in the writer until a
+    /// flush.
     fn write(&mut self, bytes: &[u8]) -> io::Result<usize>
         ensures bound { WritesAtMost result bytes.now }
         ensures bytes { WriteAppends (W.contents self.old.stream) (W.contents self.new.stream) result bytes.now }
@@ -150,6 +155,7 @@ impl<W: Sink> Write for Counted<W> {
         result
     }
 
+    /// Flushes once, counts the call and its failure, and keeps whether it went well.
     fn flush(&mut self) -> io::Result<()>
         ensures bytes { Keeps (W.contents self.old.stream) (W.contents self.new.stream) }
         ensures once { W.passes self.old.stream result self.new.stream }

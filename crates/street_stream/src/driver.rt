@@ -4,10 +4,9 @@
 ghost use Rattle.std.specs.Prelude.{◌≡◌, ◌+◌, ◌^◌, ◌<◌, [], ◌∷◌, ◌++◌, IfOk, OnOk, IfErr, OnErr, length};
 ghost use Rattle.street_stream.specs.Calls.{OnlyWrites, PassesOn, IsCutShort, AreRounds, BreaksOff};
 ghost use Rattle.street_stream.specs.Streams.{IsFlushed, IsFresh, IsPrompt};
-ghost use Rattle.street_stream.specs.Faults.{IsCausedByLine};
 ghost use Rattle.street_stream.specs.HandledLines.{Drives, IsTally};
 ghost use Rattle.street_stream.specs.Lines.{IsInsideLine, IsPart};
-ghost use Rattle.street_stream.specs.Progress.{IsWithin, Grows, TakesTo, TakeStops, FeedsTo, FeedStops, FinishesTo, FinishStops, ended};
+ghost use Rattle.street_stream.specs.Progress.{IsWithin, TakesLine, FeedsBytes, FinishesText, ended};
 
 use crate::answer::{Answer, Cause, Halt};
 use crate::counted::Counted;
@@ -18,6 +17,9 @@ use crate::tally::{FaultKind, Tally};
 use crate::writes::{flush_out, write_reply};
 use memchr::memchr;
 use std::alloc::Global;
+
+/// The most bytes that a run takes by one read.
+pub const READ_SIZE: usize = 4096;
 
 /// What a run may come to.
 #[derive(Debug, Clone, Copy, PartialEq, Eq)]
@@ -35,7 +37,12 @@ pub(crate) struct Progress {
     pub(crate) tally: Tally,
 }
 
-/// A line has ended: it is handled, and its reply written.
+/// Handles a line that has ended, of which `part` has the bytes, and writes its reply, with no flush. Counts in the tally the line,
+/// a call, the reply and the bytes written; a line that ends the run is counted too.
+///
+/// # Errors
+///
+/// Those of [`drive_lines`] but of its reads and flushes.
 fn end_line<H: LineHandler, W: Sink>(
     alloc: Global,
     handler: &mut H,
@@ -46,12 +53,8 @@ fn end_line<H: LineHandler, W: Sink>(
     requires ready { H.ready }
     requires within { IsWithin tally.old }
     requires room { tally.old.lines < 2 ^ 62 }
-    ensures taken { OnOk result (TakesTo H.meaning W.contents
-        handler.old writer.old part.now tally.old handler.new writer.new tally.new) }
-    ensures grows { OnOk result (Grows tally.old tally.new 1) }
-    ensures broken { IfErr result (TakeStops H.meaning W.contents
-        handler.old writer.old part.now tally.old handler.new writer.new tally.new) }
-    ensures caused { IfErr result (λ cause. IsCausedByLine cause writer.new) }
+    ensures takes { TakesLine H.meaning W.contents
+        handler.old writer.old part.now tally.old result handler.new writer.new tally.new }
     ensures calls { OnlyWrites W.takes writer.old.stream writer.new.stream }
 {
     tally.lines += 1;
@@ -69,7 +72,11 @@ fn end_line<H: LineHandler, W: Sink>(
     Ok(())
 }
 
-/// Takes up the last bytes of a line, which its LF follows, and handles the line.
+/// Takes up the last bytes of a line, up to its LF, handles the line as `end_line` does, and empties the part for the next line.
+///
+/// # Errors
+///
+/// Those of `end_line`, and `Starved` where there was no memory for the bytes.
 fn take_line<H: LineHandler, W: Sink>(
     alloc: Global,
     handler: &mut H,
@@ -81,12 +88,8 @@ fn take_line<H: LineHandler, W: Sink>(
     requires inside { IsInsideLine bytes.now }
     requires within { IsWithin progress.old.tally }
     requires room { progress.old.tally.lines < 2 ^ 62 }
-    ensures feeds { OnOk result (FeedsTo H.meaning W.contents
-        handler.old writer.old progress.old (bytes.now ++ 10 ∷ []) handler.new writer.new progress.new) }
-    ensures grows { OnOk result (Grows progress.old.tally progress.new.tally 1) }
-    ensures broken { IfErr result (FeedStops H.meaning W.contents
-        handler.old writer.old progress.old (bytes.now ++ 10 ∷ []) handler.new writer.new progress.new) }
-    ensures caused { IfErr result (λ cause. IsCausedByLine cause writer.new) }
+    ensures feeds { FeedsBytes H.meaning W.contents
+        handler.old writer.old progress.old (bytes.now ++ 10 ∷ []) 1 result handler.new writer.new progress.new }
     ensures calls { OnlyWrites W.takes writer.old.stream writer.new.stream }
 {
     progress.part.extend(bytes)?;
@@ -95,7 +98,12 @@ fn take_line<H: LineHandler, W: Sink>(
     Ok(())
 }
 
-/// Takes up the next bytes of the text: each line that ends in them is handled, and what comes after the last LF is kept.
+/// Takes up the next bytes of the text: each line that ends in them is handled and its reply written, with no flush, and what comes
+/// after the last LF is kept as the part of the next line.
+///
+/// # Errors
+///
+/// Those of [`drive_lines`] but of its reads and flushes; `progress` then tells what was done.
 pub(crate) fn feed<H: LineHandler, W: Sink>(
     alloc: Global,
     handler: &mut H,
@@ -106,12 +114,8 @@ pub(crate) fn feed<H: LineHandler, W: Sink>(
     requires ready { H.ready }
     requires within { IsWithin progress.old.tally }
     requires room { progress.old.tally.lines + length bytes.now < 2 ^ 62 }
-    ensures feeds { OnOk result (FeedsTo H.meaning W.contents
-        handler.old writer.old progress.old bytes.now handler.new writer.new progress.new) }
-    ensures grows { OnOk result (Grows progress.old.tally progress.new.tally (length bytes.now)) }
-    ensures broken { IfErr result (FeedStops H.meaning W.contents
-        handler.old writer.old progress.old bytes.now handler.new writer.new progress.new) }
-    ensures caused { IfErr result (λ cause. IsCausedByLine cause writer.new) }
+    ensures feeds { FeedsBytes H.meaning W.contents
+        handler.old writer.old progress.old bytes.now (length bytes.now) result handler.new writer.new progress.new }
     ensures calls { OnlyWrites W.takes writer.old.stream writer.new.stream }
 {
     let mut at = 0;
@@ -123,7 +127,7 @@ pub(crate) fn feed<H: LineHandler, W: Sink>(
     Ok(())
 }
 
-/// Takes up the next bytes of the text, as [`feed`] does, and passes on the replies.
+/// Takes up the next bytes of the text, as [`feed`] does, and then flushes the writer, so that the replies go out.
 fn feed_through<H: LineHandler, W: Sink>(
     alloc: Global,
     handler: &mut H,
@@ -134,12 +138,8 @@ fn feed_through<H: LineHandler, W: Sink>(
     requires ready { H.ready }
     requires within { IsWithin progress.old.tally }
     requires room { progress.old.tally.lines + length bytes.now < 2 ^ 62 }
-    ensures feeds { OnOk result (FeedsTo H.meaning W.contents
-        handler.old writer.old progress.old bytes.now handler.new writer.new progress.new) }
-    ensures grows { OnOk result (Grows progress.old.tally progress.new.tally (length bytes.now)) }
-    ensures broken { IfErr result (FeedStops H.meaning W.contents
-        handler.old writer.old progress.old bytes.now handler.new writer.new progress.new) }
-    ensures caused { IfErr result (λ cause. IsCausedByLine cause writer.new) }
+    ensures feeds { FeedsBytes H.meaning W.contents
+        handler.old writer.old progress.old bytes.now (length bytes.now) result handler.new writer.new progress.new }
     ensures done { OnOk result (PassesOn W.takes W.passes writer.old.stream writer.new.stream) }
     ensures undone { OnErr result (IsCutShort W.takes W.passes writer.old.stream writer.new.stream) }
     ensures passed { OnOk result (IsFlushed writer.new) }
@@ -149,7 +149,11 @@ fn feed_through<H: LineHandler, W: Sink>(
     Ok(())
 }
 
-/// Handles the last line of a text that has ended, where it has no LF.
+/// Handles the last line of a text that has ended, where bytes stand behind its last LF, and writes its reply, with no flush.
+///
+/// # Errors
+///
+/// Those of [`drive_lines`] but of its reads and flushes; `progress` then tells what was done.
 pub(crate) fn finish<H: LineHandler, W: Sink>(
     alloc: Global,
     handler: &mut H,
@@ -159,12 +163,8 @@ pub(crate) fn finish<H: LineHandler, W: Sink>(
     requires ready { H.ready }
     requires within { IsWithin progress.old.tally }
     requires room { progress.old.tally.lines < 2 ^ 62 }
-    ensures finishes { OnOk result (FinishesTo H.meaning W.contents
-        handler.old writer.old progress.old handler.new writer.new progress.new) }
-    ensures grows { OnOk result (Grows progress.old.tally progress.new.tally 1) }
-    ensures broken { IfErr result (FinishStops H.meaning W.contents
-        handler.old writer.old progress.old handler.new writer.new progress.new) }
-    ensures caused { IfErr result (λ cause. IsCausedByLine cause writer.new) }
+    ensures finishes { FinishesText H.meaning W.contents
+        handler.old writer.old progress.old result handler.new writer.new progress.new }
     ensures calls { OnlyWrites W.takes writer.old.stream writer.new.stream }
 {
     if progress.part.as_slice().is_empty() {
@@ -174,7 +174,7 @@ pub(crate) fn finish<H: LineHandler, W: Sink>(
     Ok(())
 }
 
-/// Handles the last line of a text that has ended, as [`finish`] does, and passes on the replies.
+/// Handles the last line of a text that has ended, as [`finish`] does, and then flushes the writer.
 fn finish_through<H: LineHandler, W: Sink>(
     alloc: Global,
     handler: &mut H,
@@ -184,12 +184,8 @@ fn finish_through<H: LineHandler, W: Sink>(
     requires ready { H.ready }
     requires within { IsWithin progress.old.tally }
     requires room { progress.old.tally.lines < 2 ^ 62 }
-    ensures finishes { OnOk result (FinishesTo H.meaning W.contents
-        handler.old writer.old progress.old handler.new writer.new progress.new) }
-    ensures grows { OnOk result (Grows progress.old.tally progress.new.tally 1) }
-    ensures broken { IfErr result (FinishStops H.meaning W.contents
-        handler.old writer.old progress.old handler.new writer.new progress.new) }
-    ensures caused { IfErr result (λ cause. IsCausedByLine cause writer.new) }
+    ensures finishes { FinishesText H.meaning W.contents
+        handler.old writer.old progress.old result handler.new writer.new progress.new }
     ensures done { OnOk result (PassesOn W.takes W.passes writer.old.stream writer.new.stream) }
     ensures undone { OnErr result (IsCutShort W.takes W.passes writer.old.stream writer.new.stream) }
     ensures passed { OnOk result (IsFlushed writer.new) }
@@ -199,7 +195,12 @@ fn finish_through<H: LineHandler, W: Sink>(
     Ok(())
 }
 
-/// Reads the text to its end, and handles its lines.
+/// Reads the text to its end, by at most so many reads, and handles its lines. `progress` begins empty, and tells what was done,
+/// after a fault too.
+///
+/// # Errors
+///
+/// Those of [`drive_lines`].
 fn drive_all<H: LineHandler, R: Source, W: Sink>(
     alloc: Global,
     handler: &mut H,
@@ -221,7 +222,7 @@ fn drive_all<H: LineHandler, R: Source, W: Sink>(
     ensures broken_off { IfErr result (λ cause. BreaksOff R.gives W.takes W.passes cause reader.new.calls
         reader.old.stream writer.old.stream reader.new.stream writer.new.stream) }
 {
-    let mut buffer = [0u8; 4096];
+    let mut buffer = [0u8; READ_SIZE];
     for _ in 0..reads {
         let count = match reader.read_behind(writer, &mut buffer) {
             Ok(count) => count,
@@ -237,7 +238,7 @@ fn drive_all<H: LineHandler, R: Source, W: Sink>(
 }
 
 /// Hands each line of a text to the handler, in order and once, and writes each reply, and passes it on, before the next
-/// read. Reads up to 4,096 bytes at a time.
+/// read. Reads up to [`READ_SIZE`] bytes at a time.
 ///
 /// Each read but the first comes right behind a flush that did not fail. Where a read failed, the whole output of the lines
 /// that were read to their end was written before it, and the writer was not called behind it. Whether a read will fail is not

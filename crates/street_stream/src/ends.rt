@@ -15,7 +15,7 @@ pub trait Source: Read {
 
     ghost gives: { Self → List ℕ → Result ℕ Error → Self → List ℕ → Type 0 };
 
-    /// Reads once.
+    /// Reads once, into the buffer from its begin: how many bytes, 0 at the end of the text.
     ///
     /// # Errors
     ///
@@ -38,7 +38,7 @@ pub trait Sink: Write {
 
     ghost passes: { Self → Result (Unit {0}) Error → Self → Type 0 };
 
-    /// Writes once.
+    /// Writes once: how many of these bytes, from the first on, were taken.
     ///
     /// # Errors
     ///
@@ -48,7 +48,7 @@ pub trait Sink: Write {
         ensures bytes { WriteAppends (Self.contents self.old) (Self.contents self.new) result bytes.now }
         ensures once { takes self.old bytes.now result self.new };
 
-    /// Flushes once.
+    /// Flushes once: passes on what the writer still holds.
     ///
     /// # Errors
     ///
@@ -64,6 +64,7 @@ impl<R: Read> Source for R {
 
     ghost gives = { λ old buffer result new filled. ReadConsumes (R.remaining old) (R.remaining new) result filled };
 
+    /// By one `read` of std.
     fn read_once(&mut self, buffer: &mut [u8]) -> io::Result<usize> {
         self.read(buffer)
     }
@@ -77,10 +78,12 @@ impl<W: Write> Sink for W {
 
     ghost passes = { λ old result new. Keeps (W.contents old) (W.contents new) };
 
+    /// By one `write` of std.
     fn write_once(&mut self, bytes: &[u8]) -> io::Result<usize> {
         self.write(bytes)
     }
 
+    /// By one `flush` of std.
     fn flush_once(&mut self) -> io::Result<()> {
         self.flush()
     }

@@ -20,7 +20,7 @@ mod writes;
 
 pub use answer::{Answer, Cause, Halt};
 pub use counted::Counted;
-pub use driver::{Limits, drive_lines};
+pub use driver::{Limits, READ_SIZE, drive_lines};
 pub use ends::{Sink, Source};
 pub use handler::LineHandler;
 pub use log::{KeepFault, Log, keep_first};

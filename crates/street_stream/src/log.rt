@@ -25,7 +25,11 @@ pub trait Log {
 
     ghost has_failed: { Self → Type 0 };
 
-    /// Takes the first of these bytes behind what it holds, and answers how many.
+    /// Takes the first of these bytes behind what it holds, and answers how many. They are not synced yet.
+    ///
+    /// # Errors
+    ///
+    /// That of the log, which took none of them.
     fn append(&mut self, bytes: &[u8]) -> io::Result<usize>
         ensures bound { WritesAtMost result bytes.now }
         ensures bytes { WriteAppends (held self.old) (held self.new) result bytes.now }
@@ -34,6 +38,10 @@ pub trait Log {
         ensures failed { OnErr result (has_failed self.new) };
 
     /// Has all that it holds stay, whatever happens.
+    ///
+    /// # Errors
+    ///
+    /// That of the log: what was synced before stays.
     fn sync(&mut self) -> io::Result<()>
         ensures bytes { Keeps (held self.old) (held self.new) }
         ensures synced { Extends (synced self.old) (synced self.new) }
@@ -50,7 +58,11 @@ pub enum KeepFault {
     Output,
 }
 
-/// Gives a log these bytes, or only the first of them, whose number it then answers.
+/// Gives a log all these bytes, by as many calls as that takes. They are not synced yet.
+///
+/// # Errors
+///
+/// How many of them, the first, the log took before a call failed or took none.
 fn append_all<L: Log>(log: &mut L, text: &[u8]) -> Result<(), usize>
     ensures written { OnOk result (Appends (L.held log.old) (L.held log.new) text.now) }
     ensures part { IfErr result (λ sent. (sent < length text.now) × Appends (L.held log.old) (L.held log.new) (take sent text.now)) }
@@ -67,7 +79,11 @@ fn append_all<L: Log>(log: &mut L, text: &[u8]) -> Result<(), usize>
     Ok(())
 }
 
-/// Has a log hold these entries, and stay so. Where there are none it is not called.
+/// Has a log take these entries, and syncs it. Where there are none it is not called.
+///
+/// # Errors
+///
+/// How many bytes of the entries the log took: all where the sync failed. They may be lost.
 fn keep<L: Log>(log: &mut L, entries: &[u8]) -> Result<(), usize>
     requires { L.synced log.old ≡ L.held log.old }
     ensures kept { OnOk result (Appends (L.held log.old) (L.held log.new) entries.now × (L.synced log.new ≡ L.held log.new)) }

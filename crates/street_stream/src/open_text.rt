@@ -31,7 +31,7 @@ const NOTHING: Tally = Tally {
 };
 
 impl OpenText {
-    /// Nothing of a text whose lines may have `most` bytes.
+    /// A text of which nothing has come, whose lines may have `most` bytes, LF not counted. Takes no memory.
     pub fn new(alloc: Global, most: usize) -> OpenText
         ensures { IsOpen most result [] }
     {
@@ -43,11 +43,12 @@ impl OpenText {
         }
     }
 
-    /// Takes up the next bytes of the text: each line that ends in them is handled, and what comes after the last LF is kept.
+    /// Takes up the next bytes of the text: each line that ends in them is handled and its reply written, with no flush, and what
+    /// comes after the last LF is kept. The tally is that of the lines that end in these bytes.
     ///
     /// # Errors
     ///
-    /// Those of `drive_lines` but of its reads. The text can not go on then.
+    /// Those of `drive_lines` but of its reads and flushes. The text can not go on then.
     pub fn feed<H: LineHandler, W: Write>(
         &mut self,
         alloc: Global,
@@ -73,7 +74,8 @@ impl OpenText {
         }
     }
 
-    /// Handles the last line of the text, which has ended, where that line has no LF.
+    /// Handles the last line of the text, which has ended, where bytes stand behind its last LF. The tally is that of this line:
+    /// all 0 where there is none.
     ///
     /// # Errors
     ///
@@ -112,7 +114,8 @@ pub fn whole_lines(bytes: &[u8]) -> Option<usize>
     }
 }
 
-/// Of a text that is cut off after any byte the lines that have ended are the first of the whole text's.
+/// A law, for proofs; the call does nothing. Of a text that is cut off after any byte the lines that have ended are the first of
+/// the whole text's.
 pub fn cut_off_text()
     ensures { (text : List ℕ) (n : ℕ) → (rest : List (List ℕ)) × ((cut text).0 ≡ (cut (take n text)).0 ++ rest) }
 {}

@@ -30,7 +30,12 @@ fn are_spaces(bytes: &[u8]) -> bool
     bytes.iter().all(|byte| is_space(*byte))
 }
 
-/// Takes more bytes of a line, as far as they are wanted to tell whether it has more than `most`.
+/// Puts the next bytes of a line behind those that are held of it, up to `most` + 1 in all: enough to tell whether it has more than
+/// `most`.
+///
+/// # Errors
+///
+/// `Starved` where there was no memory for them.
 fn keep(held: &mut Vec<u8>, bytes: &[u8], most: usize) -> Result<(), Starved>
     ensures { (line : List ℕ) → held.old.items ≡ kept most line → OnOk result (held.new.items ≡ kept most (line ++ bytes.now)) }
 {
@@ -43,7 +48,7 @@ fn keep(held: &mut Vec<u8>, bytes: &[u8], most: usize) -> Result<(), Starved>
 }
 
 impl PartialLine {
-    /// Nothing of a line that may have `most` bytes.
+    /// Nothing of a line that may have `most` bytes, LF not counted. Takes no memory.
     pub fn new(alloc: Global, most: usize) -> PartialLine
         ensures { IsPart most result [] }
     {
@@ -54,7 +59,8 @@ impl PartialLine {
         }
     }
 
-    /// More bytes, none of which is LF.
+    /// Takes the next bytes of the line, none of which is LF. Those beyond the most that a line may have, and one more, are only
+    /// looked at for whether the line is blank.
     ///
     /// # Errors
     ///
@@ -67,7 +73,7 @@ impl PartialLine {
         Ok(())
     }
 
-    /// Nothing of the next line.
+    /// Begins the next line, of which nothing has come. The memory is kept for it.
     pub fn clear(&mut self)
         ensures { (most : ℕ) (line : List ℕ) → IsPart most self.old line → IsPart most self.new [] }
     {
@@ -75,14 +81,14 @@ impl PartialLine {
         self.is_blank = true;
     }
 
-    /// What is kept of the line.
+    /// What is kept of the line: its first bytes, one more than a line may have at most.
     pub fn as_slice(&self) -> &[u8]
         ensures { (most : ℕ) (line : List ℕ) → IsPart most self.now line → result.now ≡ kept most line }
     {
         self.bytes.as_slice()
     }
 
-    /// Whether the line is blank.
+    /// Whether all of the line that has come, kept or not, is spaces, tabs and CR.
     pub fn is_blank(&self) -> bool
         ensures { (most : ℕ) (line : List ℕ) → IsPart most self.now line → result ≡ is_blank line }
     {

@@ -45,6 +45,7 @@ pub struct RunFault {
 impl From<Starved> for FaultKind {
     ghost from_gives = { λ _ kind. kind ≡ kinds.Starved };
 
+    /// Lack of memory, as the fault of a run.
     fn from(_error: Starved) -> FaultKind {
         FaultKind::Starved
     }

@@ -13,7 +13,11 @@ use crate::ends::Sink;
 use crate::tally::{FaultKind, Tally};
 use std::io::Write;
 
-/// Writes the bytes, or only the first of them, whose number it then answers: a write failed, or took no bytes.
+/// Writes all these bytes, by as many calls as that takes, with no flush.
+///
+/// # Errors
+///
+/// How many of them, the first, were written before a write failed or took none.
 pub fn write_text<W: Sink>(writer: &mut Counted<W>, text: &[u8]) -> Result<(), usize>
     ensures written { OnOk result (Appends (W.contents writer.old.stream) (W.contents writer.new.stream) text.now) }
     ensures part { IfErr result (λ sent. (sent < length text.now)
@@ -31,7 +35,7 @@ pub fn write_text<W: Sink>(writer: &mut Counted<W>, text: &[u8]) -> Result<(), u
     Ok(())
 }
 
-/// Writes a reply, and counts it and what went out of it.
+/// Writes a reply, and counts it and its bytes in the tally; of one that went out in part the bytes alone. Does not flush.
 ///
 /// # Errors
 ///
@@ -61,7 +65,7 @@ pub fn write_reply<W: Sink>(
     }
 }
 
-/// Passes on what a buffered writer still holds.
+/// Passes on what a buffered writer still holds, by one flush.
 ///
 /// # Errors
 ///

@@ -22,11 +22,13 @@ use Rattle.street_tape.specs.declared.head.Head.{Head}
 use Rattle.street_tape.specs.declared.head.Head.TheVariants.{Version1, Version2}
 use Rattle.street_text.specs.Fits.{IsWord, Fits}
 
+-- the most bytes of a line of a tape, its LF not counted
 abbrev pub longest_tape_line : ℕ
 longest_tape_line = 2097152
 
 -- ---- one line
 
+-- the value, or the fault that there is none
 abbrev pub value_or_fault : Option Data → Result Data LineFault
 value_or_fault None = Err NotJson
 value_or_fault (Some d) = Ok d
@@ -35,10 +37,12 @@ value_or_fault (Some d) = Ok d
 unfoldable pub tape_value : List ℕ → Result Data LineFault
 tape_value line = if nat_lt longest_tape_line (length line) then Err LineTooLong else value_or_fault (value_of line)
 
+-- what follows from what was found, or the fault that was found
 abbrev pub and_then : {A B : Type 0} → (A → Result B LineFault) → Result A LineFault → Result B LineFault
 and_then f (Ok x) = f x
 and_then f (Err e) = Err e
 
+-- what a fault that was answered tells of the value that was wanted: lack of memory tells nothing
 abbrev pub FailsData : LineFault → Result Data LineFault → Type 0
 FailsData NoMemory wanted = ⊤
 FailsData LineTooLong wanted = wanted ≡ Err LineTooLong
@@ -56,6 +60,7 @@ GivesTapeValue (Err e) wanted = FailsData e wanted
 abbrev pub head_of : ℕ → Data → Option Head
 head_of version d = if version == 1 then Some Version1 else (if version == 2 then option_map Version2 (number_field (codes "calls") d) else None)
 
+-- what a value tells as the first line of a tape
 unfoldable pub head_in : Data → Option Head
 head_in d = option_and_then (λ version. head_of version d) (number_field (codes "tape") d)
 
@@ -85,6 +90,7 @@ is_whole (Version2 calls) n = n == calls
 
 -- ---- a further line
 
+-- the outcome of a word
 abbrev pub named_outcome : List ℕ → Option Outcome
 named_outcome name = if bytes_eq name (codes "whole") then Some Whole else (if bytes_eq name (codes "starved") then Some Starved else None)
 
@@ -110,6 +116,7 @@ call_in sized d =
     with field outcome_in (codes "outcome") d
     with number_field (codes "session") d
 
+-- the call that a value says, where it can have its outcome
 unfoldable pub entry_in : Bool → Data → Option Entry
 entry_in sized d = option_and_then if_part (call_in sized d)
 
@@ -119,6 +126,7 @@ entry_reading sized line = and_then (λ d. or_fault BadCommand (entry_in sized d
 
 -- ---- all lines
 
+-- a call before others, where all were read
 abbrev pub onto : Result Entry LineFault → Option (List Entry) → Option (List Entry)
 onto (Ok e) es = option_map (λ rest. e ∷ rest) es
 onto (Err f) es = None
@@ -143,6 +151,7 @@ abbrev pub all_after : Result Head LineFault → List (List ℕ) → Option (Lis
 all_after (Ok head) ls = if is_whole head (length ls) then entries_of (is_sized head) ls else None
 all_after (Err f) ls = None
 
+-- the calls of the lines of a tape, which has a first line
 abbrev pub tape_in : List (List ℕ) → Option (List Entry)
 tape_in [] = None
 tape_in (l ∷ ls) = all_after (head_reading l) ls
@@ -153,6 +162,7 @@ tape_reading text = tape_in (lines_of text)
 
 -- ---- calls that a tape can hold
 
+-- a number of steps is one of 64 bits
 abbrev pub OutcomeFits : Outcome → Type 0
 OutcomeFits Whole = ⊤
 OutcomeFits Starved = ⊤

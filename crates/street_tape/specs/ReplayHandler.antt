@@ -36,6 +36,7 @@ Applies old (Some e) effect new =
     (effect.is_call ≡ true) × ((m : State) → StandsFor old m → IsReplayable m e.command e.outcome
     × (effect.reply ≡ Some (reply_line (reply_to m e.command e.outcome))) × StandsFor new (state_after m e.command e.outcome))
 
+-- the next line was taken, and its call, if it says one, was applied
 abbrev pub ReplaysLine : Option Head × EngineView → List ℕ → Effect → Option Head × EngineView → Type 0
 ReplaysLine old line effect new = (call : Option Entry) × Takes old.0 line call new.0 × Applies old.1 call effect new.1
 

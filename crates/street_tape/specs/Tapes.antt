@@ -15,6 +15,7 @@ outcome_data Whole = string (codes "whole")
 outcome_data Starved = string (codes "starved")
 outcome_data (Short k) = number (unsigned k)
 
+-- a call
 abbrev pub entry_data : Entry → Data
 entry_data e =
     object (member (codes "command") (command_data e.command) (member (codes "outcome") (outcome_data e.outcome)
@@ -24,6 +25,7 @@ entry_data e =
 unfoldable pub entry_line : Entry → List ℕ
 entry_line e = line_of (entry_data e)
 
+-- the first line of a tape of so many calls
 abbrev pub head_data : ℕ → Data
 head_data calls = object (number_at (codes "calls") calls (number_at (codes "tape") 2 no_members))
 
@@ -42,6 +44,7 @@ tape_text es = head_line (length es) ++ entry_lines es
 
 -- ---- version 1, which is read but no longer written
 
+-- the first line of a tape of version 1
 abbrev pub old_head_data : Data
 old_head_data = object (number_at (codes "tape") 1 no_members)
 

@@ -26,6 +26,7 @@ pub record IsUpgradeTally (tally : Tally) (ls : List (List ℕ)) (es : List Entr
   pub replies : tally.replies ≡ 0
   pub bytes : tally.bytes ≡ length (tape_text es)
 
+-- the tally with another number of bytes
 abbrev pub with_bytes : Tally → ℕ → Tally
 with_bytes tally bytes = record { lines = tally.lines; calls = tally.calls; replies = tally.replies; bytes = bytes }
 
@@ -77,10 +78,12 @@ CutShort tally before text after fault = (fault.tally ≡ with_bytes tally fault
 
 -- ---- an upgrade as a handler of lines
 
+-- the line of a call, if there is one
 abbrev pub line_of_call : Option Entry → List ℕ
 line_of_call None = []
 line_of_call (Some e) = entry_line e
 
+-- there is a call
 abbrev pub is_call : Option Entry → Bool
 is_call None = false
 is_call (Some e) = true
@@ -91,5 +94,6 @@ UpgradesLine old line effect new =
     (call : Option Entry) × Takes old.tape.rest line call new.tape.rest × (new.lines.items ≡ old.lines.items ++ line_of_call call)
     × (effect ≡ record { is_call = is_call call; reply = None })
 
+-- the line was not taken
 abbrev pub RefusesLine : Upgrader → List ℕ → Stop → Upgrader → Type 0
 RefusesLine old line stop new = Refuses old.tape.rest line stop

@@ -36,7 +36,7 @@ fn call_whole<R: Threads + Sync, G: Gate + Sync + Drop>(
     }
 }
 
-/// The clock that a reply to an advance tells; `None` where the reply tells none, as it is a refusal.
+/// The clock, in steps, that a reply to an advance tells; `None` where the reply tells none, as it is a refusal.
 fn clock_of(reply: &Reply) -> Option<u64>
     ensures { result ≡ clock_in reply.now }
 {

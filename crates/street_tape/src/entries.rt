@@ -77,7 +77,7 @@ fn number_of(value: &Value, name: &str) -> Result<u64, LineFault>
     found.as_u64().ok_or(LineFault::BadCommand)
 }
 
-/// Whether a command can have this outcome: one that is a number of steps only where these are a part of its advance.
+/// Whether a command can have this outcome: a number of steps only where it is an advance of more steps, and the number not 0.
 fn is_part(command: &Command, outcome: Outcome) -> bool
     ensures { result ≡ is_part command.now outcome }
 {

@@ -29,8 +29,8 @@ pub enum TapeFault {
     Run(RunFault),
 }
 
-/// The fault of a tape that was not read to its end, by the cause and the tally at which its lines ended. A bad line is the last
-/// that the tally counts.
+/// The fault of a tape that was not read to its end, by the cause and the tally at which its lines ended. The number of a bad line,
+/// the first being 1, is how many lines the tally counts: it is the last of them.
 pub(crate) fn fault_of(cause: Cause<Stop>, tally: Tally) -> TapeFault
     ensures { result ≡ fault_of cause tally }
 {

@@ -10,12 +10,12 @@ ghost use Rattle.street_text.specs.Fits.{IsWord, NodeFits, LinkFits, TurnFits, G
 use street_base::{Command, GreenSpec, LinkSpec, NetSpec, NodeSpec, Outcome, PhaseSpec, TurnSpec};
 use street_desk::{Entry, Journal};
 
-/// A number fits: it is one of 64 bits.
+/// Says of a number, for proofs, that it is one of 64 bits. Like all functions here it does nothing else.
 fn word_fits(_number: u64)
     ensures { IsWord _number }
 {}
 
-/// The numbers of a list fit.
+/// Says, for proofs, that each number of a list fits.
 fn words_fit(numbers: &[u64])
     ensures { All IsWord numbers.now }
 {
@@ -24,7 +24,7 @@ fn words_fit(numbers: &[u64])
     }
 }
 
-/// The numbers of a node fit.
+/// Says, for proofs, that the numbers of a node of a network fit.
 fn node_fits(spec: &NodeSpec)
     ensures { NodeFits spec.now }
 {
@@ -33,7 +33,7 @@ fn node_fits(spec: &NodeSpec)
     word_fits(spec.capacity);
 }
 
-/// The numbers of each node fit.
+/// Says, for proofs, that the numbers of each node of a list fit.
 fn nodes_fit(specs: &[NodeSpec])
     ensures { All NodeFits specs.now }
 {
@@ -42,7 +42,7 @@ fn nodes_fit(specs: &[NodeSpec])
     }
 }
 
-/// The numbers of a link fit.
+/// Says, for proofs, that the numbers of a link of a network fit.
 fn link_fits(spec: &LinkSpec)
     ensures { LinkFits spec.now }
 {
@@ -54,7 +54,7 @@ fn link_fits(spec: &LinkSpec)
     word_fits(spec.limit);
 }
 
-/// The numbers of each link fit.
+/// Says, for proofs, that the numbers of each link of a list fit.
 fn links_fit(specs: &[LinkSpec])
     ensures { All LinkFits specs.now }
 {
@@ -63,7 +63,7 @@ fn links_fit(specs: &[LinkSpec])
     }
 }
 
-/// The numbers of a turn fit.
+/// Says, for proofs, that the numbers of a turn of a network fit.
 fn turn_fits(spec: &TurnSpec)
     ensures { TurnFits spec.now }
 {
@@ -73,7 +73,7 @@ fn turn_fits(spec: &TurnSpec)
     word_fits(spec.next_lane);
 }
 
-/// The numbers of each turn fit.
+/// Says, for proofs, that the numbers of each turn of a list fit.
 fn turns_fit(specs: &[TurnSpec])
     ensures { All TurnFits specs.now }
 {
@@ -82,7 +82,7 @@ fn turns_fit(specs: &[TurnSpec])
     }
 }
 
-/// The numbers of a green turn fit.
+/// Says, for proofs, that the numbers of a green turn fit.
 fn green_fits(spec: &GreenSpec)
     ensures { GreenFits spec.now }
 {
@@ -91,7 +91,7 @@ fn green_fits(spec: &GreenSpec)
     word_fits(spec.next);
 }
 
-/// The numbers of each green turn fit.
+/// Says, for proofs, that the numbers of each green turn of a list fit.
 fn greens_fit(specs: &[GreenSpec])
     ensures { All GreenFits specs.now }
 {
@@ -100,7 +100,7 @@ fn greens_fit(specs: &[GreenSpec])
     }
 }
 
-/// The numbers of a phase fit: how long it lasts, and those of its green turns.
+/// Says, for proofs, that the numbers of a phase fit: how long it lasts, and those of its green turns.
 fn phase_fits(spec: &PhaseSpec)
     ensures { PhaseFits spec.now }
 {
@@ -108,7 +108,7 @@ fn phase_fits(spec: &PhaseSpec)
     greens_fit(spec.greens.as_slice());
 }
 
-/// The numbers of each phase fit.
+/// Says, for proofs, that the numbers of each phase of a list fit.
 fn phases_fit(specs: &[PhaseSpec])
     ensures { All PhaseFits specs.now }
 {
@@ -117,7 +117,7 @@ fn phases_fit(specs: &[PhaseSpec])
     }
 }
 
-/// The numbers of a network that is loaded fit.
+/// Says, for proofs, that the numbers of a network to be loaded fit.
 fn net_fits(spec: &NetSpec)
     ensures { Fits (Load spec.now) }
 {
@@ -131,12 +131,12 @@ fn net_fits(spec: &NetSpec)
     word_fits(spec.start);
 }
 
-/// The four numbers of a command that names a lane fit: those of its link and its lane, and two more.
+/// Says, for proofs, that the four numbers of a command that names a lane fit: its link and lane, and two more.
 fn lane_command_fits(link: u64, lane: u64, one: u64, other: u64)
     ensures { IsWord link × IsWord lane × IsWord one × IsWord other }
 {}
 
-/// The numbers of a command fit.
+/// Says, for proofs, that the numbers of a command fit.
 fn command_fits(command: &Command)
     ensures { Fits command.now }
 {
@@ -192,7 +192,7 @@ fn command_fits(command: &Command)
     }
 }
 
-/// How many steps an outcome tells of fits, where it tells of any.
+/// Says, for proofs, that the number of steps that an outcome tells fits, where it tells one.
 fn outcome_fits(outcome: Outcome)
     ensures { OutcomeFits outcome }
 {
@@ -201,7 +201,7 @@ fn outcome_fits(outcome: Outcome)
     }
 }
 
-/// The numbers of a call fit: of its session, its command and its outcome.
+/// Says, for proofs, that the numbers of a call fit: of its session, its command and its outcome.
 fn call_fits(entry: &Entry)
     ensures { IsOfWords entry.now }
 {
@@ -210,14 +210,14 @@ fn call_fits(entry: &Entry)
     outcome_fits(entry.outcome);
 }
 
-/// The number of a journal's calls fits.
+/// Says, for proofs, that the number of calls of a journal fits.
 pub(crate) fn length_fits(journal: &Journal)
     ensures { IsWord (length journal.now) }
 {
     word_fits(journal.len() as u64);
 }
 
-/// The numbers of each call of a journal fit.
+/// Says, for proofs, that the numbers of each call of a journal fit.
 pub(crate) fn calls_fit(journal: &Journal)
     ensures { All IsOfWords journal.now }
 {

@@ -38,7 +38,7 @@ impl Head {
         }
     }
 
-    /// Whether the tape may end here, with no further call.
+    /// Whether the tape may end here, with no further call: always in version 1, and in version 2 where none is left to follow.
     pub fn may_end(self) -> bool
         ensures { result ≡ is_whole self 0 }
     {

@@ -13,10 +13,10 @@ ghost use Rattle.street_tape.specs.Tapes.{tape_text, old_tape_text};
 use crate::tape_reads_back;
 use street_desk::legal_history_runs;
 
-/// The calls that the tape of a legal history says are those of the history, if none of its lines is longer than a tape line
-/// may be; each can be replayed, and their replies are those of the run of that history. However much of that tape was
-/// read, the fault of a replay or of an upgrade is never `NotTape` or `BadEntry`: a read or a write failed, or the reads or
-/// memory ran out.
+/// A law, for proofs; the call does nothing. The calls that the tape of a legal history says are those of the history, if none of
+/// its lines is longer than a tape line may be; each can be replayed, and their replies are those of the run of that history.
+/// However much of that tape was read, the fault of a replay or of an upgrade is never `NotTape` or `BadEntry`: a read or a write
+/// failed, or the reads or memory ran out.
 pub fn tape_replays()
     ensures parts { (history : List Entry) → IsLegal history → All (λ e. is_part e.command e.outcome ≡ true) history }
     ensures calls { (history : List Entry) → TapeFits history → SaysOnly (tape_text history) history }
@@ -31,8 +31,8 @@ pub fn tape_replays()
     legal_history_runs();
 }
 
-/// So it is with the tape of version 1 of a legal history whose vehicles all have size 1; its upgrade is the tape of version 2
-/// of that history.
+/// A law, for proofs; the call does nothing. As [`tape_replays`] says, for the tape of version 1 of a legal history whose vehicles
+/// all have size 1; its upgrade is the tape of version 2 of that history.
 pub fn old_tape_replays()
     ensures calls { (history : List Entry) → All EntryFits history → HaveSizeOne history → SaysOnly (old_tape_text history) history }
     ensures upgraded { (history : List Entry) → TapeFits history → HaveSizeOne history → UpgradesTo (old_tape_text history) history }

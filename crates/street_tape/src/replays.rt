@@ -88,7 +88,8 @@ fn answer<R: Threads + Sync>(
     })
 }
 
-/// Replays a tape on the engine that is held, with at most so many calls of `read`.
+/// Replays a tape on the engine that is held, with at most so many calls of `read`; the engine has nothing loaded, and no line of
+/// the tape was read.
 ///
 /// # Errors
 ///

@@ -28,6 +28,7 @@ pub enum Stop {
 impl From<Starved> for Stop {
     ghost from_gives = { λ _ stop. stop ≡ stops.Starved };
 
+    /// Lack of memory, as the reason why a tape is read no further.
     fn from(_error: Starved) -> Stop {
         Stop::Starved
     }

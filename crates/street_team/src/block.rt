@@ -11,7 +11,7 @@ pub struct Block<T: Drop> {
     pub(crate) items: Vec<T>,
 }
 
-/// Blocks, each with room for so many items as its thread is to be lent, and for so much that is shown.
+/// A block for each thread: with room for so many items as `rooms` says of it, and for so many flags that are shown.
 ///
 /// # Errors
 /// Memory was refused.
@@ -31,7 +31,8 @@ pub fn blocks<T: Drop>(
 }
 
 impl<T: Drop> Block<T> {
-    /// Shows this, and takes so many of the last items as it has room for, or all. Tells whether all is shown; else it takes none.
+    /// Empties the block, and then puts into it what is shown and, the last first, as many of the last items as it has room for,
+    /// which the list then has no more. False where memory for what is shown was refused: then none is taken.
     pub(crate) fn fill(&mut self, shown: &[bool], items: &mut Vec<T>) -> bool
         ensures shown { result ≡ true → self.new.shown.items ≡ shown.now }
         ensures none { result ≡ false → vec_len items.new ≡ vec_len items.old }
@@ -53,7 +54,7 @@ impl<T: Drop> Block<T> {
         true
     }
 
-    /// Gives its items back behind the others, for which they have room.
+    /// Puts its items back behind those of the list, which has room for them, in the order that they had there.
     pub(crate) fn empty_into(&mut self, items: &mut Vec<T>)
         requires { vec_len items.old + vec_len self.old.items ≤ vec_capacity items.old }
         ensures len { vec_len items.new ≡ vec_len items.old + vec_len self.old.items }

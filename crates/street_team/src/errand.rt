@@ -55,7 +55,8 @@ impl<'a, T: Drop, W: Work<T>> Model for Done<'a, T, W> {
         × BackDoes W.does d.part d.first d.was.value.value.shown.items d.was.value.value.items.items d.block.items.items };
 }
 
-/// Works on items of which the last is number `first`.
+/// Makes a part of the work on each of these items, which lie the last of them first: the last here has number `first`, the one
+/// before it the next number, and so on.
 fn work_on<T: Drop, W: Work<T>>(work: &W, part: u32, first: usize, shown: &[bool], items: &mut [T])
     requires small { first + length items.old < 2 ^ 64 }
     requires may { BackMay W.may part first shown.now items.old }
@@ -69,7 +70,8 @@ fn work_on<T: Drop, W: Work<T>>(work: &W, part: u32, first: usize, shown: &[bool
 }
 
 impl<'a, T: Drop, W: Work<T>> Errand<'a, T, W> {
-    /// Items that are lent.
+    /// Items that are lent, to have part `part` made on them. The first of them has number `first` among all; `was` is the token of
+    /// lock `at`, which shows what they were.
     pub(crate) fn new(
         at: usize,
         part: u32,
@@ -92,7 +94,7 @@ impl<'a, T: Drop, W: Work<T>> Errand<'a, T, W> {
         }
     }
 
-    /// The items worked on.
+    /// Makes the part on each of the items, and gives them as worked on.
     pub(crate) fn run(self, work: &W) -> Done<'a, T, W> {
         let Errand {
             at,
@@ -116,7 +118,7 @@ impl<'a, T: Drop, W: Work<T>> Errand<'a, T, W> {
 }
 
 impl<'a, T: Drop, W: Work<T>> Done<'a, T, W> {
-    /// The items, if they are those of this errand.
+    /// The items, if they are those of this errand, by its lock, its part and the number of its first item; else nothing.
     pub(crate) fn into_block(
         self,
         at: usize,

@@ -28,7 +28,7 @@ pub struct Shared<'a, 'w, T: Drop, W: Work<T>> {
 }
 
 impl<'a, 'w, T: Drop, W: Work<T>> Shared<'a, 'w, T, W> {
-    /// For so many threads, to which nothing is lent.
+    /// What so many threads share, to which nothing is lent yet.
     ///
     /// # Errors
     /// Memory was refused.
@@ -51,7 +51,7 @@ impl<'a, 'w, T: Drop, W: Work<T>> Shared<'a, 'w, T, W> {
         })
     }
 
-    /// Puts an errand on the tray of a thread.
+    /// Puts an errand on the tray of the thread of a number, from 0.
     pub(crate) fn put<R: Wait>(&self, rt: &R, number: usize, errand: Errand<'a, T, W>) {
         if let Some(tray) = self.trays.get(number) {
             let mut lent = tray.lent.lock(rt);
@@ -59,35 +59,35 @@ impl<'a, 'w, T: Drop, W: Work<T>> Shared<'a, 'w, T, W> {
         }
     }
 
-    /// All errands are on their trays: the workers begin.
+    /// Has the workers begin: all errands are on their trays.
     pub(crate) fn begin(&self) {
         self.lent.go_on();
     }
 
-    /// The workers end.
+    /// Has the workers end. It does not wait for them.
     pub fn end(&self) {
         self.ended.store(1, Ordering::SeqCst);
         self.lent.go_on();
     }
 
-    /// Takes what came back from a thread.
+    /// Takes what came back from the thread of a number; none where nothing has.
     pub(crate) fn take<R: Wait>(&self, rt: &R, number: usize) -> Option<Done<'a, T, W>> {
         let tray = self.trays.get(number)?;
         let mut done = tray.done.lock(rt);
         done.take()
     }
 
-    /// How often something came back.
+    /// How often something came back, from whichever thread.
     pub(crate) fn returned(&self) -> u64 {
         self.back.count()
     }
 
-    /// Waits until something came back after this count, or returns sooner.
+    /// Waits until something came back after `returned` told this count, or returns sooner.
     pub(crate) fn wait_for_return<R: Wait>(&self, rt: &R, seen: u64) {
         self.back.wait(rt, seen);
     }
 
-    /// Works on what was lent to the thread of a number, and puts it back; or there was nothing.
+    /// Works on what lies on the tray of the thread of a number, and puts it back; does nothing where nothing lies there.
     fn run<R: Wait>(&self, rt: &R, number: usize) {
         let Some(tray) = self.trays.get(number) else {
             return;
@@ -101,7 +101,7 @@ impl<'a, 'w, T: Drop, W: Work<T>> Shared<'a, 'w, T, W> {
     }
 }
 
-/// Takes what is behind a lock.
+/// Takes what is behind a lock, so that nothing is left there; none where nothing is.
 fn taken<R: Wait, X>(rt: &R, lock: &Mutex<Option<X>>) -> Option<X> {
     let mut guard = lock.lock(rt);
     guard.take()
@@ -113,7 +113,8 @@ fn put_back<R: Wait, X: Drop>(rt: &R, lock: &Mutex<Option<X>>, back: X) {
     *guard = Some(back);
 }
 
-/// Starts so many threads that stay, or fewer where one or memory is refused.
+/// Starts so many threads that stay, each of which serves until [`Shared::end`]; or fewer where one of them, or memory for their
+/// list, is refused.
 pub fn start<
     's,
     'a: 's,
@@ -142,7 +143,7 @@ pub fn start<
     started
 }
 
-/// Starts the thread of a number, or none.
+/// Starts the thread of a number, from 0; none where it is refused.
 fn start_one<
     's,
     'a: 's,

@@ -10,7 +10,7 @@ use std::alloc::{AllocError, Global};
 use std::snapshot::Snapshot;
 use std::sync::{OnceLock, OnceToken, Wait};
 
-/// So many locks for what items were.
+/// So many locks, none of which is set: each is to show what the items of one lending to one thread were.
 ///
 /// # Errors
 /// Memory was refused.
@@ -38,6 +38,7 @@ pub struct Team<'a, 'r, 'w, 's, T: Drop, W: Work<T>, R: Wait> {
 }
 
 impl<'a, 'r, 'w, 's, T: Drop, W: Work<T>, R: Wait> Drop for Team<'a, 'r, 'w, 's, T, W, R> {
+    /// Drops the blocks.
     fn drop(self) {
         let Team {
             rt: _,
@@ -51,7 +52,8 @@ impl<'a, 'r, 'w, 's, T: Drop, W: Work<T>, R: Wait> Drop for Team<'a, 'r, 'w, 's,
 }
 
 impl<'a, 'r, 'w, 's, T: Drop, W: Work<T>, R: Wait> Team<'a, 'r, 'w, 's, T, W, R> {
-    /// A team of the caller and so many threads, which were started.
+    /// A team of the caller and so many threads, which were started. `spare` has a block for each of them, and `locks` one for each
+    /// lending to each.
     pub fn new(
         rt: &'r R,
         shared: &'s Shared<'a, 'w, T, W>,
@@ -71,7 +73,8 @@ impl<'a, 'r, 'w, 's, T: Drop, W: Work<T>, R: Wait> Team<'a, 'r, 'w, 's, T, W, R>
         }
     }
 
-    /// Each item is worked on while this is shown: by a thread of the team, or here.
+    /// Makes part `part` of the work on each item, while this is shown: by a thread of the team, or here. Waits for the threads;
+    /// each item is in its place again then.
     pub fn lend(&mut self, part: u32, shown: &[bool], items: &mut Vec<T>)
         requires may { AllMay W.may part shown.now items.old.items }
         ensures len { vec_len items.new ≡ vec_len items.old }
@@ -146,13 +149,14 @@ impl<'a, 'r, 'w, 's, T: Drop, W: Work<T>, R: Wait> Team<'a, 'r, 'w, 's, T, W, R>
         }
     }
 
-    /// Keeps a block for another errand.
+    /// Keeps a block for another lending.
     fn keep(&mut self, block: Block<T>) {
         // It has the place from which it was taken.
         let _ = self.spare.push(block);
     }
 
-    /// Waits for items that were lent to the thread of a number.
+    /// Waits for the items that were lent to the thread of a number by the errand with this lock, part and first number, and gives
+    /// them as worked on.
     fn receive(
         &self,
         at: usize,
@@ -179,7 +183,7 @@ impl<'a, 'r, 'w, 's, T: Drop, W: Work<T>, R: Wait> Team<'a, 'r, 'w, 's, T, W, R>
     }
 }
 
-/// Each item is worked on by the caller, while this is shown.
+/// Makes a part of the work on each of these items, the first of which has number 0: the caller's own, while this is shown.
 fn work_here<T, W: Work<T>>(work: &W, part: u32, shown: &[bool], items: &mut [T])
     requires may { AllMay W.may part shown.now items.old }
     ensures long { length items.new ≡ length items.old }

@@ -10,6 +10,7 @@ use std::test::*;
 use std::thread;
 use std::thread::Threads;
 
+/// Facts of a type: which locks there are, and the numbers that are begun with.
 trait Course {
     ghost lock: { ℕ → ℕ };
 
@@ -38,6 +39,7 @@ impl<K: Course> Work<u32> for Adding<K> {
 
     ghost does = { λ part number shown x y. y ≡ x + 1 };
 
+    /// Adds 1.
     fn work(&self, part: u32, number: usize, shown: &[bool], item: &mut u32) {
         *item += 1;
     }
@@ -61,6 +63,7 @@ impl<K: Course> Model for Added<K> {
 }
 
 impl<K: Course> Added<K> {
+    /// Numbers, to each of which 1 was added.
     fn new(items: Vec<u32>) -> Self
         requires { (i : ℕ) (d : ℕ) → i < length K.begun → slice_index_or items.items i d ≡ slice_index_or K.begun i d + 1 }
     {
@@ -70,6 +73,7 @@ impl<K: Course> Added<K> {
         }
     }
 
+    /// The numbers.
     fn into_items(self) -> Vec<u32>
         ensures { (i : ℕ) (d : ℕ) → i < length K.begun → slice_index_or result.items i d ≡ slice_index_or K.begun i d + 1 }
     {
@@ -78,7 +82,7 @@ impl<K: Course> Added<K> {
     }
 }
 
-/// One more each, by a team.
+/// Adds 1 to each of these numbers, by a team.
 fn add_all<K: Course, R: Wait>(
     team: &mut Team<'_, '_, '_, '_, u32, Adding<K>, R>,
     items: Vec<u32>,
@@ -91,7 +95,7 @@ fn add_all<K: Course, R: Wait>(
     Added::new(items)
 }
 
-/// One more each, by the caller and so many threads.
+/// Adds 1 to each of these numbers, by the caller and so many threads.
 fn add_with<'a, K: Course + Send + Sync, R: Threads + Wait + Sync>(
     rt: &R,
     alloc: Global,
@@ -123,7 +127,7 @@ fn add_with<'a, K: Course + Send + Sync, R: Threads + Wait + Sync>(
     )
 }
 
-/// One more each, by so many threads, which are known by these locks.
+/// Adds 1 to each of these numbers, by the caller and so many threads, which are known by these locks.
 fn add_by<K: Course + Send + Sync, R: Threads + Wait + Sync>(
     rt: &R,
     alloc: Global,
@@ -143,6 +147,7 @@ fn add_by<K: Course + Send + Sync, R: Threads + Wait + Sync>(
     Ok(add_with(rt, alloc, &shared, spare, locks, items, threads).into_items())
 }
 
+/// Adds 1 to each of these numbers, by the caller and so many threads.
 fn add<R: Threads + Wait + Sync>(
     rt: &R,
     alloc: Global,
@@ -156,6 +161,7 @@ fn add<R: Threads + Wait + Sync>(
     add_by::<Brand, R>(rt, alloc, &all, items, threads)
 }
 
+/// Seven numbers by three threads: each is one more.
 #[test]
 fn adds(rt: HostRuntime) -> Result<(), Fail> {
     let alloc: Global = rt.alloc();

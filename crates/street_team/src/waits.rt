@@ -15,7 +15,7 @@ pub(crate) struct Signal {
 }
 
 impl Signal {
-    /// At 0.
+    /// At 0, and nobody sleeps.
     pub(crate) fn new() -> Signal {
         Signal {
             count: AtomicU64::new(0),
@@ -23,7 +23,7 @@ impl Signal {
         }
     }
 
-    /// The number.
+    /// How often it has gone on.
     pub(crate) fn count(&self) -> u64 {
         self.count.load(Ordering::SeqCst)
     }
@@ -37,7 +37,7 @@ impl Signal {
         }
     }
 
-    /// Waits until the number is another than this, or returns sooner.
+    /// Waits until the number is another than `seen`, first awake and then asleep, or returns sooner.
     pub(crate) fn wait<R: Wait>(&self, rt: &R, seen: u64) {
         for _ in 0..LOOKS {
             if self.count() != seen {

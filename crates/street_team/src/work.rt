@@ -9,7 +9,7 @@ pub trait Work<T> {
 
     ghost does: { ℕ → ℕ → List Bool → T → T → Type 0 };
 
-    /// A part of the work at the item of a number, while this is shown.
+    /// Makes a part of the work on the item of a number, from 0, among all items, while this is shown.
     fn work(&self, part: u32, number: usize, shown: &[bool], item: &mut T)
         requires { may part number shown.now item.old }
         ensures { does part number shown.now item.old item.new };

@@ -10,6 +10,7 @@ use Rattle.street_text.specs.ReplyLines.{number_data, node_data, link_data, turn
 
 -- ---- objects, their keys in byte order
 
+-- a network to be loaded
 abbrev pub load_data : NetSpec → Data
 load_data net =
     object (number_at (codes "change") net.change (text_at (codes "cmd") (codes "load") (number_at (codes "dawdle") net.dawdle
@@ -35,6 +36,7 @@ tells_size c = false
 abbrev pub size_at : ℕ → Members → Members
 size_at size more = if size == 1 then more else number_at (codes "size") size more
 
+-- a command
 abbrev pub command_data : Command → Data
 command_data (Load net) = load_data net
 command_data (Enter plan lane depart size) =

@@ -22,9 +22,11 @@ abbrev pub put_flat : List FlatMember → Members → Members
 put_flat [] found = found
 put_flat (m ∷ ms) found = put_flat ms (put m.name.now (flat_data m.value) found)
 
+-- the members of an object that has these alone
 abbrev pub flat_members : List FlatMember → Members
 flat_members ms = put_flat ms no_members
 
+-- what the line says
 abbrev pub flat_object : FlatLine → Data
 flat_object line = object (flat_members line.members.items)
 

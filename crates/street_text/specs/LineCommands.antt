@@ -29,6 +29,7 @@ abbrev pub entries_of : {T : Type 0} → (Data → Option T) → Items → Optio
 entries_of entry no_items = Some []
 entries_of entry (item d ds) = option_and_then (λ x. option_map (λ xs. x ∷ xs) (entries_of entry ds)) (entry d)
 
+-- a list of entries, each of which is read by `entry`
 abbrev pub list_in : {T : Type 0} → (Data → Option T) → Data → Option (List T)
 list_in entry d = option_and_then (entries_of entry) (as_array d)
 
@@ -36,31 +37,39 @@ list_in entry d = option_and_then (entries_of entry) (as_array d)
 unfoldable pub row_in : ℕ → Data → Option (List ℕ)
 row_in n d = option_and_then (λ ns. if length ns == n then Some ns else None) (list_in number_in d)
 
+-- a node of its three numbers
 abbrev pub node_from : List ℕ → Option NodeSpec
 node_from (a ∷ b ∷ c ∷ []) = Some (record { id = a; residence = b; capacity = c })
 node_from _ = None
 
+-- a node: a list of three numbers
 unfoldable pub node_in : Data → Option NodeSpec
 node_in d = option_and_then node_from (row_in 3 d)
 
+-- a link of its six numbers
 abbrev pub link_from : List ℕ → Option LinkSpec
 link_from (a ∷ b ∷ c ∷ d ∷ e ∷ f ∷ []) = Some (record { id = a; from = b; to = c; lanes = d; length = e; limit = f })
 link_from _ = None
 
+-- a link: a list of six numbers
 unfoldable pub link_in : Data → Option LinkSpec
 link_in d = option_and_then link_from (row_in 6 d)
 
+-- a turn of its four numbers
 abbrev pub turn_from : List ℕ → Option TurnSpec
 turn_from (a ∷ b ∷ c ∷ d ∷ []) = Some (record { link = a; lane = b; next = c; next_lane = d })
 turn_from _ = None
 
+-- a turn: a list of four numbers
 unfoldable pub turn_in : Data → Option TurnSpec
 turn_in d = option_and_then turn_from (row_in 4 d)
 
+-- a green turn of its three numbers
 abbrev pub green_from : List ℕ → Option GreenSpec
 green_from (a ∷ b ∷ c ∷ []) = Some (record { link = a; lane = b; next = c })
 green_from _ = None
 
+-- a green turn: a list of three numbers
 unfoldable pub green_in : Data → Option GreenSpec
 green_in d = option_and_then green_from (row_in 3 d)
 
@@ -70,6 +79,7 @@ phase_from (item d (item g no_items)) =
     option_and_then (λ duration. option_map (λ greens. record { duration = duration; greens = greens }) (list_in green_in g)) (number_in d)
 phase_from _ = None
 
+-- a phase: a list of these two
 unfoldable pub phase_in : Data → Option PhaseSpec
 phase_in d = option_and_then phase_from (as_array d)
 
@@ -79,9 +89,11 @@ phase_in d = option_and_then phase_from (as_array d)
 abbrev pub field : {T : Type 0} → (Data → Option T) → List ℕ → Data → Option T
 field entry key d = option_and_then entry (get key d)
 
+-- a field that is a number
 abbrev pub number_field : List ℕ → Data → Option ℕ
 number_field key d = field number_in key d
 
+-- the number that is there, and another where nothing is
 abbrev pub or_if_none : ℕ → Option Data → Option ℕ
 or_if_none absent None = Some absent
 or_if_none absent (Some d) = number_in d
@@ -108,6 +120,7 @@ numbers_in d =
     with number_field (codes "seed") d
     with number_or 0 (codes "start") d
 
+-- the command `load`
 unfoldable pub load_in : Data → Option Command
 load_in d =
     Some (λ nodes links turns numbers. Load (record {
@@ -130,6 +143,7 @@ abbrev pub size_in : Bool → Data → Option ℕ
 size_in true d = number_or 1 (codes "size") d
 size_in false d = Some 1
 
+-- the command `enter`
 unfoldable pub enter_in : Bool → Data → Option Command
 enter_in sized d =
     Some (λ plan lane depart size. Enter plan lane depart size)
@@ -138,6 +152,7 @@ enter_in sized d =
     with number_field (codes "depart") d
     with size_in sized d
 
+-- the command `signal`
 unfoldable pub signal_in : Data → Option Command
 signal_in d =
     Some (λ node offset phases. Signal node offset phases)
@@ -145,9 +160,11 @@ signal_in d =
     with number_field (codes "offset") d
     with field (list_in phase_in) (codes "phases") d
 
+-- the command `advance`
 unfoldable pub advance_in : Data → Option Command
 advance_in d = Some Advance with number_field (codes "steps") d
 
+-- the command `close`
 unfoldable pub close_in : Data → Option Command
 close_in d =
     Some (λ link lane first last. CloseLane link lane first last)
@@ -156,6 +173,7 @@ close_in d =
     with number_field (codes "first") d
     with number_field (codes "last") d
 
+-- the command `reopen`
 unfoldable pub reopen_in : Data → Option Command
 reopen_in d =
     Some (λ link lane first last. ReopenLane link lane first last)
@@ -164,9 +182,11 @@ reopen_in d =
     with number_field (codes "first") d
     with number_field (codes "last") d
 
+-- the command `takeout`
 unfoldable pub take_out_in : Data → Option Command
 take_out_in d = Some TakeOut with number_field (codes "car") d
 
+-- the command `meter`
 unfoldable pub place_meter_in : Data → Option Command
 place_meter_in d =
     Some (λ link lane cell period. PlaceMeter link lane cell period)
@@ -175,12 +195,15 @@ place_meter_in d =
     with number_field (codes "cell") d
     with number_field (codes "period") d
 
+-- the command `read`
 unfoldable pub read_meter_in : Data → Option Command
 read_meter_in d = Some ReadMeter with number_field (codes "meter") d
 
+-- the command `vehicle`
 unfoldable pub vehicle_in : Data → Option Command
 vehicle_in d = Some Vehicle with number_field (codes "car") d
 
+-- the command `lane`
 unfoldable pub lane_in : Data → Option Command
 lane_in d =
     Some (λ link lane. Lane link lane)
@@ -208,6 +231,7 @@ abbrev pub named_in : List (List ℕ × (Data → Option Command)) → List ℕ 
 named_in [] name d = None
 named_in ((key, reads) ∷ rest) name d = if bytes_eq name key then reads d else named_in rest name d
 
+-- the command of this name, whichever it is; sizes are read or not
 unfoldable pub named : Bool → List ℕ → Data → Option Command
 named sized name d = named_in (names sized) name d
 
@@ -217,9 +241,11 @@ command_in sized d = option_and_then (λ name. named sized name d) (field as_str
 
 -- ---- lines
 
+-- the most bytes of a line, its LF not counted
 abbrev pub longest_line : ℕ
 longest_line = 1048576
 
+-- what was found, or this fault where nothing was
 abbrev pub or_fault : {A : Type 0} → LineFault → Option A → Result A LineFault
 or_fault fault (Some x) = Ok x
 or_fault fault None = Err fault
@@ -228,6 +254,7 @@ or_fault fault None = Err fault
 unfoldable pub value_of : List ℕ → Option Data
 value_of line = if is_utf8 line then read line else None
 
+-- the command that the value of a line says, or why it says none
 abbrev pub command_or_fault : Option Data → Result Command LineFault
 command_or_fault None = Err NotJson
 command_or_fault (Some d) = or_fault BadCommand (command_in true d)
@@ -238,6 +265,7 @@ reading line = if nat_lt longest_line (length line) then Err LineTooLong else co
 
 -- ---- what a function answers that may want memory
 
+-- what a fault that was answered tells of what was wanted: lack of memory tells nothing
 abbrev pub Fails : {Y : Type 0} → LineFault → Result Y LineFault → Type 0
 Fails Starved wanted = Unit {0}
 Fails LineTooLong wanted = wanted ≡ Err LineTooLong
@@ -249,12 +277,14 @@ abbrev pub Gives : {Y : Type 0} → Result Y LineFault → Result Y LineFault �
 Gives (Ok x) wanted = wanted ≡ Ok x
 Gives (Err e) wanted = Fails e wanted
 
+-- so where the value of a line was wanted, of which too long a line is no fault
 abbrev pub FailsValue : LineFault → Option Data → Type 0
 FailsValue Starved wanted = Unit {0}
 FailsValue LineTooLong wanted = ⊥
 FailsValue NotJson wanted = wanted ≡ None
 FailsValue BadCommand wanted = ⊥
 
+-- what was answered is the value that was wanted, or memory ran out
 abbrev pub GivesValue : Result Value LineFault → Option Data → Type 0
 GivesValue (Ok v) wanted = wanted ≡ Some (view v)
 GivesValue (Err e) wanted = FailsValue e wanted

@@ -30,20 +30,25 @@ abbrev pub items_from : {T : Type 0} → (T → Data) → List T → Items
 items_from one [] = no_items
 items_from one (x ∷ xs) = item (one x) (items_from one xs)
 
+-- a number
 abbrev pub number_data : ℕ → Data
 number_data n = number (unsigned n)
 
+-- a list of numbers
 abbrev pub numbers : List ℕ → Items
 numbers ns = items_from number_data ns
 
 -- ---- rows
 
+-- a full row of a detector
 abbrev pub meter_data : MeterRow → Data
 meter_data r = array (numbers (r.start ∷ r.passes ∷ r.speeds ∷ r.occupied ∷ []))
 
+-- its running row, with the steps so far
 abbrev pub running_data : RunningRow → Data
 running_data r = array (numbers (r.start ∷ r.steps ∷ r.passes ∷ r.speeds ∷ r.occupied ∷ []))
 
+-- a vehicle in a buffer
 abbrev pub buffer_data : BufferEntry → Data
 buffer_data e = array (numbers (e.car ∷ e.speed ∷ e.ready ∷ []))
 
@@ -51,40 +56,51 @@ buffer_data e = array (numbers (e.car ∷ e.speed ∷ e.ready ∷ []))
 abbrev pub cell_data : CellEntry → Data
 cell_data e = array (numbers (e.car ∷ e.cell ∷ e.speed ∷ (if nat_lt 1 e.size then e.size ∷ [] else [])))
 
+-- a stretch of closed cells
 abbrev pub stretch_data : Stretch → Data
 stretch_data s = array (numbers (s.first ∷ s.last ∷ []))
 
+-- a vehicle that waits
 abbrev pub waiting_data : WaitingEntry → Data
 waiting_data e = array (numbers (e.car ∷ e.depart ∷ []))
 
 -- ---- entries of a command
 
+-- a node
 abbrev pub node_data : NodeSpec → Data
 node_data n = array (numbers (n.id ∷ n.residence ∷ n.capacity ∷ []))
 
+-- a link
 abbrev pub link_data : LinkSpec → Data
 link_data l = array (numbers (l.id ∷ l.from ∷ l.to ∷ l.lanes ∷ l.length ∷ l.limit ∷ []))
 
+-- a turn
 abbrev pub turn_data : TurnSpec → Data
 turn_data t = array (numbers (t.link ∷ t.lane ∷ t.next ∷ t.next_lane ∷ []))
 
+-- a green turn
 abbrev pub green_data : GreenSpec → Data
 green_data g = array (numbers (g.link ∷ g.lane ∷ g.next ∷ []))
 
+-- a phase: its duration, and the list of its green turns
 abbrev pub phase_data : PhaseSpec → Data
 phase_data p = array (item (number_data p.duration) (item (array (items_from green_data p.greens)) no_items))
 
 -- ---- members
 
+-- a number under a key, before other members
 abbrev pub number_at : List ℕ → ℕ → Members → Members
 number_at key n more = member key (number (unsigned n)) more
 
+-- a text
 abbrev pub text_at : List ℕ → List ℕ → Members → Members
 text_at key text more = member key (string text) more
 
+-- a list
 abbrev pub list_at : {T : Type 0} → List ℕ → (T → Data) → List T → Members → Members
 list_at key one list more = member key (array (items_from one list)) more
 
+-- a plan, which is a list of numbers
 abbrev pub plan_at : List ℕ → Members → Members
 plan_at plan more = list_at (codes "plan") number_data plan more
 
@@ -98,6 +114,7 @@ size_at size more = if nat_lt 1 size then number_at (codes "size") size more els
 abbrev pub error_at : ℕ → List ℕ → Members → Members
 error_at n name more = number_at (codes "error") n (text_at (codes "name") name more)
 
+-- the number and the name of a refusal
 abbrev pub refusal_at : Refusal → Members → Members
 refusal_at r more = error_at (number_of r) (name_of r) more
 
@@ -105,6 +122,7 @@ refusal_at r more = error_at (number_of r) (name_of r) more
 abbrev pub error_data : ℕ → List ℕ → Data
 error_data n name = object (error_at n name no_members)
 
+-- a refusal, with its place where it has one
 abbrev pub refused_data : Refusal → Data
 refused_data (BadNetwork part at) =
     object (number_at (codes "at") at (refusal_at (BadNetwork part at) (text_at (codes "part") (part_name part) no_members)))
@@ -112,9 +130,11 @@ refused_data (BadPlan at) = object (number_at (codes "at") at (refusal_at (BadPl
 refused_data (BadSignal at) = object (number_at (codes "at") at (refusal_at (BadSignal at) no_members))
 refused_data refusal = object (refusal_at refusal no_members)
 
+-- a vehicle that has ended in this step, as this state says
 abbrev pub ended_data : ℕ → List ℕ → ℕ → Data
 ended_data car state step = object (number_at (codes "car") car (text_at (codes "state") state (number_at (codes "step") step no_members)))
 
+-- where a vehicle is, or how it ended
 abbrev pub vehicle_data : ℕ → Whereabouts → Data
 vehicle_data car (Cell link lane cell speed size plan) =
     object (number_at (codes "car") car (number_at (codes "cell") cell (number_at (codes "lane") lane (number_at (codes "link") link
@@ -128,6 +148,7 @@ vehicle_data car (Waiting link lane depart size plan) =
 vehicle_data car (Ended (Arrived step)) = ended_data car (codes "arrived") step
 vehicle_data car (Ended (Taken step)) = ended_data car (codes "taken") step
 
+-- a reply
 abbrev pub reply_data : Reply → Data
 reply_data (Loaded links nodes turns) = object (number_at (codes "links") links (number_at (codes "nodes") nodes (number_at (codes "turns") turns no_members)))
 reply_data (Signalled cycle) = object (number_at (codes "cycle") cycle no_members)
@@ -154,5 +175,6 @@ reply_data Starved = object (member (codes "starved") (boolean true) no_members)
 abbrev pub line_of : Data → List ℕ
 line_of d = compact_text d ++ 10 ∷ []
 
+-- the line of a reply
 unfoldable pub reply_line : Reply → List ℕ
 reply_line r = line_of (reply_data r)

@@ -12,7 +12,7 @@ use serde_json::Value;
 use std::alloc::{AllocError, Global};
 use street_base::{Command, NetSpec, PhaseSpec, Starved};
 
-/// The command that loads a network.
+/// The JSON value of the command `load` of this network.
 fn load_value(alloc: Global, net: &NetSpec) -> Result<Value, AllocError>
     ensures { IfOk result (λ v. view v ≡ command_data (Load net.now)) }
 {
@@ -32,14 +32,15 @@ fn load_value(alloc: Global, net: &NetSpec) -> Result<Value, AllocError>
     )
 }
 
-/// The size of a vehicle, where it is not 1.
+/// The size of a vehicle, in cells, as a command tells it: none where it is 1.
 fn told_size(size: u64) -> Option<u64>
     ensures { result ≡ (if size == 1 then None else Some size) }
 {
     if size == 1 { None } else { Some(size) }
 }
 
-/// The command that has a vehicle enter.
+/// The JSON value of the command `enter`: the identifiers of the plan's links, the lane of the first, the step from which it may
+/// depart, the size in cells.
 fn enter_value(
     alloc: Global,
     plan: &[u64],
@@ -61,7 +62,7 @@ fn enter_value(
     )
 }
 
-/// The command that gives a node its signal plan.
+/// The JSON value of the command `signal`, which gives a node its plan of phases. The offset is in steps.
 fn signal_value(
     alloc: Global,
     node: u64,
@@ -81,7 +82,8 @@ fn signal_value(
     )
 }
 
-/// The command of this name, `close` or `reopen`, about the cells of a lane from the first to the last.
+/// The JSON value of the command of this name, `close` or `reopen`, about the cells of a lane from the first to the last, both
+/// among them.
 fn stretch_value(
     alloc: Global,
     name: &str,
@@ -104,7 +106,7 @@ fn stretch_value(
     )
 }
 
-/// The command that makes so many steps.
+/// The JSON value of the command `advance`, which makes so many steps.
 fn advance_value(alloc: Global, steps: u64) -> Result<Value, AllocError>
     ensures { IfOk result (λ v. view v ≡ command_data (Advance steps)) }
 {
@@ -117,7 +119,7 @@ fn advance_value(alloc: Global, steps: u64) -> Result<Value, AllocError>
     )
 }
 
-/// The command of this name, `takeout` or `vehicle`, about one vehicle.
+/// The JSON value of the command of this name, `takeout` or `vehicle`, about the vehicle of this number.
 fn car_value(alloc: Global, name: &str, car: u64) -> Result<Value, AllocError>
     ensures { IfOk result (λ v. view v ≡ car_data_of name.now car) }
 {
@@ -127,7 +129,7 @@ fn car_value(alloc: Global, name: &str, car: u64) -> Result<Value, AllocError>
     )
 }
 
-/// The command that places a detector at a cell of a lane, with rows of so many steps.
+/// The JSON value of the command `meter`, which places a detector at a cell of a lane, with rows of so many steps.
 fn place_meter_value(
     alloc: Global,
     link: u64,
@@ -149,7 +151,7 @@ fn place_meter_value(
     )
 }
 
-/// The command that reads the rows of a detector.
+/// The JSON value of the command `read`, which asks for the rows of the detector of this number.
 fn read_meter_value(alloc: Global, meter: u64) -> Result<Value, AllocError>
     ensures { IfOk result (λ v. view v ≡ command_data (ReadMeter meter)) }
 {
@@ -162,7 +164,7 @@ fn read_meter_value(alloc: Global, meter: u64) -> Result<Value, AllocError>
     )
 }
 
-/// The command that asks what is on a lane.
+/// The JSON value of the command `lane`, which asks what is on a lane.
 fn lane_value(alloc: Global, link: u64, lane: u64) -> Result<Value, AllocError>
     ensures { IfOk result (λ v. view v ≡ command_data (Lane link lane)) }
 {
@@ -176,7 +178,7 @@ fn lane_value(alloc: Global, link: u64, lane: u64) -> Result<Value, AllocError>
     )
 }
 
-/// The command that asks how many vehicles are where.
+/// The JSON value of the command `count`, which asks how many vehicles are where.
 fn count_value(alloc: Global) -> Result<Value, AllocError>
     ensures { IfOk result (λ v. view v ≡ command_data Count) }
 {

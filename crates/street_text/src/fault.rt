@@ -25,7 +25,7 @@ pub enum LineFault {
 }
 
 impl LineFault {
-    /// The number that a reply line tells it by. Lack of memory ends a run, and has none.
+    /// The number that a reply line tells it by, 20 to 22. Lack of memory ends a run, and has none.
     pub fn number(self) -> Option<u64>
         ensures { result ≡ number_of self }
     {
@@ -37,7 +37,7 @@ impl LineFault {
         }
     }
 
-    /// The name that a reply line tells it by.
+    /// The name that a reply line tells it by; `Starved` for lack of memory, of which no line tells.
     pub fn name(self) -> &'static str
         ensures { result.now ≡ name_of self }
     {

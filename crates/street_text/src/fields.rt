@@ -39,14 +39,14 @@ pub enum Field<'a> {
 }
 
 impl Field<'_> {
-    /// Whether there is no such key.
+    /// Whether it is a number that is not there, so that the object has no such key.
     fn is_left_out(&self) -> bool
         ensures { result ≡ is_left_out self.now }
     {
         matches!(self, Field::Optional(None))
     }
 
-    /// Writes its JSON value.
+    /// Writes its JSON value behind what `out` has; null for a number that is left out.
     fn write(&self, out: &mut Writer) -> Result<(), AllocError>
         ensures { OnOk result (Adds (tokens_of (field_data self.now)) out.old out.new) }
     {
@@ -67,7 +67,7 @@ impl Field<'_> {
     }
 }
 
-/// Writes a field under its key, if it is not left out.
+/// Writes a field under its key behind what `out` has, if it is not left out.
 fn write_field(key: &str, field: &Field<'_>, out: &mut Writer) -> Result<(), AllocError>
     ensures { OnOk result (Adds (field_tokens key.now field.now) out.old out.new) }
 {
@@ -78,7 +78,7 @@ fn write_field(key: &str, field: &Field<'_>, out: &mut Writer) -> Result<(), All
     field.write(out)
 }
 
-/// Writes the JSON object of these fields, in their order.
+/// Writes the JSON object of these fields, in their order, without those that are left out, behind what `out` has.
 fn write_object(fields: &[(&str, Field<'_>)], out: &mut Writer) -> Result<(), AllocError>
     ensures { OnOk result (Adds (tokens_of (object (members_of fields.now))) out.old out.new) }
 {
@@ -89,7 +89,11 @@ fn write_object(fields: &[(&str, Field<'_>)], out: &mut Writer) -> Result<(), Al
     out.end_object()
 }
 
-/// The line of the JSON object of these fields, in their order, with its LF.
+/// The line of the JSON object of these fields, in their order, without those that are left out, with its LF.
+///
+/// # Errors
+///
+/// `Starved` where there was no memory for it.
 pub fn object_line(alloc: Global, fields: &[(&str, Field<'_>)]) -> Result<Vec<u8>, Starved>
     ensures { IfOk result (λ text. text.items ≡ line_of (object (members_of fields.now))) }
 {

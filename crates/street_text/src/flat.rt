@@ -42,7 +42,7 @@ pub(crate) struct FlatLine<'a> {
 }
 
 impl<'a> FlatValue<'a> {
-    /// The number, if it is one.
+    /// The number, if it is one; none for a text or a list.
     fn number(&self) -> Option<u64>
         ensures { result ≡ number_in (flat_data self.now) }
     {
@@ -53,7 +53,7 @@ impl<'a> FlatValue<'a> {
         }
     }
 
-    /// The text, if it is one.
+    /// The text, if it is one; none for a number or a list.
     fn text(&self) -> Option<&'a str>
         ensures { option_map (λ s. s.now) result ≡ as_str (flat_data self.now) }
     {
@@ -64,7 +64,7 @@ impl<'a> FlatValue<'a> {
         }
     }
 
-    /// The list, if it is one.
+    /// The list of numbers, if it is one; none for a number or a text.
     fn numbers(&self) -> Option<&[u64]>
         ensures { option_map (λ list. list.now) result ≡ list_in number_in (flat_data self.now) }
     {
@@ -83,7 +83,7 @@ fn has_minus(text: &[u8]) -> bool
     !text.is_empty() && text[0] == b'-'
 }
 
-/// The number of 64 bits that is written with digits alone.
+/// The number below 2^64 that a JSON number is written as, if it is of digits alone: no sign, point or exponent.
 fn whole_number(text: &str) -> Option<u64>
     ensures { IfSome result (λ n. number_of text.now ≡ Some (unsigned n)) }
 {
@@ -94,7 +94,8 @@ fn whole_number(text: &str) -> Option<u64>
     Numeral::scan(digits).to_u64()
 }
 
-/// The numbers of a list, up to its end. None where anything else stands in it, and where memory was refused.
+/// The numbers of a list whose bracket was read, up to its end, which is read too. None where anything else stands in it, and where
+/// memory was refused.
 fn read_numbers(alloc: Global, reader: &mut Reader<'_>) -> Option<Vec<u64>>
     ensures list { IfSome result (λ list. ReadsItems reader.old (numbers list.items) reader.new) }
     ensures shorter { IfSome result (λ list. length reader.new ≤ length reader.old) }
@@ -123,7 +124,8 @@ fn read_value<'a>(alloc: Global, reader: &mut Reader<'a>) -> Option<FlatValue<'a
     }
 }
 
-/// The members of an object, up to its end. None where one of them may not stand in a flat line, and where memory was refused.
+/// The members of an object whose brace was read, up to its end, which is read too. None where one of them may not stand in a flat
+/// line, and where memory was refused.
 fn read_members<'a>(alloc: Global, reader: &mut Reader<'a>) -> Option<Vec<FlatMember<'a>>>
     ensures { IfSome result (λ list. ReadsMembers reader.old (flat_members list.items) reader.new) }
 {
@@ -135,7 +137,7 @@ fn read_members<'a>(alloc: Global, reader: &mut Reader<'a>) -> Option<Vec<FlatMe
     Some(found)
 }
 
-/// The flat line of a text, if it is one.
+/// The flat line of a text, if it is one and there is memory for it. Texts stand in `scratch` where they have escapes.
 fn read_text<'a>(alloc: Global, scratch: &'a mut Scratch, text: &'a str) -> Option<FlatLine<'a>>
     ensures { IfSome result (λ line. read text.now ≡ Some (flat_object line)) }
 {
@@ -151,7 +153,7 @@ fn read_text<'a>(alloc: Global, scratch: &'a mut Scratch, text: &'a str) -> Opti
 }
 
 impl<'a> FlatLine<'a> {
-    /// The flat line of these bytes, if they are one and there is memory for it.
+    /// The flat line of these bytes, which have no LF, if they are one, as JSON in UTF-8, and there is memory for it.
     pub(crate) fn of_bytes(
         alloc: Global,
         scratch: &'a mut Scratch,
@@ -178,7 +180,7 @@ impl<'a> FlatLine<'a> {
         None
     }
 
-    /// The text of a name.
+    /// The text that stands under a name; none where no text stands there.
     pub(crate) fn text(&self, name: &str) -> Option<&'a str>
         ensures { option_map (λ s. s.now) result ≡ field as_str name.now (flat_object self.now) }
     {
@@ -189,11 +191,13 @@ impl<'a> FlatLine<'a> {
 impl<'a> Lookup for FlatLine<'a> {
     ghost shows = { flat_object };
 
+    /// The number that stands under a name, of a flat line. As the trait says.
     fn number(&self, name: &str) -> Result<u64, LineFault> {
         let found = self.get(name).ok_or(LineFault::BadCommand)?;
         found.number().ok_or(LineFault::BadCommand)
     }
 
+    /// The number that stands under a name, or `absent`, of a flat line. As the trait says.
     fn number_or(&self, name: &str, absent: u64) -> Result<u64, LineFault> {
         match self.get(name) {
             Some(found) => found.number().ok_or(LineFault::BadCommand),
@@ -201,6 +205,7 @@ impl<'a> Lookup for FlatLine<'a> {
         }
     }
 
+    /// A copy of the list of numbers that stands under a name, of a flat line. As the trait says.
     fn numbers(&self, alloc: Global, name: &str) -> Result<Listing<u64>, LineFault> {
         let found = self.get(name).ok_or(LineFault::BadCommand)?;
         let list = found.numbers().ok_or(LineFault::BadCommand)?;

@@ -1,4 +1,4 @@
-//! From the bytes of a line to a command: one small function for each command.
+//! From the bytes of a line to a command: the reading of a line, and the commands `load` and `signal`; `number_commands` has the others.
 //!
 //! Source: this profile.
 ghost use Rattle.std.specs.Prelude.{◌≡◌, ◌⊎◌};
@@ -26,7 +26,12 @@ struct NetNumbers {
     start: u64,
 }
 
-/// The numbers of a network, from the JSON value of a command `load`.
+/// The numbers of a network, from the JSON value of a command `load`. `start`, the clock that it begins at, is 0 where it is
+/// absent.
+///
+/// # Errors
+///
+/// `BadCommand` where one of the others is missing, or one is no number below 2^64.
 #[tactic(auto, unfolding(crate::specs::LineCommands::numbers_in))]
 fn numbers(alloc: Global, value: &Value) -> Result<NetNumbers, LineFault>
     ensures { Gives result (or_fault LineFault.BadCommand (numbers_in (view value.now))) }
@@ -46,6 +51,10 @@ fn numbers(alloc: Global, value: &Value) -> Result<NetNumbers, LineFault>
 }
 
 /// The command `load` that a JSON value says.
+///
+/// # Errors
+///
+/// Those of [`command_of`].
 #[tactic(auto, unfolding(crate::specs::LineCommands::load_in))]
 fn load(alloc: Global, value: &Value) -> Result<Command, LineFault>
     ensures { Gives result (or_fault LineFault.BadCommand (load_in (view value.now))) }
@@ -67,6 +76,10 @@ fn load(alloc: Global, value: &Value) -> Result<Command, LineFault>
 }
 
 /// The command `signal` that a JSON value says.
+///
+/// # Errors
+///
+/// Those of [`command_of`].
 #[tactic(auto, unfolding(crate::specs::LineCommands::signal_in))]
 fn signal(alloc: Global, value: &Value) -> Result<Command, LineFault>
     ensures { Gives result (or_fault LineFault.BadCommand (signal_in (view value.now))) }
@@ -81,7 +94,11 @@ fn signal(alloc: Global, value: &Value) -> Result<Command, LineFault>
     })
 }
 
-/// The command of a name.
+/// The command of this name, what stands as `cmd`, that the other fields of a JSON value say. Sizes are read where `sized` is true.
+///
+/// # Errors
+///
+/// Those of [`command_of`].
 #[tactic(auto, unfolding(crate::specs::LineCommands::named))]
 fn named(alloc: Global, name: &str, value: &Value, sized: bool) -> Result<Command, LineFault>
     ensures { Gives result (or_fault LineFault.BadCommand (named sized name.now (view value.now))) }
@@ -93,7 +110,8 @@ fn named(alloc: Global, name: &str, value: &Value, sized: bool) -> Result<Comman
     }
 }
 
-/// The command that a JSON value says. Where sizes are not read, each vehicle that enters has size 1, whatever is told.
+/// The command that a JSON value says. Where `sized` is false, sizes are not read: each vehicle that enters has size 1, whatever is
+/// told.
 ///
 /// # Errors
 ///
@@ -120,7 +138,11 @@ fn fault_of(error: &Error) -> LineFault
     }
 }
 
-/// The JSON value of a line.
+/// The JSON value of a line, which stands without its LF.
+///
+/// # Errors
+///
+/// `NotJson` where it is none; `Starved` where there was no memory for it.
 #[tactic(auto, unfolding(crate::specs::LineCommands::value_of))]
 fn parse(alloc: Global, line: &[u8]) -> Result<Value, LineFault>
     ensures { GivesValue result (value_of line.now) }

@@ -16,11 +16,15 @@ pub trait Printed {
     ghost prints: { Self → Data };
 
     /// Its JSON value.
+    ///
+    /// # Errors
+    ///
+    /// `AllocError` where there was no memory for it.
     fn to_value(&self, alloc: Global) -> Result<Value, AllocError>
         ensures { IfOk result (λ v. view v ≡ prints self.now) };
 }
 
-/// The entries of a list, in order.
+/// The JSON list of these entries, in order.
 ///
 /// # Errors
 ///
@@ -36,25 +40,31 @@ pub fn list_value<T: Printed>(alloc: Global, list: &[T]) -> Result<Value, AllocE
     Ok(Value::Array(items))
 }
 
+/// The number itself.
 impl Printed for u64 {
     ghost prints = { number_data };
 
+    /// A JSON number.
     fn to_value(&self, _alloc: Global) -> Result<Value, AllocError> {
         Ok(Value::from(*self))
     }
 }
 
+/// [id, residence, capacity].
 impl Printed for NodeSpec {
     ghost prints = { node_data };
 
+    /// A JSON list of its fields, in this order.
     fn to_value(&self, alloc: Global) -> Result<Value, AllocError> {
         list_value(alloc, &[self.id, self.residence, self.capacity])
     }
 }
 
+/// [id, from, to, lanes, length, limit]: nodes by identifier, the length in cells, the limit in cells a step.
 impl Printed for LinkSpec {
     ghost prints = { link_data };
 
+    /// A JSON list of its fields, in this order.
     fn to_value(&self, alloc: Global) -> Result<Value, AllocError> {
         list_value(
             alloc,
@@ -70,25 +80,31 @@ impl Printed for LinkSpec {
     }
 }
 
+/// [link, lane, next, next_lane]: links by identifier, lanes by number.
 impl Printed for TurnSpec {
     ghost prints = { turn_data };
 
+    /// A JSON list of its fields, in this order.
     fn to_value(&self, alloc: Global) -> Result<Value, AllocError> {
         list_value(alloc, &[self.link, self.lane, self.next, self.next_lane])
     }
 }
 
+/// [link, lane, next]: links by identifier, the lane by number.
 impl Printed for GreenSpec {
     ghost prints = { green_data };
 
+    /// A JSON list of its fields, in this order.
     fn to_value(&self, alloc: Global) -> Result<Value, AllocError> {
         list_value(alloc, &[self.link, self.lane, self.next])
     }
 }
 
+/// [duration, greens]: steps, and the list of green turns.
 impl Printed for PhaseSpec {
     ghost prints = { phase_data };
 
+    /// A JSON list of its fields, in this order.
     fn to_value(&self, alloc: Global) -> Result<Value, AllocError> {
         let greens = list_value(alloc, self.greens.as_slice())?;
         json!(in alloc; [self.duration, greens])

@@ -32,14 +32,14 @@ pub enum Member<'a> {
 }
 
 impl Member<'_> {
-    /// Whether there is no such key.
+    /// Whether it is a number that is not there, so that the object has no such key.
     fn is_absent(&self) -> bool
         ensures { result ≡ is_absent self.now }
     {
         matches!(self, Member::Optional(None))
     }
 
-    /// Its JSON value.
+    /// Its JSON value; null for a number that is absent.
     fn to_value(&self, alloc: Global) -> Result<Value, AllocError>
         ensures { IfOk result (λ v. view v ≡ member_data self.now) }
     {
@@ -57,7 +57,11 @@ impl Member<'_> {
     }
 }
 
-/// Puts a member under its key, if it is not absent.
+/// Puts the JSON value of a member under its key into an object, if it is not absent.
+///
+/// # Errors
+///
+/// `AllocError` where there was no memory for it.
 fn put_member(
     found: &mut Map<String, Value>,
     alloc: Global,
@@ -73,7 +77,7 @@ fn put_member(
     put(found, alloc, key, member.to_value(alloc)?)
 }
 
-/// The object of these members, each that is not absent under its key.
+/// The JSON object of these members, each that is not absent under its key.
 ///
 /// # Errors
 ///

@@ -9,7 +9,12 @@ use crate::lookup::Lookup;
 use std::alloc::Global;
 use street_base::Command;
 
-/// How many cells a vehicle covers: 1 where the field is absent, and where sizes are not read.
+/// How many cells a vehicle covers, as the field `size` says: 1 where it is absent, and where sizes are not read (`sized` is
+/// false).
+///
+/// # Errors
+///
+/// Those of `of_numbers`.
 fn size_of_vehicle<L: Lookup>(line: &L, sized: bool) -> Result<u64, LineFault>
     ensures { Gives result (or_fault LineFault.BadCommand (size_in sized (L.shows line.now))) }
 {
@@ -20,7 +25,11 @@ fn size_of_vehicle<L: Lookup>(line: &L, sized: bool) -> Result<u64, LineFault>
     }
 }
 
-/// The command `enter` that the fields of a line say.
+/// The command `enter` that the fields of a line say: plan, lane, depart, and size where `sized` is true.
+///
+/// # Errors
+///
+/// Those of `of_numbers`.
 #[tactic(auto, unfolding(crate::specs::LineCommands::enter_in))]
 fn enter<L: Lookup>(alloc: Global, line: &L, sized: bool) -> Result<Command, LineFault>
     ensures { Gives result (or_fault LineFault.BadCommand (enter_in sized (L.shows line.now))) }
@@ -37,7 +46,11 @@ fn enter<L: Lookup>(alloc: Global, line: &L, sized: bool) -> Result<Command, Lin
     })
 }
 
-/// The command `advance` that the fields of a line say.
+/// The command `advance` that the fields of a line say: steps.
+///
+/// # Errors
+///
+/// Those of `of_numbers`.
 #[tactic(auto, unfolding(crate::specs::LineCommands::advance_in))]
 fn advance<L: Lookup>(line: &L) -> Result<Command, LineFault>
     ensures { Gives result (or_fault LineFault.BadCommand (advance_in (L.shows line.now))) }
@@ -46,7 +59,11 @@ fn advance<L: Lookup>(line: &L) -> Result<Command, LineFault>
     Ok(Command::Advance { steps })
 }
 
-/// The command `close` that the fields of a line say.
+/// The command `close` that the fields of a line say: link, lane, first and last cell.
+///
+/// # Errors
+///
+/// Those of `of_numbers`.
 #[tactic(auto, unfolding(crate::specs::LineCommands::close_in))]
 fn close<L: Lookup>(line: &L) -> Result<Command, LineFault>
     ensures { Gives result (or_fault LineFault.BadCommand (close_in (L.shows line.now))) }
@@ -63,7 +80,11 @@ fn close<L: Lookup>(line: &L) -> Result<Command, LineFault>
     })
 }
 
-/// The command `reopen` that the fields of a line say.
+/// The command `reopen` that the fields of a line say: link, lane, first and last cell.
+///
+/// # Errors
+///
+/// Those of `of_numbers`.
 #[tactic(auto, unfolding(crate::specs::LineCommands::reopen_in))]
 fn reopen<L: Lookup>(line: &L) -> Result<Command, LineFault>
     ensures { Gives result (or_fault LineFault.BadCommand (reopen_in (L.shows line.now))) }
@@ -80,7 +101,11 @@ fn reopen<L: Lookup>(line: &L) -> Result<Command, LineFault>
     })
 }
 
-/// The command `takeout` that the fields of a line say.
+/// The command `takeout` that the fields of a line say: the number of a vehicle.
+///
+/// # Errors
+///
+/// Those of `of_numbers`.
 #[tactic(auto, unfolding(crate::specs::LineCommands::take_out_in))]
 fn take_out<L: Lookup>(line: &L) -> Result<Command, LineFault>
     ensures { Gives result (or_fault LineFault.BadCommand (take_out_in (L.shows line.now))) }
@@ -89,7 +114,11 @@ fn take_out<L: Lookup>(line: &L) -> Result<Command, LineFault>
     Ok(Command::TakeOut { car })
 }
 
-/// The command `meter` that the fields of a line say.
+/// The command `meter` that the fields of a line say: link, lane, cell and period.
+///
+/// # Errors
+///
+/// Those of `of_numbers`.
 #[tactic(auto, unfolding(crate::specs::LineCommands::place_meter_in))]
 fn place_meter<L: Lookup>(line: &L) -> Result<Command, LineFault>
     ensures { Gives result (or_fault LineFault.BadCommand (place_meter_in (L.shows line.now))) }
@@ -106,7 +135,11 @@ fn place_meter<L: Lookup>(line: &L) -> Result<Command, LineFault>
     })
 }
 
-/// The command `read` that the fields of a line say.
+/// The command `read` that the fields of a line say: the number of a detector.
+///
+/// # Errors
+///
+/// Those of `of_numbers`.
 #[tactic(auto, unfolding(crate::specs::LineCommands::read_meter_in))]
 fn read_meter<L: Lookup>(line: &L) -> Result<Command, LineFault>
     ensures { Gives result (or_fault LineFault.BadCommand (read_meter_in (L.shows line.now))) }
@@ -115,7 +148,11 @@ fn read_meter<L: Lookup>(line: &L) -> Result<Command, LineFault>
     Ok(Command::ReadMeter { meter })
 }
 
-/// The command `vehicle` that the fields of a line say.
+/// The command `vehicle` that the fields of a line say: the number of a vehicle.
+///
+/// # Errors
+///
+/// Those of `of_numbers`.
 #[tactic(auto, unfolding(crate::specs::LineCommands::vehicle_in))]
 fn vehicle<L: Lookup>(line: &L) -> Result<Command, LineFault>
     ensures { Gives result (or_fault LineFault.BadCommand (vehicle_in (L.shows line.now))) }
@@ -124,7 +161,11 @@ fn vehicle<L: Lookup>(line: &L) -> Result<Command, LineFault>
     Ok(Command::Vehicle { car })
 }
 
-/// The command `lane` that the fields of a line say.
+/// The command `lane` that the fields of a line say: link and lane.
+///
+/// # Errors
+///
+/// Those of `of_numbers`.
 #[tactic(auto, unfolding(crate::specs::LineCommands::lane_in))]
 fn lane<L: Lookup>(line: &L) -> Result<Command, LineFault>
     ensures { Gives result (or_fault LineFault.BadCommand (lane_in (L.shows line.now))) }
@@ -134,7 +175,11 @@ fn lane<L: Lookup>(line: &L) -> Result<Command, LineFault>
     Ok(Command::Lane { link, lane })
 }
 
-/// The command of a name that observes: by a detector, a vehicle, a lane, or a count of all.
+/// The command of this name, one of `meter`, `read`, `vehicle`, `lane` and `count`, that the fields of a line say.
+///
+/// # Errors
+///
+/// `BadCommand` for any other name, and where a field is missing or no number.
 fn observing<L: Lookup>(name: &str, line: &L) -> Result<Command, LineFault>
     ensures { Gives result (or_fault LineFault.BadCommand (named_in observing_names name.now (L.shows line.now))) }
 {

@@ -14,7 +14,8 @@ use street_base::{
     WaitingEntry, Whereabouts,
 };
 
-/// The line that tells why a command was refused.
+/// The line that tells why a command was refused: number and name of the refusal, and where it has them the part and place of the
+/// fault.
 fn refused(alloc: Global, refusal: Refusal) -> Result<Vec<u8>, Starved>
     ensures { IfOk result (λ text. text.items ≡ line_of (refused_data refusal)) }
 {
@@ -38,7 +39,7 @@ fn refused(alloc: Global, refusal: Refusal) -> Result<Vec<u8>, Starved>
     }
 }
 
-/// The size of a vehicle, where it is more than one cell.
+/// The size of a vehicle, in cells, as a reply tells it: none where it is 1.
 fn told_size(size: u64) -> Option<u64>
     ensures { result ≡ (if nat_lt 1 size then Some size else None) }
 {
@@ -55,7 +56,7 @@ struct OnLane {
 }
 
 impl OnLane {
-    /// The vehicle of this number, on this lane.
+    /// The vehicle of this number, on this lane or before it; its size is in cells.
     fn new(car: u64, link: u64, lane: u64, size: u64) -> OnLane
         ensures { result ≡ record { car = car; link = link; lane = lane; size = size } }
     {
@@ -68,7 +69,7 @@ impl OnLane {
     }
 }
 
-/// The line of a vehicle in a cell of its lane.
+/// The line of a vehicle in a cell of its lane. Cells count from 0; the speed is in cells a step.
 fn in_cell(
     alloc: Global,
     at: OnLane,
@@ -94,7 +95,7 @@ fn in_cell(
     )
 }
 
-/// The line of a vehicle in the buffer of its lane.
+/// The line of a vehicle in the buffer of its lane, which it may leave from step `ready` on. The speed is in cells a step.
 fn in_buffer(
     alloc: Global,
     at: OnLane,
@@ -120,7 +121,7 @@ fn in_buffer(
     )
 }
 
-/// The line of a vehicle that waits for its lane.
+/// The line of a vehicle that waits for its lane, which it may enter from step `depart` on.
 fn waiting(alloc: Global, at: OnLane, depart: u64, plan: &[u64]) -> Result<Vec<u8>, Starved>
     ensures { IfOk result (λ text. text.items
         ≡ line_of (vehicle_data at.car (Waiting at.link at.lane depart at.size plan.now))) }
@@ -139,7 +140,7 @@ fn waiting(alloc: Global, at: OnLane, depart: u64, plan: &[u64]) -> Result<Vec<u
     )
 }
 
-/// The line of a vehicle that has ended in this step, as `arrived` or as `taken`.
+/// The line of a vehicle that has ended in step `step`. The state is `arrived` or `taken`.
 fn ended_as(alloc: Global, car: u64, state: &str, step: u64) -> Result<Vec<u8>, Starved>
     ensures { IfOk result (λ text. text.items ≡ line_of (ended_data car state.now step)) }
 {
@@ -153,7 +154,7 @@ fn ended_as(alloc: Global, car: u64, state: &str, step: u64) -> Result<Vec<u8>, 
     )
 }
 
-/// The line of a vehicle that has ended.
+/// The line of a vehicle that has ended: by arriving, or by being taken out, and in which step.
 fn ended(alloc: Global, car: u64, end: &End) -> Result<Vec<u8>, Starved>
     ensures { IfOk result (λ text. text.items ≡ line_of (vehicle_data car (Ended end.now))) }
 {
@@ -163,7 +164,7 @@ fn ended(alloc: Global, car: u64, end: &End) -> Result<Vec<u8>, Starved>
     }
 }
 
-/// The line that tells where a vehicle is.
+/// The line that tells where the vehicle of a number is: in a cell, in a buffer, waiting, or ended.
 fn vehicle(alloc: Global, car: u64, whereabouts: &Whereabouts) -> Result<Vec<u8>, Starved>
     ensures { IfOk result (λ text. text.items ≡ line_of (vehicle_data car whereabouts.now)) }
 {
@@ -212,7 +213,7 @@ fn vehicle(alloc: Global, car: u64, whereabouts: &Whereabouts) -> Result<Vec<u8>
     }
 }
 
-/// The line of the rows of a detector.
+/// The line of the rows of a detector: the running row as `now`, the full ones as `rows`.
 fn rows(alloc: Global, now: &RunningRow, rows: &Listing<MeterRow>) -> Result<Vec<u8>, Starved>
     ensures { IfOk result (λ text. text.items ≡ line_of (reply_data (Rows now.now rows.now))) }
 {
@@ -225,7 +226,7 @@ fn rows(alloc: Global, now: &RunningRow, rows: &Listing<MeterRow>) -> Result<Vec
     )
 }
 
-/// The line that tells who is on a lane or waits for it, and which cells are closed.
+/// The line that tells who is on a lane or waits for it, and which stretches of its cells are closed.
 fn lane(
     alloc: Global,
     buffer: &Listing<BufferEntry>,
@@ -247,7 +248,7 @@ fn lane(
     )
 }
 
-/// The line of an object of one number, under this name.
+/// The line of a JSON object of one number, under this name.
 fn one_number(alloc: Global, name: &str, number: u64) -> Result<Vec<u8>, Starved>
     ensures { IfOk result (λ text. text.items ≡ line_of (object (number_at name.now number no_members))) }
 {
@@ -255,6 +256,10 @@ fn one_number(alloc: Global, name: &str, number: u64) -> Result<Vec<u8>, Starved
 }
 
 /// The line of a reply: one JSON object, its keys in byte order, and LF.
+///
+/// # Errors
+///
+/// `Starved` where there was no memory for it.
 #[tactic(auto, unfolding(crate::specs::ReplyLines::reply_line))]
 pub fn reply_text(alloc: Global, reply: &Reply) -> Result<Vec<u8>, Starved>
     ensures { IfOk result (λ text. text.items ≡ reply_line reply.now) }

@@ -15,12 +15,12 @@ use street_base::{BufferEntry, CellEntry, MeterRow, RunningRow, Stretch, Waiting
 pub trait Row {
     ghost shows: { Self → Data };
 
-    /// Writes its JSON value.
+    /// Writes its JSON value behind what `out` has.
     fn write(&self, out: &mut Writer) -> Result<(), AllocError>
         ensures { OnOk result (Adds (tokens_of (shows self.now)) out.old out.new) };
 }
 
-/// Writes the entries of a list, in order.
+/// Writes the JSON list of these entries, in order, behind what `out` has.
 pub fn write_list<T: Row>(list: &[T], out: &mut Writer) -> Result<(), AllocError>
     ensures { OnOk result (Adds (tokens_of (array (items_from T.shows list.now))) out.old out.new) }
 {
@@ -31,18 +31,22 @@ pub fn write_list<T: Row>(list: &[T], out: &mut Writer) -> Result<(), AllocError
     out.end_array()
 }
 
+/// The number itself.
 impl Row for u64 {
     ghost shows = { number_data };
 
+    /// Writes a JSON number.
     fn write(&self, out: &mut Writer) -> Result<(), AllocError> {
         out.u64(*self)
     }
 }
 
-/// [start, passes, speeds, occupied]: the clock at which the period began, vehicles, the sum of their speeds in cells a step, steps in which the cell was covered.
+/// [start, passes, speeds, occupied]: the clock at which the period began, vehicles, the sum of their speeds in cells a step, steps
+/// in which the cell was covered.
 impl Row for MeterRow {
     ghost shows = { meter_data };
 
+    /// Writes a JSON list of its fields, in this order.
     fn write(&self, out: &mut Writer) -> Result<(), AllocError> {
         write_list(&[self.start, self.passes, self.speeds, self.occupied], out)
     }
@@ -52,6 +56,7 @@ impl Row for MeterRow {
 impl Row for RunningRow {
     ghost shows = { running_data };
 
+    /// Writes a JSON list of its fields, in this order.
     fn write(&self, out: &mut Writer) -> Result<(), AllocError> {
         write_list(
             &[
@@ -70,6 +75,7 @@ impl Row for RunningRow {
 impl Row for BufferEntry {
     ghost shows = { buffer_data };
 
+    /// Writes a JSON list of its fields, in this order.
     fn write(&self, out: &mut Writer) -> Result<(), AllocError> {
         write_list(&[self.car, self.speed, self.ready], out)
     }
@@ -79,6 +85,7 @@ impl Row for BufferEntry {
 impl Row for CellEntry {
     ghost shows = { cell_data };
 
+    /// Writes a JSON list of its fields, in this order.
     fn write(&self, out: &mut Writer) -> Result<(), AllocError> {
         if self.size > 1 {
             write_list(&[self.car, self.cell, self.speed, self.size], out)
@@ -92,6 +99,7 @@ impl Row for CellEntry {
 impl Row for Stretch {
     ghost shows = { stretch_data };
 
+    /// Writes a JSON list of its fields, in this order.
     fn write(&self, out: &mut Writer) -> Result<(), AllocError> {
         write_list(&[self.first, self.last], out)
     }
@@ -101,6 +109,7 @@ impl Row for Stretch {
 impl Row for WaitingEntry {
     ghost shows = { waiting_data };
 
+    /// Writes a JSON list of its fields, in this order.
     fn write(&self, out: &mut Writer) -> Result<(), AllocError> {
         write_list(&[self.car, self.depart], out)
     }

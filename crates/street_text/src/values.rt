@@ -24,17 +24,21 @@ pub(crate) trait FromValue {
         ensures { Gives result (or_fault LineFault.BadCommand (entry (view value.now))) };
 }
 
+/// A whole number below 2^64.
 impl FromValue for u64 {
     ghost entry = { number_in };
 
+    /// The number that the value is. Takes no memory.
     fn of_value(_alloc: Global, value: &Value) -> Result<u64, LineFault> {
         value.as_u64().ok_or(LineFault::BadCommand)
     }
 }
 
+/// A list of such entries.
 impl<T: FromValue + Drop> FromValue for Listing<T> {
     ghost entry = { list_in T.entry };
 
+    /// The list whose entries the value has, in order.
     fn of_value(alloc: Global, value: &Value) -> Result<Listing<T>, LineFault> {
         let list = value.as_array().ok_or(LineFault::BadCommand)?;
         // As long as it will be: a journal keeps it.
@@ -51,7 +55,7 @@ impl<T: FromValue + Drop> FromValue for Listing<T> {
     }
 }
 
-/// A list of exactly `N` numbers.
+/// The numbers of a list that has exactly `N`, each below 2^64; none for any other value.
 #[tactic(auto, unfolding(crate::specs::LineCommands::row_in))]
 fn row<const N: usize>(value: &Value) -> Option<[u64; N]>
     ensures { result ≡ row_in N (view value.now) }
@@ -67,10 +71,12 @@ fn row<const N: usize>(value: &Value) -> Option<[u64; N]>
     Some(row)
 }
 
+/// [id, residence, capacity].
 #[tactic(auto, unfolding(crate::specs::LineCommands::node_in))]
 impl FromValue for NodeSpec {
     ghost entry = { node_in };
 
+    /// The node of a list of these three numbers. Takes no memory.
     fn of_value(_alloc: Global, value: &Value) -> Result<NodeSpec, LineFault> {
         let [id, residence, capacity] = row::<3>(value).ok_or(LineFault::BadCommand)?;
         Ok(NodeSpec {
@@ -81,10 +87,12 @@ impl FromValue for NodeSpec {
     }
 }
 
+/// [id, from, to, lanes, length, limit]: nodes by identifier, the length in cells, the limit in cells a step.
 #[tactic(auto, unfolding(crate::specs::LineCommands::link_in))]
 impl FromValue for LinkSpec {
     ghost entry = { link_in };
 
+    /// The link of a list of these six numbers. Takes no memory.
     fn of_value(_alloc: Global, value: &Value) -> Result<LinkSpec, LineFault> {
         let [id, from, to, lanes, length, limit] = row::<6>(value).ok_or(LineFault::BadCommand)?;
         Ok(LinkSpec {
@@ -98,10 +106,12 @@ impl FromValue for LinkSpec {
     }
 }
 
+/// [link, lane, next, next_lane]: links by identifier, lanes by number.
 #[tactic(auto, unfolding(crate::specs::LineCommands::turn_in))]
 impl FromValue for TurnSpec {
     ghost entry = { turn_in };
 
+    /// The turn of a list of these four numbers. Takes no memory.
     fn of_value(_alloc: Global, value: &Value) -> Result<TurnSpec, LineFault> {
         let [link, lane, next, next_lane] = row::<4>(value).ok_or(LineFault::BadCommand)?;
         Ok(TurnSpec {
@@ -113,20 +123,24 @@ impl FromValue for TurnSpec {
     }
 }
 
+/// [link, lane, next]: links by identifier, the lane by number.
 #[tactic(auto, unfolding(crate::specs::LineCommands::green_in))]
 impl FromValue for GreenSpec {
     ghost entry = { green_in };
 
+    /// The green turn of a list of these three numbers. Takes no memory.
     fn of_value(_alloc: Global, value: &Value) -> Result<GreenSpec, LineFault> {
         let [link, lane, next] = row::<3>(value).ok_or(LineFault::BadCommand)?;
         Ok(GreenSpec { link, lane, next })
     }
 }
 
+/// [duration, greens]: steps, and the list of green turns.
 #[tactic(auto, unfolding(crate::specs::LineCommands::phase_in))]
 impl FromValue for PhaseSpec {
     ghost entry = { phase_in };
 
+    /// The phase of a list of these two.
     fn of_value(alloc: Global, value: &Value) -> Result<PhaseSpec, LineFault> {
         let list = value.as_array().ok_or(LineFault::BadCommand)?;
         if list.len() != 2 {
@@ -138,7 +152,11 @@ impl FromValue for PhaseSpec {
     }
 }
 
-/// The field of a name.
+/// What stands in the field of this name of a JSON object.
+///
+/// # Errors
+///
+/// `BadCommand` where there is no such field, or anything else stands in it; `Starved` where there was no memory for its lists.
 pub(crate) fn field_of<T: FromValue>(
     alloc: Global,
     value: &Value,
@@ -150,7 +168,11 @@ pub(crate) fn field_of<T: FromValue>(
     T::of_value(alloc, found)
 }
 
-/// The number of a name, and `absent` where the field is absent.
+/// The number that stands in the field of this name of a JSON object, below 2^64, and `absent` where there is no such field.
+///
+/// # Errors
+///
+/// `BadCommand` where anything else stands in it.
 pub(crate) fn number_or(value: &Value, name: &str, absent: u64) -> Result<u64, LineFault>
     ensures { Gives result (or_fault LineFault.BadCommand (number_or absent name.now (view value.now))) }
 {

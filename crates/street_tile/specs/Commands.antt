@@ -33,6 +33,7 @@ pub record DoesIf (net : NetSpec) (P : Traffic → Type 0) (f : Traffic → Traf
   pub detectors : y.detectors ≡ x.detectors
   pub stands : (m : Traffic) → IsOn net m → P m → StandsFor x m → StandsFor y (f m)
 
+-- so whatever the tile stood for
 abbrev pub Does : NetSpec → (Traffic → Traffic) → TileView → TileView → Type 0
 Does net f x y = DoesIf net (λ m. Unit {0}) f x y
 

@@ -32,6 +32,7 @@ entries_to to entries = map (λ e. e.vehicle) (filter (λ e. is_place to e.to) e
 abbrev pub let_go_lane : Traffic → Place → LaneState → LaneState
 let_go_lane m place lane = record lane { queue = if gives m place then drop 1 lane.queue else lane.queue }
 
+-- so of all lanes
 unfoldable pub let_go : Traffic → Traffic
 let_go m = record m { lanes = each_lane (let_go_lane m) m.lanes }
 
@@ -39,6 +40,7 @@ let_go m = record m { lanes = each_lane (let_go_lane m) m.lanes }
 abbrev pub placed_lane : (Place → Option Vehicle) → Place → LaneState → LaneState
 placed_lane entry place lane = record lane { track = with_entry (entry place) lane.track }
 
+-- so of all lanes
 unfoldable pub placed : (Place → Option Vehicle) → Traffic → Traffic
 placed entry m = record m { lanes = each_lane (placed_lane entry) m.lanes }
 

@@ -4,6 +4,7 @@ use Rattle.street_tile.specs.declared.tile.Tile.TheInside.{Inside}
 use Rattle.street_tile.specs.Halves.{vehicle_in}
 use Rattle.street_tile.specs.Tiles.{TileView, AreNumbers, AreBare, AreDue}
 
+-- what contracts see of the fields of a tile
 abbrev pub seen : Inside → TileView
 seen t = record {
   low = t.low;
@@ -34,6 +35,7 @@ pub record HasNotedAll (t : Inside) : Type 0 where
   pub bare : t.has_meters ≡ false → AreBare t.detectors.items
   pub due : AreDue t.clock t.detectors.items
 
+-- what is true of every tile
 pub record IsSound (t : Inside) : Type 0 where
   pub wide : IsWideEnough t
   pub noted : HasNotedAll t

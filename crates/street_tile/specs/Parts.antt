@@ -1,5 +1,6 @@
--- The parts of a step as workers make them, by their numbers: 0 lane changes and motion, 1 releases, 3 to 6 one phase each of the
--- others, and any other entries, departures and detectors. Shown are the mouths, by which releases go.
+-- The phases of a step and its parts, as workers make them, by their numbers: 0 lane changes, 1 motion, 2 releases, 3 entries and
+-- departures, any other detectors; but as a part 5 is lane changes and motion, 6 entries, departures and detectors. Shown are the mouths,
+-- by which releases go.
 use Rattle.std.specs.Prelude.{ℕ, ◌≡◌, ◌*◌, ◌<◌, ◌≤◌, List, Bool, [], length, All}
 use Rattle.std.specs.Fn.{Shared}
 use denote.Ref.{Bor, MutBor}
@@ -9,25 +10,33 @@ use Rattle.street_base.specs.Prelude.{last_clock, most_workers}
 use Rattle.street_tile.specs.Tiles.{TileView, IsTileOf, IsPrepared, Each}
 use Rattle.street_tile.specs.Phases.{LanePhase, MotionPhase, ReleasePhase, EnterPhase, MeterPhase, Then}
 
+-- what a phase asks of a tile, and of what is shown
+abbrev pub MayRun : NetSpec → ℕ → List Bool → TileView → Type 0
+MayRun net zero shown x = IsTileOf net x
+MayRun net (suc zero) shown x = IsTileOf net x × (x.arrived ≡ []) × (x.clock < last_clock)
+MayRun net (suc (suc zero)) shown x = IsTileOf net x × (x.handed ≡ []) × (length shown ≡ 2 * length net.links)
+MayRun net (suc (suc (suc zero))) shown x = IsTileOf net x × IsPrepared x
+MayRun net phase shown x = IsTileOf net x × (x.clock < last_clock)
+
+-- what a phase does
+abbrev pub Runs : NetSpec → ℕ → List Bool → TileView → TileView → Type 0
+Runs net zero shown x y = LanePhase net x y
+Runs net (suc zero) shown x y = MotionPhase net x y
+Runs net (suc (suc zero)) shown x y = ReleasePhase net shown x y
+Runs net (suc (suc (suc zero))) shown x y = EnterPhase net x y
+Runs net phase shown x y = MeterPhase net x y
+
 -- what a part asks of a tile, and of what is shown
 abbrev pub MayWork : NetSpec → ℕ → List Bool → TileView → Type 0
-MayWork net zero shown x = IsTileOf net x × (x.arrived ≡ []) × (x.clock < last_clock)
-MayWork net (suc zero) shown x = IsTileOf net x × (x.handed ≡ []) × (length shown ≡ 2 * length net.links)
-MayWork net (suc (suc (suc zero))) shown x = IsTileOf net x
-MayWork net (suc (suc (suc (suc zero)))) shown x = IsTileOf net x × (x.arrived ≡ []) × (x.clock < last_clock)
-MayWork net (suc (suc (suc (suc (suc zero))))) shown x = IsTileOf net x × IsPrepared x
-MayWork net (suc (suc (suc (suc (suc (suc zero)))))) shown x = IsTileOf net x × (x.clock < last_clock)
-MayWork net part shown x = IsTileOf net x × IsPrepared x × (x.clock < last_clock)
+MayWork net (suc (suc (suc (suc (suc zero))))) shown x = IsTileOf net x × (x.arrived ≡ []) × (x.clock < last_clock)
+MayWork net (suc (suc (suc (suc (suc (suc zero)))))) shown x = IsTileOf net x × IsPrepared x × (x.clock < last_clock)
+MayWork net phase shown x = MayRun net phase shown x
 
 -- what a part does
 abbrev pub DoesWork : NetSpec → ℕ → List Bool → TileView → TileView → Type 0
-DoesWork net zero shown x y = Then (LanePhase net) (MotionPhase net) x y
-DoesWork net (suc zero) shown x y = ReleasePhase net shown x y
-DoesWork net (suc (suc (suc zero))) shown x y = LanePhase net x y
-DoesWork net (suc (suc (suc (suc zero)))) shown x y = MotionPhase net x y
-DoesWork net (suc (suc (suc (suc (suc zero))))) shown x y = EnterPhase net x y
-DoesWork net (suc (suc (suc (suc (suc (suc zero)))))) shown x y = MeterPhase net x y
-DoesWork net part shown x y = Then (EnterPhase net) (MeterPhase net) x y
+DoesWork net (suc (suc (suc (suc (suc zero))))) shown x y = Then (LanePhase net) (MotionPhase net) x y
+DoesWork net (suc (suc (suc (suc (suc (suc zero)))))) shown x y = Then (EnterPhase net) (MeterPhase net) x y
+DoesWork net phase shown x y = Runs net phase shown x y
 
 -- each call of f may be made of few tiles, and makes a part of a step of each of them
 pub record MakesParts {F : Type 0}

@@ -7,7 +7,7 @@ unfoldable pub use Rattle.street_tile.specs.Halves.{let_go, placed}
 pub use Rattle.street_tile.specs.HandOvers.{Awaits, IsMoved, MovesLast, all_handed, all_places, moved_at, received}
 pub use Rattle.street_tile.specs.Hinted.{Hinted, KeepsHints}
 pub use Rattle.street_tile.specs.Motion.{DrivesLane, DrivesLanes, HasPlanFor, IsOfStep, MayDrive, ShowLanes, WatchLanes, WatchesLane}
-pub use Rattle.street_tile.specs.Parts.{DoesWork, MakesParts, MayWork}
+pub use Rattle.street_tile.specs.Parts.{DoesWork, MakesParts, MayRun, MayWork, Runs}
 pub use Rattle.street_tile.specs.Phases.{ChangeLanes, EnterPhase, GoesBy, LanePhase, MeterPhase, MotionPhase, ReleasePhase, Then}
 unfoldable pub use Rattle.street_tile.specs.Phases.{ticked}
 pub use Rattle.street_tile.specs.Steps.{MayStep, Steps}

@@ -11,6 +11,7 @@ use Rattle.street_tile.specs.Tiles.{TileView, StandsFor, SameTile}
 abbrev pub no_detectors : Detectors
 no_detectors = record { size = 0; meters = []; watches = [] }
 
+-- the detectors of lane k of these
 abbrev pub detectors_at : List Detectors → ℕ → Detectors
 detectors_at detectors k = slice_index_or detectors k no_detectors
 
@@ -52,6 +53,7 @@ detectors_on p ds = filter (λ d. is_place p d.place) ds
 abbrev pub MetersStand : TileView → Traffic → Type 0
 MetersStand x m = (k : ℕ) (p : Place) → slice_get x.own.places k ≡ Some p → MetersStandFor (detectors_at x.detectors k).meters (detectors_on p m.detectors)
 
+-- so of each tile
 abbrev pub AllMetersStand : List TileView → Traffic → Type 0
 AllMetersStand xs m = All (λ x. MetersStand x m) xs
 

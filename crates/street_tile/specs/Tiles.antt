@@ -65,6 +65,7 @@ pub record TileView : Type 0 where
 abbrev pub is_own : NetSpec → ℕ → ℕ → Place → Bool
 is_own net low high p = option_map_or (λ node. nat_le low node && nat_lt node high) (node_of net (link_at net p.link).to) false
 
+-- the lanes of the links that run to nodes from low up to high, in the order of the network
 abbrev pub own_places : NetSpec → ℕ → ℕ → List Place
 own_places net low high = filter (is_own net low high) (places net)
 

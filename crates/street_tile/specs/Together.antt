@@ -13,6 +13,7 @@ pub record TilesView : Type 0 where
   pub network : NetSpec
   pub tiles : List TileView
 
+-- these tiles of this network
 abbrev pub tiles_of : NetSpec → List TileView → TilesView
 tiles_of net xs = record { network = net; tiles = xs }
 

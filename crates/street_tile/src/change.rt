@@ -7,8 +7,7 @@ ghost use Rattle.street_lanes.specs.Prelude.{Same};
 ghost use Rattle.street_lanes.specs.Lanes.{IsOf};
 ghost use Rattle.street_tile.specs.Prelude.{IsTileOf, IsRoads, ArePairs, ChangeLanes, LanePhase};
 
-use crate::gate::LANE_CHANGES;
-use crate::{Gate, Tile};
+use crate::Tile;
 use street_base::{Place, Step};
 use street_lanes::Lanes;
 use street_net::Network;
@@ -21,7 +20,7 @@ fn begins_pair(net: &Network, at: Place) -> bool
     at.lane == 0 && net.lanes_of(at.link) == 2
 }
 
-/// Lane changes on each link of two lanes.
+/// Lane changes, in the step of this clock, on each link of two lanes among a tile's own lanes.
 fn change_lanes(own: &mut Lanes, net: &Network, clock: Step)
     requires of { IsOf net.now own.old }
     requires roads { IsRoads net.now }
@@ -45,14 +44,4 @@ impl Tile {
     {
         change_lanes(&mut self.own, net, self.clock);
     }
-}
-
-/// Lane changes of a tile by the worker of this number; the gate sees it come and leave.
-pub(crate) fn change<G: Gate>(net: &Network, worker: u32, tile: &mut Tile, gate: &G)
-    requires { IsTileOf net.now tile.old }
-    ensures { LanePhase net.now tile.old tile.new }
-{
-    gate.arrive(worker, LANE_CHANGES, tile);
-    tile.phase_lanes(net);
-    gate.leave(worker, LANE_CHANGES, tile);
 }

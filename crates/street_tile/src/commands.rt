@@ -44,7 +44,7 @@ impl Tile {
         Ok(())
     }
 
-    /// An own node has this signal plan from the next step on. Takes no memory.
+    /// The own node at this position in the network has this signal plan from the next step on. Takes no memory.
     pub fn set_signal(&mut self, node: NodeIx, plan: SignalPlan)
         requires low { self.old.low ≤ node }
         requires high { node < self.old.high }

@@ -5,9 +5,8 @@ ghost use Rattle.std.specs.Prelude.{◌≡◌, ◌+◌, ◌<◌, ◌≤◌, leng
 ghost use Rattle.street_lanes.specs.Prelude.{Same, Others};
 ghost use Rattle.street_tile.specs.Prelude.{EntersAt, EnterAll, EnterPhase, IsTileOf, IsPrepared};
 
-use crate::gate::ENTRIES;
+use crate::Tile;
 use crate::hand_over::{Comers, HandOver};
-use crate::{Gate, Tile};
 use street_base::Step;
 use street_lanes::Lanes;
 use street_net::Network;
@@ -23,7 +22,7 @@ fn enter_lane(own: &mut Lanes, n: usize, coming: Option<HandOver>, clock: Step)
 {
     if let Some(hand_over) = coming {
         // Where cell 0 is free, as `stands` asks, nobody is given back.
-        let _nobody = own.place(n, hand_over.into_car());
+        let _nobody = own.place(n, hand_over.car);
     }
     own.depart(n, clock);
 }
@@ -50,15 +49,4 @@ impl Tile {
     {
         enter_lanes(&mut self.own, &mut self.coming, self.clock);
     }
-}
-
-/// Entries and departures of a tile by the worker of this number; the gate sees it come and leave.
-pub(crate) fn enter<G: Gate>(net: &Network, worker: u32, tile: &mut Tile, gate: &G)
-    requires tile { IsTileOf net.now tile.old }
-    requires prepared { IsPrepared tile.old }
-    ensures { EnterPhase net.now tile.old tile.new }
-{
-    gate.arrive(worker, ENTRIES, tile);
-    tile.phase_enter(net);
-    gate.leave(worker, ENTRIES, tile);
 }

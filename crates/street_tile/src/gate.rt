@@ -2,21 +2,6 @@
 
 use crate::tile::Tile;
 
-/// The phase with lane changes, as a gate is told of it.
-pub(crate) const LANE_CHANGES: u32 = 0;
-
-/// The phase with motion.
-pub(crate) const MOTION: u32 = 1;
-
-/// The phase with releases.
-pub(crate) const RELEASES: u32 = 2;
-
-/// The phase with entries and departures.
-pub(crate) const ENTRIES: u32 = 3;
-
-/// The phase with detectors.
-pub(crate) const DETECTORS: u32 = 4;
-
 /// What the caller of steps observes of them, and what it says of their threads.
 pub trait Gate {
     /// Called for each tile before its part of each phase, by the thread that runs it: `worker` is the tile's position among all,

@@ -14,14 +14,14 @@ use crate::cut::{nones, owner};
 use crate::{Hints, Tile};
 use std::alloc::{AllocError, Global};
 use std::marker::Model;
-use street_base::{Car, CarNo, Place};
+use street_base::{Car, Place};
 use street_net::{Network, slot};
 
 /// A vehicle that left a buffer, with the lane that it enters. It is on no lane meanwhile.
 #[derive(Drop)]
 pub struct HandOver {
-    to: Place,
-    car: Car,
+    pub(crate) to: Place,
+    pub(crate) car: Car,
 }
 
 impl Model for HandOver {
@@ -37,34 +37,11 @@ impl Model for HandOver {
 }
 
 impl HandOver {
-    /// A vehicle, which is on no lane, with the lane that it enters.
-    pub(crate) fn new(to: Place, car: Car) -> HandOver
-        requires { length car.plan.value ≤ most_plan }
-        ensures { result ≡ record { to = to; vehicle = vehicle_of car } }
-    {
-        HandOver { to, car }
-    }
-
     /// The lane that the vehicle enters.
     pub fn to(&self) -> Place
         ensures { result ≡ self.now.to }
     {
         self.to
-    }
-
-    /// The number of the vehicle.
-    pub(crate) fn number(&self) -> CarNo
-        ensures { result ≡ self.now.vehicle.number }
-    {
-        self.car.number
-    }
-
-    /// The vehicle.
-    pub(crate) fn into_car(self) -> Car
-        ensures vehicle { vehicle_of result ≡ self.vehicle }
-        ensures plan { length result.plan.value ≤ most_plan }
-    {
-        self.car
     }
 }
 
@@ -101,7 +78,7 @@ impl Comers {
         })
     }
 
-    /// Somebody comes to own lane `n`.
+    /// Notes who comes to own lane `n`.
     pub(crate) fn put(&mut self, n: usize, hand_over: HandOver)
         requires { n < length self.old }
         ensures { self.new ≡ slice_set self.old n (Some hand_over) }
@@ -125,7 +102,7 @@ impl Comers {
 }
 
 impl Tile {
-    /// How many hand-overs wait to be moved.
+    /// How many hand-overs of the last releases wait to be moved.
     pub fn hand_overs(&self) -> usize
         ensures { result ≡ length self.now.handed }
     {

@@ -13,6 +13,7 @@ pub struct Hints {
 }
 
 impl Drop for Hints {
+    /// Drops the list.
     fn drop(self) {
         let Hints { links: _ } = self;
     }
@@ -57,27 +58,19 @@ impl Hints {
         self.links.push_reserved(link);
     }
 
-    /// The link of a number; none if it was not given.
+    /// The link on which the vehicle of a number was last put; none if the number was not given.
     pub fn get(&self, number: CarNo) -> Option<LinkIx>
         ensures { result ≡ slice_get self.now.links number }
     {
         self.links.get(number as usize).copied()
     }
 
-    /// The vehicle of a number was put on a link; nothing if the number was not given. Takes no memory.
-    pub(crate) fn put(&mut self, number: CarNo, link: LinkIx)
-        ensures links { self.new.links ≡ slice_set self.old.links number link }
-        ensures room { self.new.room ≡ self.old.room }
-    {
-        if let Some(hint) = self.links.get_mut(number as usize) {
-            *hint = link;
-        }
-    }
-
-    /// The vehicle of a hand-over is put on the link that it enters. Takes no memory.
+    /// The vehicle of a hand-over is put on the link that it enters; nothing if its number was not given. Takes no memory.
     pub fn follow(&mut self, hand_over: &HandOver)
         ensures { self.new ≡ record self.old { links = slice_set self.old.links hand_over.now.vehicle.number hand_over.now.to.link } }
     {
-        self.put(hand_over.number(), hand_over.to().link);
+        if let Some(hint) = self.links.get_mut(hand_over.car.number as usize) {
+            *hint = hand_over.to.link;
+        }
     }
 }

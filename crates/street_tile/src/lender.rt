@@ -1,25 +1,29 @@
-//! Who makes the parts of a step of all tiles: threads that are started for each part, or workers that stay.
+//! Who makes the parts of a step of all tiles: threads that are started for each part, or a team of workers that stay, to which the
+//! tiles are lent by value. Between two parts the caller has all tiles, and alone shows mouths and moves hand-overs.
 //!
 //! [`Lender::lend`] names no handle. Who may wait says so in the bounds of its `impl` block, so a step by any other lender is proved
 //! to return.
 //!
 //! Source: this profile, whose five phases a step has in this order.
-ghost use Rattle.std.specs.Prelude.{◌≡◌, ◌*◌, ◌<◌, ◌≤◌, length, All};
+ghost use Rattle.std.specs.Prelude.{◌≡◌, ℕ, ◌*◌, ◌<◌, ◌≤◌, length, All};
 ghost use Rattle.street_base.specs.Prelude.{most_workers};
 ghost use Rattle.street_base.specs.declared.net.NetSpec.{NetSpec};
 ghost use Rattle.street_tile.specs.Prelude.{MayWork, DoesWork, MakesParts, Each};
 
 use crate::step::work;
 use crate::{Gate, Tile};
+use std::marker::{Brand, PhantomData};
+use std::sync::Wait;
 use std::thread;
 use std::thread::Threads;
 use street_net::Network;
+use street_team::{Team, Work};
 
 /// Who makes a part of a step of all tiles. `knows` is what it asks of its type's parameters and of the network.
 pub trait Lender {
     ghost knows: { Self → NetSpec → Type 0 };
 
-    /// A part of a step of each tile, while these mouths are shown.
+    /// A part of a step, by its number, of each tile; `shown` are the mouths of all lanes by slot, of which releases alone ask.
     fn lend(&mut self, net: &Network, part: u32, shown: &[bool], tiles: &mut Vec<Tile>)
         requires net { knows self.old net.now }
         requires few { length tiles.old.items ≤ most_workers }
@@ -98,4 +102,67 @@ pub fn share<R: Threads + Sync, G: Gate + Sync>(
             work(net, gate, part, i as u32, shown, tile);
         },
     );
+}
+
+/// For contracts alone: the network of a team's tiles, and which its locks are, each of which tells what lent tiles were.
+pub trait TeamNetwork {
+    ghost net: { NetSpec };
+
+    ghost lock: { ℕ → ℕ };
+}
+
+impl TeamNetwork for Brand {
+    ghost use Rattle.street_tile.specs.Prelude.{no_network};
+
+    ghost net = { no_network };
+
+    ghost lock = { λ k. 0 };
+}
+
+/// The parts of a step as the workers of a team make them.
+#[derive(Drop)]
+pub struct TileWork<'b, G: Gate + Sync, K: TeamNetwork> {
+    net: &'b Network,
+    gate: &'b G,
+    of: PhantomData<K>,
+    ghost net_is: { net.now ≡ K.net },
+}
+
+impl<'b, G: Gate + Sync, K: TeamNetwork> TileWork<'b, G, K> {
+    /// The parts of a step on this network's tiles, which this gate observes.
+    pub fn new(net: &'b Network, gate: &'b G) -> Self
+        requires { net.now ≡ K.net }
+    {
+        TileWork {
+            net,
+            gate,
+            of: PhantomData,
+        }
+    }
+}
+
+impl<'b, G: Gate + Sync, K: TeamNetwork> Work<Tile> for TileWork<'b, G, K> {
+    ghost use Rattle.std.specs.Prelude.{◌<◌};
+
+    ghost lock = { K.lock };
+
+    ghost may = { λ part number shown tile. (number < most_workers) × MayWork K.net part shown tile };
+
+    ghost does = { λ part number shown x y. DoesWork K.net part shown x y };
+
+    /// Makes a part of a step on one tile, whose position among all is `number`; `shown` are the mouths, by which releases go.
+    fn work(&self, part: u32, number: usize, shown: &[bool], item: &mut Tile) {
+        work(self.net, self.gate, part, number as u32, shown, item);
+    }
+}
+
+impl<'a, 'r, 'w, 's, 'b, G: Gate + Sync, K: TeamNetwork, R: Wait> Lender
+    for Team<'a, 'r, 'w, 's, Tile, TileWork<'b, G, K>, R> {
+    ghost use Rattle.std.specs.Prelude.{◌≡◌};
+
+    ghost knows = { λ team net. net ≡ K.net };
+
+    fn lend(&mut self, _net: &Network, part: u32, shown: &[bool], tiles: &mut Vec<Tile>) {
+        Team::lend(self, part, shown, tiles);
+    }
 }

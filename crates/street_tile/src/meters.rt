@@ -6,8 +6,7 @@ ghost use Rattle.street_base.specs.Prelude.{last_clock, most_period, link_at, sh
 ghost use Rattle.street_lanes.specs.Prelude.{IsLane};
 ghost use Rattle.street_tile.specs.Prelude.{MeterPhase, IsTileOf, AreBare, AreDue, is_own, HaveNoted, MetersStand, PlacesMeter, detectors_on};
 
-use crate::gate::DETECTORS;
-use crate::{Gate, Tile};
+use crate::Tile;
 use std::alloc::Global;
 use street_base::{CellNo, Place, Reply, Starved};
 use street_lanes::{Detectors, Lanes};
@@ -94,15 +93,4 @@ impl Tile {
         let n = self.number(net, at);
         self.detectors[n].rows(alloc, number)
     }
-}
-
-/// Detectors of a tile, whose clock then goes on, by the worker of this number; the gate sees it come and leave.
-pub(crate) fn meter<G: Gate>(net: &Network, worker: u32, tile: &mut Tile, gate: &G)
-    requires tile { IsTileOf net.now tile.old }
-    requires in_time { tile.old.clock < last_clock }
-    ensures { MeterPhase net.now tile.old tile.new }
-{
-    gate.arrive(worker, DETECTORS, tile);
-    tile.phase_meter(net);
-    gate.leave(worker, DETECTORS, tile);
 }

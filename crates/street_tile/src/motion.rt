@@ -7,8 +7,7 @@ ghost use Rattle.street_lanes.specs.Lanes.{IsOf};
 ghost use Rattle.street_lanes.specs.Prelude.{lane_of, place_at};
 ghost use Rattle.street_tile.specs.Prelude.{IsTileOf, IsBare, MotionPhase, HasPlanFor, DrivesLane, WatchesLane, MayDrive, DrivesLanes, WatchLanes, ShowLanes};
 
-use crate::gate::MOTION;
-use crate::{Gate, Tile};
+use crate::Tile;
 use street_base::{CarNo, Step};
 use street_lanes::{Detectors, Lanes};
 use street_net::{Network, slot};
@@ -103,16 +102,4 @@ impl Tile {
             &mut self.mouths,
         );
     }
-}
-
-/// Motion of a tile by the worker of this number; the gate sees it come and leave.
-pub(crate) fn go<G: Gate>(net: &Network, worker: u32, tile: &mut Tile, gate: &G)
-    requires tile { IsTileOf net.now tile.old }
-    requires none { tile.old.arrived ≡ [] }
-    requires in_time { tile.old.clock < last_clock }
-    ensures { MotionPhase net.now tile.old tile.new }
-{
-    gate.arrive(worker, MOTION, tile);
-    tile.phase_motion(net);
-    gate.leave(worker, MOTION, tile);
 }

@@ -6,10 +6,9 @@ ghost use Rattle.street_base.specs.Prelude.{Traffic, Queued, next_link};
 ghost use Rattle.street_lanes.specs.Prelude.{without_front, IsLane, AllLanes, Same, GoesAt, LanesStand};
 ghost use Rattle.street_tile.specs.Prelude.{let_go, entry_on, ReleasePhase, IsTileOf, IsRoads, IsReleasing, HandsOver, Targets, HasFront, ReleasesFront};
 
-use crate::gate::RELEASES;
+use crate::Tile;
 use crate::hand_over::HandOver;
 use crate::view::View;
-use crate::{Gate, Tile};
 use street_base::{Place, Step};
 use street_lanes::Lanes;
 use street_net::{Network, slot};
@@ -45,7 +44,7 @@ fn take_front(own: &mut Lanes, net: &Network, n: usize, to: Place) -> Option<Han
     if usize::from(car.at) < car.plan.as_slice().len() {
         car.at += 1;
     }
-    Some(HandOver::new(to, car))
+    Some(HandOver { to, car })
 }
 
 /// If the mouth of the lane `to` is open, the front of buffer `n` goes there, added to `handed`, and the mouth closes.
@@ -130,22 +129,4 @@ impl Tile {
             &mut self.handed,
         );
     }
-}
-
-/// Releases of a tile by the worker of this number, into lanes whose mouths are open; the gate sees it come and leave.
-pub(crate) fn release<G: Gate>(
-    net: &Network,
-    worker: u32,
-    mouths: &[bool],
-    tile: &mut Tile,
-    gate: &G,
-)
-    requires tile { IsTileOf net.now tile.old }
-    requires empty { tile.old.handed ≡ [] }
-    requires wide { length mouths.now ≡ 2 * length net.now.links }
-    ensures { ReleasePhase net.now mouths.now tile.old tile.new }
-{
-    gate.arrive(worker, RELEASES, tile);
-    tile.release_by(net, mouths);
-    gate.leave(worker, RELEASES, tile);
 }

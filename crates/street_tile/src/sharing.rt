@@ -25,26 +25,24 @@ struct Span {
     lanes: u64,
 }
 
-impl Span {
-    /// No tile.
-    fn empty() -> Span {
-        Span {
-            tiles: 0,
-            cells: 0,
-            lanes: 0,
-        }
-    }
+/// A block of no tile.
+const NO_TILE: Span = Span {
+    tiles: 0,
+    cells: 0,
+    lanes: 0,
+};
 
-    /// These and a tile more.
+impl Span {
+    /// These tiles and one more behind them.
     fn with(self, tile: &Tile) -> Span {
         Span {
             tiles: self.tiles.saturating_add(1),
-            cells: self.cells.saturating_add(tile.totals().cells),
+            cells: self.cells.saturating_add(tile.own.totals().cells),
             lanes: self.lanes.saturating_add(tile.own.len() as u64),
         }
     }
 
-    /// What is left behind a first block.
+    /// These tiles without the first of them, which are given.
     fn without(self, first: Span) -> Span {
         Span {
             tiles: self.tiles.saturating_sub(first.tiles),
@@ -59,26 +57,26 @@ impl Tiles {
     pub fn in_cells(&self) -> (u64, u64) {
         let mut most = 0;
         for tile in &self.tiles {
-            most = most.max(tile.totals().cells);
+            most = most.max(tile.own.totals().cells);
         }
         (self.whole().cells, most)
     }
 
-    /// All tiles.
+    /// All tiles, as one block.
     fn whole(&self) -> Span {
-        let mut whole = Span::empty();
+        let mut whole = NO_TILE;
         for tile in &self.tiles {
             whole = whole.with(tile);
         }
         whole
     }
 
-    /// The first of so many blocks of the last tiles: it ends where it comes nearest to its share of the vehicles, and leaves a tile for
-    /// each other block.
+    /// The first of so many blocks of the tiles in `rest`, which are the last: it ends where it comes nearest to its share of the
+    /// vehicles, and leaves a tile for each other block.
     fn first_block(&self, rest: Span, blocks: usize) -> Span {
         let share = rest.cells / (blocks as u64).max(1);
         let most = rest.tiles.saturating_sub(blocks.saturating_sub(1));
-        let mut block = Span::empty();
+        let mut block = NO_TILE;
         for i in self.tiles.len().saturating_sub(rest.tiles)..self.tiles.len() {
             let more = block.with(&self.tiles[i]);
             let is_full = more.cells.saturating_sub(share) > share.saturating_sub(block.cells);

@@ -1,68 +1,70 @@
-//! One step of all tiles in three parts that workers share: a tile needs what another has only between two parts.
+//! The parts of a step: of one tile, and of all tiles by whoever makes them. A tile needs what another has only between two parts.
 //!
 //! Lane changes and motion read and write a tile's own lanes alone, and so do entries, departures and detectors. Before the
 //! releases the tiles show each other their mouths, and after them they hand over who goes.
 //!
 //! Source: this profile, whose five phases a step has in this order.
-ghost use Rattle.std.specs.Prelude.{◌≡◌, ◌*◌, ◌<◌, length, []};
-ghost use Rattle.street_base.specs.Prelude.{last_clock};
-ghost use Rattle.street_tile.specs.Prelude.{IsTileOf, IsPrepared, LanePhase, MotionPhase};
-ghost use Rattle.street_tile.specs.Prelude.{EnterPhase, MeterPhase, Then, KeepsHints, MayStep, Steps, MayWork, DoesWork};
+ghost use Rattle.std.specs.Prelude.{◌≡◌, ◌*◌, ◌<◌, length, [], None, slice_index_or, IfSome, OnOk, All};
+ghost use Rattle.street_base.specs.Prelude.{last_clock, Traffic};
+ghost use Rattle.street_tile.specs.Prelude.{KeepsHints, MayStep, Steps, MayRun, Runs, MayWork, DoesWork};
+ghost use Rattle.street_tile.specs.Prelude.{TileView, IsPrepared, AreTiles, TilesStandFor, TilesKeep};
+ghost use Rattle.street_tile.specs.Prelude.{NobodyArrived, PreparesOne, TakesArrival, TakesArrivalOf};
 
-use crate::change::change;
-use crate::entries::enter;
-use crate::hand_over::move_vec;
-use crate::meters::meter;
-use crate::motion::go;
-use crate::release::release;
-use crate::view::publish_vec;
-use crate::{Gate, Hints, Lender, Tile, View};
+use crate::hand_over::{move_all, move_vec};
+use crate::tiles::Tiles;
+use crate::view::{publish, publish_vec};
+use crate::{Gate, Hints, Lender, Tile, View, share};
+use std::thread::Threads;
+use street_base::{CarNo, Starved};
 use street_net::Network;
 
+/// The phase with lane changes, and the part with it alone: a part that is one phase has the number by which a gate hears of that.
+const LANE_CHANGES: u32 = 0;
+
+/// The phase with motion.
+const MOTION: u32 = 1;
+
+/// The phase with releases.
+const RELEASES: u32 = 2;
+
+/// The phase with entries and departures.
+const ENTRIES: u32 = 3;
+
+/// The phase with detectors, after which the tile's clock goes on.
+const DETECTORS: u32 = 4;
+
 /// The part with lane changes and motion.
-const DRIVE: u32 = 0;
+const DRIVE: u32 = 5;
 
-/// The part with releases.
-pub(crate) const RELEASE: u32 = 1;
+/// The part with entries, departures and detectors.
+const SETTLE: u32 = 6;
 
-/// The part with entries, departures and detectors, after which the tile's clock goes on.
-const SETTLE: u32 = 2;
-
-/// The part with lane changes alone.
-pub(crate) const CHANGE: u32 = 3;
-
-/// The part with motion alone.
-pub(crate) const MOVE: u32 = 4;
-
-/// The part with entries and departures alone.
-pub(crate) const ENTER: u32 = 5;
-
-/// The part with detectors alone, after which the tile's clock goes on.
-pub(crate) const METER: u32 = 6;
-
-/// Lane changes and motion of a tile by the worker of this number.
-fn drive<G: Gate>(net: &Network, worker: u32, tile: &mut Tile, gate: &G)
-    requires tile { IsTileOf net.now tile.old }
-    requires none { tile.old.arrived ≡ [] }
-    requires in_time { tile.old.clock < last_clock }
-    ensures { Then (LanePhase net.now) (MotionPhase net.now) tile.old tile.new }
+/// A phase of a tile; `worker` is the tile's position among all tiles, 0 to 63, whichever thread makes it, and the gate sees it come and
+/// leave. `shown` tells of each lane, by slot, whether its mouth is open; releases go by it, the other phases do not look at it.
+fn run_phase<G: Gate>(
+    net: &Network,
+    gate: &G,
+    phase: u32,
+    worker: u32,
+    shown: &[bool],
+    tile: &mut Tile,
+)
+    requires { MayRun net.now phase shown.now tile.old }
+    ensures { Runs net.now phase shown.now tile.old tile.new }
 {
-    change(net, worker, tile, gate);
-    go(net, worker, tile, gate);
+    gate.arrive(worker, phase, tile);
+    match phase {
+        LANE_CHANGES => tile.phase_lanes(net),
+        MOTION => tile.phase_motion(net),
+        RELEASES => tile.release_by(net, shown),
+        ENTRIES => tile.phase_enter(net),
+        _ => tile.phase_meter(net),
+    }
+    gate.leave(worker, phase, tile);
 }
 
-/// Entries, departures and detectors of a tile, whose clock then goes on, by the worker of this number.
-fn settle<G: Gate>(net: &Network, worker: u32, tile: &mut Tile, gate: &G)
-    requires tile { IsTileOf net.now tile.old }
-    requires prepared { IsPrepared tile.old }
-    requires in_time { tile.old.clock < last_clock }
-    ensures { Then (EnterPhase net.now) (MeterPhase net.now) tile.old tile.new }
-{
-    enter(net, worker, tile, gate);
-    meter(net, worker, tile, gate);
-}
-
-/// A part of a step of a tile, by the worker of this number; `shown` are the mouths, in `RELEASE`.
+/// A part of a step of a tile, one phase or two; `worker` is the tile's position among all tiles, as the gate is told, whichever thread
+/// makes it. `shown` are the mouths by slot, where `part` is `RELEASES`.
 pub(crate) fn work<G: Gate>(
     net: &Network,
     gate: &G,
@@ -75,17 +77,45 @@ pub(crate) fn work<G: Gate>(
     ensures { DoesWork net.now part shown.now tile.old tile.new }
 {
     match part {
-        DRIVE => drive(net, worker, tile, gate),
-        RELEASE => release(net, worker, shown, tile, gate),
-        CHANGE => change(net, worker, tile, gate),
-        MOVE => go(net, worker, tile, gate),
-        ENTER => enter(net, worker, tile, gate),
-        METER => meter(net, worker, tile, gate),
-        _ => settle(net, worker, tile, gate),
+        DRIVE => {
+            run_phase(net, gate, LANE_CHANGES, worker, shown, tile);
+            run_phase(net, gate, MOTION, worker, shown, tile);
+        }
+        SETTLE => {
+            run_phase(net, gate, ENTRIES, worker, shown, tile);
+            run_phase(net, gate, DETECTORS, worker, shown, tile);
+        }
+        phase => run_phase(net, gate, phase, worker, shown, tile),
     }
 }
 
-/// One step, whoever makes its parts, of the same meaning as [`step_all`](crate::step_all)'s. The hints follow who enters another link.
+/// One step phase by phase, each by a thread for each tile, for a caller that watches each: whatever state the tiles stood for, they
+/// then stand for the next one, and hold the numbers of those who arrived. The hints follow who enters another link. Takes no memory.
+pub fn step_all<R: Threads + Sync, G: Gate + Sync>(
+    rt: &R,
+    net: &Network,
+    tiles: &mut [Tile],
+    view: &mut View,
+    hints: &mut Hints,
+    gate: &G,
+)
+    requires ready { MayStep net.now tiles.old }
+    requires view { length view.old ≡ 2 * length net.now.links }
+    ensures steps { Steps net.now tiles.old tiles.new }
+    ensures view { length view.new ≡ length view.old }
+    ensures hints { KeepsHints hints.old hints.new }
+{
+    let threads = tiles.len().max(1);
+    share(rt, net, gate, threads, LANE_CHANGES, &[], tiles);
+    share(rt, net, gate, threads, MOTION, &[], tiles);
+    publish(net, tiles, view);
+    share(rt, net, gate, threads, RELEASES, view.mouths(), tiles);
+    move_all(net, tiles, hints);
+    share(rt, net, gate, threads, ENTRIES, &[], tiles);
+    share(rt, net, gate, threads, DETECTORS, &[], tiles);
+}
+
+/// One step, whoever makes its parts, of the same meaning as [`step_all`]'s. The hints follow who enters another link.
 /// Takes no memory.
 pub fn step_by<L: Lender>(
     lender: &mut L,
@@ -105,7 +135,81 @@ pub fn step_by<L: Lender>(
 {
     lender.lend(net, DRIVE, &[], tiles);
     publish_vec(net, tiles, view);
-    lender.lend(net, RELEASE, view.mouths(), tiles);
+    lender.lend(net, RELEASES, view.mouths(), tiles);
     move_vec(net, tiles, hints);
     lender.lend(net, SETTLE, &[], tiles);
+}
+
+impl Tiles {
+    /// Takes the memory for a step of tile `i`.
+    ///
+    /// # Errors
+    /// Memory was refused; the tiles stand for what they stood for.
+    fn prepare_one(&mut self, i: usize) -> Result<(), Starved>
+        requires { i < length self.old.tiles }
+        ensures kept { TilesKeep self.old self.new }
+        ensures prepared { OnOk result (PreparesOne i self.old.tiles self.new.tiles) }
+    {
+        self.tiles[i].prepare()
+    }
+
+    /// Takes the memory for a step.
+    ///
+    /// # Errors
+    /// Memory was refused; the tiles stand for what they stood for.
+    pub fn prepare(&mut self) -> Result<(), Starved>
+        ensures prepared { OnOk result (All IsPrepared self.new.tiles) }
+        ensures kept { TilesKeep self.old self.new }
+    {
+        for i in 0..self.len() {
+            self.prepare_one(i)?;
+        }
+        Ok(())
+    }
+
+    /// One step, by whoever makes its parts: whatever state the tiles stood for, they then stand for the next one, and hold the numbers
+    /// of those who arrived. Takes no memory.
+    pub fn step<L: Lender>(&mut self, lender: &mut L)
+        requires lender { L.knows lender.old self.old.network }
+        requires prepared { All IsPrepared self.old.tiles }
+        requires nobody { NobodyArrived self.old }
+        requires stand { (m : Traffic) × TilesStandFor self.old m × (m.clock < last_clock) }
+        ensures lender { L.knows lender.new self.new.network }
+        ensures cut { AreTiles self.old.network self.old.tiles }
+        ensures network { self.new.network ≡ self.old.network }
+        ensures len { length self.new.tiles ≡ length self.old.tiles }
+        ensures steps { Steps self.old.network self.old.tiles self.new.tiles }
+    {
+        step_by(
+            lender,
+            &self.network,
+            &mut self.tiles,
+            &mut self.view,
+            &mut self.hints,
+        );
+    }
+
+    /// Takes the number of a vehicle that arrived in the last step on the lanes of tile `i`; none when all of these were taken.
+    fn arrival_of(&mut self, i: usize) -> Option<CarNo>
+        requires { i < length self.old.tiles }
+        ensures some { IfSome result (λ number. TakesArrivalOf i number self.old self.new) }
+        ensures kept { result ≡ None → self.new ≡ self.old }
+        ensures none { result ≡ None → (d : TileView) → (slice_index_or self.old.tiles i d).arrived ≡ [] }
+    {
+        self.tiles[i].next_arrival()
+    }
+
+    /// Takes the number of a vehicle that arrived in the last step, in no order; none when all were taken. Takes no memory.
+    pub fn next_arrival(&mut self) -> Option<CarNo>
+        ensures some { IfSome result (λ number. TakesArrival number self.old self.new) }
+        ensures kept { result ≡ None → self.new ≡ self.old }
+        ensures none { result ≡ None → NobodyArrived self.old }
+    {
+        for i in 0..self.len() {
+            if let Some(number) = self.arrival_of(i) {
+                return Some(number);
+            }
+        }
+        None
+    }
 }

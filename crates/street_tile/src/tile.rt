@@ -40,6 +40,7 @@ pub struct Tile {
 }
 
 impl Drop for Tile {
+    /// Drops its parts.
     fn drop(self) {
         let Tile {
             low: _,

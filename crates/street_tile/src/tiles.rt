@@ -1,7 +1,7 @@
 //! All tiles of a network between two steps.
 //!
 //! Here are their making, the network that they share, the commands that name a node or a lane, and counts of vehicles. Such a command
-//! is done by the tile that owns the node or lane, and the others stay as they are. Steps are in `tiles_steps`, commands that name a
+//! is done by the tile that owns the node or lane, and the others stay as they are. Steps are in `step`, commands that name a
 //! vehicle in `tiles_vehicles`, the blocks in which a team lends the tiles in `sharing`.
 //!
 //! Source: this profile.
@@ -32,6 +32,7 @@ pub struct Tiles {
 }
 
 impl Drop for Tiles {
+    /// Drops its parts.
     fn drop(self) {
         let Tiles {
             network: _,
@@ -79,7 +80,7 @@ impl Tiles {
         })
     }
 
-    /// The network.
+    /// The network of these tiles.
     pub fn network(&self) -> &Network
         ensures { result.now ≡ self.now.network }
     {
@@ -133,7 +134,7 @@ impl Tiles {
         Ok(())
     }
 
-    /// A node has this signal plan from the next step on. Takes no memory.
+    /// The node at this position has this signal plan from the next step on. Takes no memory.
     pub fn set_signal(&mut self, node: NodeIx, plan: SignalPlan)
         requires { node < length self.old.network.nodes }
         ensures { (other : PlanSeen) → ShowsAs plan other
@@ -222,7 +223,8 @@ impl Tiles {
         self.tiles[i].read_meter(alloc, &self.network, at, number)
     }
 
-    /// How many vehicles are on the lanes of all tiles; looks at no lane.
+    /// How many vehicles are in cells, in buffers and waiting on the lanes of all tiles. Looks at counts that are kept, and at no
+    /// lane.
     pub fn totals(&self) -> LaneTotals
         requires { (m : Traffic) × TilesStandFor self.now m × IsSound m × (length m.ends ≤ most_vehicles) }
         ensures cells { (m : Traffic) → TilesStandFor self.now m → result.cells ≡ in_cells m }

@@ -56,7 +56,7 @@ impl Tiles {
         self.tiles[i].take_out(&self.network, number).is_some()
     }
 
-    /// Takes a vehicle out, wherever it is. Takes no memory.
+    /// Takes the vehicle of a number out, wherever it is; nothing where it is on no lane. Takes no memory.
     pub fn take_out(&mut self, number: CarNo)
         ensures { TilesGo IsWhole (without number) self.old self.new }
     {

@@ -123,7 +123,7 @@ impl Tile {
         Ok(None)
     }
 
-    /// How many vehicles are on the own lanes; looks at no lane.
+    /// How many vehicles are in cells, in buffers and waiting on the own lanes. Looks at counts that are kept, and at no lane.
     pub fn totals(&self) -> LaneTotals
         ensures cells { (m : Traffic) → StandsFor self.now m → result.cells ≡ over self.now.own.places (λ lane. count_by is_some lane.track.cells) m }
         ensures buffers { (m : Traffic) → StandsFor self.now m → result.buffers ≡ over self.now.own.places (λ lane. length lane.queue) m }

@@ -23,6 +23,7 @@ pub struct View {
 }
 
 impl Drop for View {
+    /// Drops the list.
     fn drop(self) {
         let View { mouths: _ } = self;
     }
@@ -56,14 +57,14 @@ impl View {
         self.mouths.len()
     }
 
-    /// All mouths, by slot.
+    /// Of each lane, by slot, whether its mouth is open.
     pub(crate) fn mouths(&self) -> &[bool]
         ensures { result.now ≡ self.now }
     {
         &self.mouths
     }
 
-    /// Writes all mouths, by slot.
+    /// Writes of each lane, by slot, whether its mouth is open.
     pub(crate) fn copy(&mut self, mouths: &[bool])
         requires { length mouths.now ≡ length self.old }
         ensures { self.new ≡ mouths.now }
@@ -71,7 +72,7 @@ impl View {
         self.mouths.copy_from_slice(mouths);
     }
 
-    /// Writes the mouth of a lane.
+    /// Writes of one lane whether its mouth is open.
     pub(crate) fn show(&mut self, at: Place, is_open: bool)
         requires small { slot_of at < 65536 }
         requires within { slot_of at < length self.old }

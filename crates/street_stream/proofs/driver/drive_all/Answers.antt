@@ -22,8 +22,8 @@ loop-preserved g c =
     let got : List ℕ = take c.in-Ok.count c.read_behind.new.buffer in (
       before.0 ++ got,
       Consumes-trans _ _ _ before.0 got before.1 c.in-Ok.ensures.bytes.0,
-      feeds_more g.H.LineHandler.meaning.takes g.H.LineHandler.meaning.longest _ _ _ _ _ _ _ _ _ before.0 got before.2 fed.feeds,
-      record { lines = omega (arith, fed.grows.lines, before.3.lines, length-take c.in-Ok.count c.read_behind.new.buffer); within = fed.grows.within },
+      feeds_more g.H.LineHandler.meaning.takes g.H.LineHandler.meaning.longest _ _ _ _ _ _ _ _ _ before.0 got before.2 fed.feeds.feeds,
+      record { lines = omega (arith, fed.feeds.grows.lines, before.3.lines, length-take c.in-Ok.count c.read_behind.new.buffer); within = fed.feeds.grows.within },
       omega (arith, c.in-Ok.ensures.calls, before.4),
       λ some. (prompt_again c.loop.reader.calls c.loop.reader.is_prompt c.loop.writer.is_flushed _ c.in-Ok.ensures.prompt (λ more. before.5 (omega (arith, before.4, more))), fed.passed),
       one_round g.R.Source.gives g.W.Sink.takes g.W.Sink.passes c.loop.counter _ _ c.loop.reader.stream c.loop.writer.stream _ _ before.6 (_, _, _, c.in-Ok.ensures.once) fed.done,
@@ -51,9 +51,9 @@ returns-in_err-finish_through-clause-runs g c =
       broken = record {
         text = before.0;
         read = consumes_end _ _ _ before.0 c.in-Ok.count c.read_behind.new.buffer c.if-count-eq0.true before.1 c.in-Ok.ensures.bytes.0;
-        breaks = breaks_at g.H.LineHandler.meaning.takes g.H.LineHandler.meaning.stops ⊤ _ _ _ before.0 _ _ _ _ (λ _. over) (c.in_err-finish_through.ensures.broken _ _ before.0 stands);
+        breaks = breaks_at g.H.LineHandler.meaning.takes g.H.LineHandler.meaning.stops ⊤ _ _ _ before.0 _ _ _ _ (λ _. over) (c.in_err-finish_through.ensures.finishes.broken _ _ before.0 stands);
       };
-      caused = caused_by_line _ _ _ _ c.in_err-finish_through.ensures.caused;
+      caused = caused_by_line _ _ _ _ c.in_err-finish_through.ensures.finishes.caused;
       bounded = omega (arith, c.in-Ok.ensures.calls, before.4);
     })
 
@@ -61,7 +61,7 @@ pub returns-then-count-eq0-clause-runs : goal.returns-then-count-eq0-clause-runs
 returns-then-count-eq0-clause-runs g c =
     let before = c.loop.invariant in
     record {
-      whole = whole_run g.H.LineHandler.meaning.takes g.H.LineHandler.meaning.longest _ _ _ _ _ _ c.args.progress.now c.loop.progress before.0 _ _ _ c.requires.begun.0 c.requires.begun.1 before.2 c.in_ok-finish_through.ensures.finishes
+      whole = whole_run g.H.LineHandler.meaning.takes g.H.LineHandler.meaning.longest _ _ _ _ _ _ c.args.progress.now c.loop.progress before.0 _ _ _ c.requires.begun.0 c.requires.begun.1 before.2 c.in_ok-finish_through.ensures.finishes.finishes
           (consumes_end _ _ _ before.0 c.in-Ok.count c.read_behind.new.buffer c.if-count-eq0.true before.1 c.in-Ok.ensures.bytes.0) (c.in-Ok.ensures.bytes.1 c.if-count-eq0.true (omega arith));
       broken = tt;
       caused = tt;
@@ -79,9 +79,9 @@ returns-in_err-feed_through-clause-runs g c =
       broken = record {
         text = before.0 ++ got;
         read = Consumes-trans _ _ _ before.0 got before.1 c.in-Ok.ensures.bytes.0;
-        breaks = breaks_at g.H.LineHandler.meaning.takes g.H.LineHandler.meaning.stops ⊥ _ _ _ (before.0 ++ got) _ _ _ _ (λ none. absurd none) (rw (append-nil got) at (c.in_err-feed_through.ensures.broken _ _ before.0 stands []));
+        breaks = breaks_at g.H.LineHandler.meaning.takes g.H.LineHandler.meaning.stops ⊥ _ _ _ (before.0 ++ got) _ _ _ _ (λ none. absurd none) (rw (append-nil got) at (c.in_err-feed_through.ensures.feeds.broken _ _ before.0 stands []));
       };
-      caused = caused_by_line _ _ _ _ c.in_err-feed_through.ensures.caused;
+      caused = caused_by_line _ _ _ _ c.in_err-feed_through.ensures.feeds.caused;
       bounded = omega (arith, c.in-Ok.ensures.calls, before.4);
     })
 
@@ -120,7 +120,7 @@ pub returns-in_err-finish_through-clause-broken_off : goal.returns-in_err-finish
 returns-in_err-finish_through-clause-broken_off g c =
     let before = c.loop.invariant in
     let p = err_from_is_err_and c.from_residual.result c.from_residual.ensures.1 in
-    rw (p.1, p.2) (breaks_off g.R.Source.gives g.W.Sink.takes g.W.Sink.passes _ _ _ _ _ _ _ c.in_err-finish_through.ensures.caused
+    rw (p.1, p.2) (breaks_off g.R.Source.gives g.W.Sink.takes g.W.Sink.passes _ _ _ _ _ _ _ c.in_err-finish_through.ensures.finishes.caused
     (c.loop.counter, c.loop.reader.stream, c.loop.writer.stream, omega (arith, c.in-Ok.ensures.calls, before.4), before.6, (_, _, _, c.in-Ok.ensures.once), c.in_err-finish_through.ensures.undone))
 
 pub returns-then-count-eq0-clause-rounds : goal.returns-then-count-eq0-clause-rounds
@@ -133,7 +133,7 @@ pub returns-in_err-feed_through-clause-broken_off : goal.returns-in_err-feed_thr
 returns-in_err-feed_through-clause-broken_off g c =
     let before = c.loop.invariant in
     let p = err_from_is_err_and c.from_residual-in_err-feed_through.result c.from_residual-in_err-feed_through.ensures.1 in
-    rw (p.1, p.2) (breaks_off g.R.Source.gives g.W.Sink.takes g.W.Sink.passes _ _ _ _ _ _ _ c.in_err-feed_through.ensures.caused
+    rw (p.1, p.2) (breaks_off g.R.Source.gives g.W.Sink.takes g.W.Sink.passes _ _ _ _ _ _ _ c.in_err-feed_through.ensures.feeds.caused
     (c.loop.counter, c.loop.reader.stream, c.loop.writer.stream, omega (arith, c.in-Ok.ensures.calls, before.4), before.6, (_, _, _, c.in-Ok.ensures.once), c.in_err-feed_through.ensures.undone))
 
 pub returns-clause-broken_off : goal.returns-clause-broken_off

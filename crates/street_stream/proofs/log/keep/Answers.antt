@@ -1,6 +1,4 @@
-use Rattle.std.proofs.KnownBytes.{Appends-kept}
-use Rattle.std.proofs.Math.Seq.{take-length}
-use Rattle.street_stream.proofs.Logs.{extends_none, extends_more}
+use Rattle.street_stream.proofs.Logs.{extends_more}
 use Rattle.street_stream.proofs.log.keep.Goals as goal
 
 pub returns-then-is_err-clause-synced : goal.returns-then-is_err-clause-synced

@@ -1,4 +1,4 @@
-use Rattle.std.proofs.Common.{take, drop, ap, ◌++◌, ◌∙◌, sym, List, ℕ}
+use Rattle.std.proofs.Common.{take, drop, ap, ◌∙◌, sym, List, ℕ}
 use Rattle.std.proofs.lemmas.List.{take-append-drop}
 use Rattle.street_stream.proofs.Cut.{cut_more}
 use Rattle.street_stream.specs.Lines.{cut}

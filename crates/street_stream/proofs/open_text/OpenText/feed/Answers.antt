@@ -1,4 +1,4 @@
-use Rattle.std.proofs.Common.{[], ◌++◌, refl}
+use Rattle.std.proofs.Common.{◌++◌, refl}
 use Rattle.street_stream.proofs.CutParts.{parts_inside}
 use Rattle.street_stream.proofs.OpenTexts.{opened}
 use Rattle.street_stream.proofs.open_text.OpenText.feed.Goals as goal
@@ -6,11 +6,11 @@ use Rattle.street_stream.proofs.open_text.OpenText.feed.Goals as goal
 pub returns-in-Ok-clause-handled : goal.returns-in-Ok-clause-handled
 returns-in-Ok-clause-handled g c = λ line is.
     let stands = opened g.H.LineHandler.meaning.takes g.H.LineHandler.meaning.longest c.args.handler.now (g.W.Write.contents c.args.writer.now.stream) line _ is.part is.inside (record { lines = refl; calls = refl; replies = refl; bytes = refl }) in
-    let fed = c.in-Ok.ensures.feeds c.args.handler.now (g.W.Write.contents c.args.writer.now.stream) line stands in
+    let fed = c.in-Ok.ensures.feeds.feeds c.args.handler.now (g.W.Write.contents c.args.writer.now.stream) line stands in
     record { effects = fed.0; handled = fed.1; replied = fed.2; counted = fed.4 }
 
 pub returns-in-Ok-clause-open : goal.returns-in-Ok-clause-open
 returns-in-Ok-clause-open g c = λ line is.
     let stands = opened g.H.LineHandler.meaning.takes g.H.LineHandler.meaning.longest c.args.handler.now (g.W.Write.contents c.args.writer.now.stream) line _ is.part is.inside (record { lines = refl; calls = refl; replies = refl; bytes = refl }) in
-    let fed = c.in-Ok.ensures.feeds c.args.handler.now (g.W.Write.contents c.args.writer.now.stream) line stands in
+    let fed = c.in-Ok.ensures.feeds.feeds c.args.handler.now (g.W.Write.contents c.args.writer.now.stream) line stands in
     record { part = fed.3; inside = (parts_inside (line ++ c.args.bytes.now)).1 }

@@ -2,7 +2,7 @@ use Rattle.std.proofs.Common.{◌≡◌, arith, ap, length, ◌∙◌, sym, subs
 use Rattle.street_base.specs.Prelude.{Traffic}
 use Rattle.street_tile.specs.Prelude.{AllStand, Shows}
 use Rattle.street_tile.proofs.BetweenPhases.{tiles-each, tiles-lanes, tiles-motion, tiles-release, tiles-move, tiles-enter, idle-handed, prepared-motion, prepared-release, prepared-move, in-time-lanes, shown-motion, stand-motion, release-lanes, in-time, whole-step}
-use Rattle.street_tile.proofs.phase_by_phase.step_all.Goals as goal
+use Rattle.street_tile.proofs.step.step_all.Goals as goal
 
 pub share-requires-clause-may : goal.share-requires-clause-may
 share-requires-clause-may g c κs within i d l = tiles-each c.args.net.now c.args.tiles.now c.requires.ready.tiles i d l
