@@ -148,7 +148,7 @@ module _ {S Stop W : Type 0} (meaning : Meaning S Stop) (contents : W → Option
     pub broken : IfErr done (FeedStops old writer progress bytes new written fed)
     pub caused : IfErr done (λ cause. IsCausedByLine cause written)
 
-  -- what became of the end of the text: its last line was handled, where it had none or one without an end, or it ended the run, and why is told
+  -- what became of the end of the text: a last line without an end, if there was one, was handled, or it ended the run, and why is told
   pub record FinishesText (old : S) (writer : Counted W) (progress : Progress) (done : Result (Unit {0}) (Cause Stop))
       (new : S) (written : Counted W) (over : Progress) : Type 0 where
     pub finishes : OnOk done (FinishesTo old writer progress new written over)

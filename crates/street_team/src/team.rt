@@ -52,8 +52,8 @@ impl<'a, 'r, 'w, 's, T: Drop, W: Work<T>, R: Wait> Drop for Team<'a, 'r, 'w, 's,
 }
 
 impl<'a, 'r, 'w, 's, T: Drop, W: Work<T>, R: Wait> Team<'a, 'r, 'w, 's, T, W, R> {
-    /// A team of the caller and so many threads, which were started. `spare` has a block for each of them, and `locks` one for each
-    /// lending to each.
+    /// A team of the caller and so many threads, which were started. `shared` has a tray for each of them, as else `lend` waits for
+    /// ever; `spare` has a block for each, and `locks` one for each lending to each.
     pub fn new(
         rt: &'r R,
         shared: &'s Shared<'a, 'w, T, W>,
