@@ -12,8 +12,7 @@ from streetsim.base.report import Report
 from streetsim.cli import compare, demand
 from streetsim.counts import checking, demanding, judging, matrices, ratios, reading, science, zones
 from streetsim.counts.cells import clock_of
-from streetsim.counts.judging import Compared
-from streetsim.counts.pictures import each_once
+from streetsim.counts.judging import Compared, differences_of, each_once
 from streetsim.counts.seen import fewest
 from streetsim.counts.values import Count
 from streetsim.routes.loading import read_town
@@ -160,6 +159,15 @@ class Inputs(Case):
         ]
         found = [(one.begin, one.edges[0], one.kind) for one in each_once(hourly)]
         self.assertEqual(found, [(0, "a", ""), (0, "b", "truck"), (3600, "a", "truck")])
+        # One fewer in each of two hours at a, and in one of the two at b.
+        self.assertEqual(differences_of(hourly), {"a": -1.0, "b": -0.5})
+
+    def test_flows_begin_at_times_as_sumo_writes_them(self):
+        flow = '<routes><flow id="f" from="a" begin="00:30:00" end="01:00:00" number="{}"/></routes>'
+        [one] = ratios.read_inflows([self.write("f.xml", flow.format(2))], 0)
+        self.assertEqual((one.begin, one.end, one.vehicles), (1800, 2701, 2))
+        [none] = ratios.read_inflows([self.write("f.xml", flow.format(0))], 0)
+        self.assertEqual((none.begin, none.end, none.vehicles), (1800, 1801, 0))
 
     def test_slices_begin_with_the_soonest_departure(self):
         # Two flows, the second of which begins first; the count is of 900 to 1800 s.
@@ -205,6 +213,8 @@ class Judging(Case):
         self.assertEqual([round(one.geh, 2) for one in fit.hourly], [0.2, 4.71, 0])
         self.assertEqual([(one.counts, one.good, one.fits) for one in fit.hours], [(2, 2, False), (1, 1, True)])
         self.assertEqual([(one.group, one.counted, one.passed) for one in fit.groups], [("north", 800, 904)])
+        # GEH of 904 and 800 is sqrt(2 * 104^2 / 1704) = 3.56.
+        self.assertEqual(fit.groups[0].group_row(), (0, 3600, "north", 2, "800", "904", "13.0", "3.56"))
         self.assertIn("does not fit (totals within 5 %)", next(fit.lines()))
         # A quarter of an hour: 90 of 100 are 360 of 400 an hour, sqrt(2 * 40^2 / 760) = 2.05.
         self.assertEqual(round(fit.each[0].geh, 2), 2.05)

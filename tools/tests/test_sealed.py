@@ -1,5 +1,6 @@
 """What streetsim-check finds: single changes of a sealed page, of a run's folder and of a study's; and nothing in what
 is untouched."""
+import gzip
 import json
 import os
 import re
@@ -18,6 +19,7 @@ from streetsim.cli.check import page_again
 from streetsim.reports import seal as sealing
 from streetsim.reports.elements import differences, numbers_in
 from streetsim.reports.seal import DATA, PACK, packed, seal_of, sum_of, unpacked
+from streetsim.results.tallying import Compared, compared
 
 CORRIDOR = TOOLS / "examples/corridor"
 # A program whose replies differ: it dawdles otherwise than it is told.
@@ -41,6 +43,31 @@ class Numbers(unittest.TestCase):
     def test_names_of_tags_are_no_numbers(self):
         page = '<h1>In 2026</h1><style>p { margin: 3px }</style><p>8,000 of 9.5</p><path d="M 4 5"/><h2>7</h2>'
         self.assertEqual(numbers_in(page), 6)  # 2026, 8,000, 9.5, 4, 5, 7
+
+
+class Broken(Case):
+    """Files of a run's folder that were spoilt since, each told in one line."""
+
+    def fault(self, name, content):
+        for folder in ("said", "found"):
+            (self.folder / folder).mkdir(exist_ok=True)
+            (self.folder / folder / name).write_bytes(gzip.compress(b"1\n") if name.endswith(".gz") else b"1\n")
+        self.assertEqual(list(compared(self.folder / "said", self.folder / "found", Compared())), [])
+        (self.folder / "said" / name).write_bytes(content)
+        with self.assertRaises(Fault) as raised:
+            list(compared(self.folder / "said", self.folder / "found", Compared()))
+        self.assertIn(f"said/{name}: ", str(raised.exception))
+
+    def test_packed_files(self):
+        packed = gzip.compress(b"[1,2]\n" * 99)
+        for content in (b"no gzip", packed[:-12], packed[:12] + b"\xff" * 20, packed[:-8] + b"\0" * 8):
+            with self.subTest(content=content):
+                self.fault("polls.jsonl.gz", content)
+
+    def test_tables(self):
+        for content in (b"a,b\n\xff,2\n", b"a,b\n" + b"1" * 200_000 + b",2\n"):
+            with self.subTest(content=content[:9]):
+                self.fault("trips.csv", content)
 
 
 class Sealed(Case):
@@ -336,8 +363,6 @@ class Folders(Sealed):
         self.assertRegex(told, r"seed-1/trips.csv, line 2, depart: said '\d+', found '\d+'")
 
     def test_another_run_file(self):
-        import gzip
-
         path = self.copy() / "run.jsonl.gz"
         text = gzip.decompress(path.read_bytes()).replace(b'"depart":0', b'"depart":1', 1)
         path.write_bytes(gzip.compress(text))

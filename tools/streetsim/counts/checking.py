@@ -6,7 +6,7 @@ from itertools import pairwise
 from typing import NamedTuple
 
 from streetsim.base.files import Fault
-from streetsim.counts.values import Count, Zone
+from streetsim.counts.values import Count, Zone, overlapping
 from streetsim.sumo.net import SumoNet
 from streetsim.ways.graph import Graph
 
@@ -68,16 +68,10 @@ def check_counts(counts: Sequence[Count], net: SumoNet, graph: Graph) -> None:
 
 def check_periods(counts: Sequence[Count]) -> None:
     """Fault for two counts of one place and class whose periods overlap."""
-    of_place: defaultdict[tuple[tuple[str, ...], str], list[Count]] = defaultdict(list)
-    for count in counts:
-        of_place[count.edges, count.kind].append(count)
-    for some in of_place.values():
-        some.sort(key=lambda one: (one.begin, one.end))
-        for first, second in pairwise(some):
-            if second.begin < first.end:
-                same = (first.begin, first.end) == (second.begin, second.end)
-                how = "counted a second time in this period" if same else f"counted already until {first.end:,} s"
-                raise Fault(f"{second.where}: {second.place()} is {how} (as {first.where})")
+    for first, second in overlapping(counts, lambda one: (one.edges, one.kind)):
+        same = (first.begin, first.end) == (second.begin, second.end)
+        how = "counted a second time in this period" if same else f"counted already until {first.end:,} s"
+        raise Fault(f"{second.where}: {second.place()} is {how} (as {first.where})")
 
 
 def check_zone_edges(zones: Mapping[str, Zone], net: SumoNet) -> None:

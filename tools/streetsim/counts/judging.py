@@ -34,10 +34,14 @@ class Compared:
     passed: float
 
     @property
+    def per_hour(self) -> float:
+        """The factor that makes a number of its period one of an hour."""
+        return HOUR / (self.end - self.begin)
+
+    @property
     def geh(self) -> float:
         """The GEH of both numbers, as vehicles an hour."""
-        hours = (self.end - self.begin) / HOUR
-        return geh(self.counted / hours, self.passed / hours)
+        return geh(self.counted * self.per_hour, self.passed * self.per_hour)
 
     def row(self) -> tuple[object, ...]:
         """The row of fit.csv that stands for it, as FIT has the columns."""
@@ -85,9 +89,9 @@ class Sums:
     def group_row(self) -> tuple[object, ...]:
         """The row of groups.csv that stands for it, as GROUPS has the columns."""
         hours = (self.end - self.begin) / HOUR
-        geh = f"{geh(self.counted / hours, self.passed / hours):.2f}"
+        apart = f"{geh(self.counted / hours, self.passed / hours):.2f}"
         totals = f"{self.counted:g}", f"{self.passed:g}", f"{100 * self.difference:.1f}"
-        return (self.begin, self.end, self.group, self.counts, *totals, geh)
+        return (self.begin, self.end, self.group, self.counts, *totals, apart)
 
 
 @dataclass(frozen=True, slots=True)
@@ -187,6 +191,35 @@ def line_through(each: Sequence[Compared]) -> tuple[float, float] | None:
     counted, passed = [one.counted for one in each], [one.passed for one in each]
     r = correlation(counted, passed)
     return None if r is None else (r, r * pstdev(passed) / pstdev(counted))
+
+
+def of_geh(counted: float, sign: int) -> float:
+    """The volume above (sign 1) or below (sign -1) a counted one whose GEH beside it is 5, 0 at least; by 2 (p - c)^2 =
+    25 (p + c)."""
+    square = GOOD**2
+    root = (square * square + 16 * square * counted) ** 0.5
+    return max(0.0, counted + (square + sign * root) / 4)
+
+
+def each_once(hourly: Iterable[Compared]) -> list[Compared]:
+    """Places and hours without those of a class where all vehicles are counted at the same place in the same hour, so
+    that sums have each vehicle once."""
+    hourly = list(hourly)
+    whole = {(one.begin // HOUR, one.edges) for one in hourly if not one.kind}
+    return [one for one in hourly if not one.kind or (one.begin // HOUR, one.edges) not in whole]
+
+
+def differences_of(hourly: Sequence[Compared]) -> dict[str, float]:
+    """How many vehicles an hour more (above 0) or fewer passed than were counted, by edge: of the edge itself, else of
+    its turns together; of all vehicles, else of the classes together. Edges of which nothing is counted are left
+    out."""
+    whole: defaultdict[str, float] = defaultdict(float)
+    turns: defaultdict[str, float] = defaultdict(float)
+    hours = len({one.begin // HOUR for one in hourly})
+    for one in each_once(hourly):
+        into = whole if len(one.edges) == 1 else turns
+        into[one.edges[0]] += (one.passed - one.counted) * one.per_hour / hours
+    return {**turns, **whole}
 
 
 def worst(fit: Judged, most: int = 5) -> list[Compared]:

@@ -6,7 +6,7 @@ from streetsim.base.files import Fault, FilePath, open_text, reading
 from streetsim.counts.cells import begins_with, clock_of, name_of, period_of, rows_of, vehicles_of
 from streetsim.counts.reading import BY_TURN, clock_rounded, number_in
 from streetsim.counts.tags import tags
-from streetsim.counts.values import Cell, Zone
+from streetsim.counts.values import Cell, Zone, overlapping
 
 COLUMNS = ("from", "to", "vehicles")
 MORE = ("begin", "end", "class")
@@ -14,7 +14,7 @@ MORE = ("begin", "end", "class")
 
 def read_matrices(paths: Iterable[FilePath], period: tuple[int, int] | None) -> list[Cell]:
     """The cells of files, by the format that each begins with. Fault where a file cannot be read, is of none of the
-    formats or has no cell, or a cell (period, pair and class) stands twice. period: (begin, end), seconds, of cells of
+    formats or has no cell, or two cells of one pair and class have periods that overlap. period: (begin, end), seconds, of cells of
     tables without these columns; None: such tables are a Fault."""
     found: list[Cell] = []
     for path in paths:
@@ -32,13 +32,11 @@ def read_matrices(paths: Iterable[FilePath], period: tuple[int, int] | None) -> 
 
 
 def refuse_twice(cells: Iterable[Cell]) -> None:
-    """Fault for two cells of one period, pair and class; where their periods only overlap, both count."""
-    seen: dict[tuple[int, int, str, str, str], Cell] = {}
-    for cell in cells:
-        key = cell.begin, cell.end, cell.source, cell.target, cell.kind
-        if key in seen:
-            raise Fault(f"{cell.where}: {cell.source} to {cell.target} a second time, as {seen[key].where}")
-        seen[key] = cell
+    """Fault for two cells of one pair and class whose periods overlap."""
+    for first, second in overlapping(cells, lambda one: (one.source, one.target, one.kind)):
+        same = (first.begin, first.end) == (second.begin, second.end)
+        how = "a second time, as" if same else f"is told already until {first.end:,} s, by"
+        raise Fault(f"{second.where}: {second.source} to {second.target} {how} {first.where}")
 
 
 def of_table(path: FilePath, period: tuple[int, int] | None) -> Iterator[Cell]:

@@ -1,9 +1,8 @@
 """Pictures of a fit: what passed over what was counted, and a map of the differences."""
-from collections import defaultdict
 from collections.abc import Sequence
 
 from streetsim.pictures import drawing
-from streetsim.counts.judging import GOOD, HOUR, Compared, Judged
+from streetsim.counts.judging import GOOD, Compared, Judged, differences_of, of_geh
 from streetsim.model.mapping import MapLink
 from streetsim.pictures.drawing import Figure, Pyplot
 from streetsim.routes.drawing import differences, draw_flows
@@ -27,15 +26,13 @@ def scatter(pyplot: Pyplot, hourly: Sequence[Compared], what: str) -> Figure:
     """The picture of passed over counted, vehicles an hour: a point for each place and hour, and the curves on which
     GEH is 5. what: how vehicles passed."""
     figure, axes = pyplot.subplots(figsize=(5.6, 5.4))
-    scale = [HOUR / (one.end - one.begin) for one in hourly]
     for good, colour, mark in ((True, GOOD_COLOUR, "o"), (False, BAD_COLOUR, "x")):
         those = [
-            (one.counted * by, one.passed * by)
-            for one, by in zip(hourly, scale, strict=True) if (one.geh < GOOD) is good
+            (one.counted * one.per_hour, one.passed * one.per_hour) for one in hourly if (one.geh < GOOD) is good
         ]  # fmt: skip
         label = f"{len(those):,} with GEH {'below 5' if good else '5 and more'}"
         axes.plot(*(zip(*those) if those else ([], [])), mark, color=colour, markersize=4, alpha=0.7, label=label)
-    most = 1.08 * max([1.0, *(max(one.counted, one.passed) * by for one, by in zip(hourly, scale, strict=True))])
+    most = 1.08 * max([1.0, *(max(one.counted, one.passed) * one.per_hour for one in hourly)])
     axes.plot((0, most), (0, most), color="black", linewidth=0.8)
     counted = [most * at / POINTS for at in range(POINTS + 1)]
     for sign in (1, -1):
@@ -47,30 +44,17 @@ def scatter(pyplot: Pyplot, hourly: Sequence[Compared], what: str) -> Figure:
     return figure
 
 
-def of_geh(counted: float, sign: int) -> float:
-    """The volume above (sign 1) or below (sign -1) a counted one whose GEH beside it is 5, 0 at least; by 2 (p - c)^2 =
-    25 (p + c)."""
-    square = GOOD**2
-    root = (square * square + 16 * square * counted) ** 0.5
-    return max(0.0, counted + (square + sign * root) / 4)
-
-
 def map_of(pyplot: Pyplot, hourly: Sequence[Compared], links: Sequence[MapLink], what: str) -> Figure:
     """The map of edges by how many vehicles an hour more or fewer passed than were counted: of the edge itself, else of
     its turns together; of all vehicles, else of the classes together. what: how vehicles passed."""
-    whole: defaultdict[str, float] = defaultdict(float)
-    turns: defaultdict[str, float] = defaultdict(float)
-    hours = len({one.begin // HOUR for one in hourly})
-    for one in each_once(hourly):
-        into = whole if len(one.edges) == 1 else turns
-        into[one.edges[0]] += (one.passed - one.counted) * HOUR / (one.end - one.begin) / hours
-    values = [round(whole.get(link.edge, turns.get(link.edge, 0.0))) for link in links]
+    found = differences_of(hourly)
+    values = [round(found.get(link.edge, 0.0)) for link in links]
     spans = [max(place) - min(place) for place in zip(*(point[:2] for link in links for point in link.shape))]
     wide = spans[0] > 2 * spans[1]
     figure, axes = pyplot.subplots(figsize=(9, 3.6) if wide else (8, 6.5), layout="constrained")
     most = max(LEAST, *(abs(value) for value in values))
     lines = draw_flows(axes, links, values, differences(most), f"{what} less counted")
-    counted = [link for link in links if link.edge in whole or link.edge in turns]
+    counted = [link for link in links if link.edge in found]
     middles = [link.shape[len(link.shape) // 2] if len(link.shape) > 2 else halfway(link) for link in counted]
     if middles:
         axes.plot(*zip(*middles), ".", color="black", markersize=3)
@@ -78,13 +62,6 @@ def map_of(pyplot: Pyplot, hourly: Sequence[Compared], links: Sequence[MapLink],
     label, beside = "vehicles/h fewer (broken lines) or more than counted", {"location": "bottom"} if wide else {}
     figure.colorbar(lines, ax=axes, label=label, shrink=0.8, **beside)
     return figure
-
-
-def each_once(hourly: Sequence[Compared]) -> list[Compared]:
-    """Places and hours without those of a class where all vehicles are counted at the same place in the same hour, so
-    that sums have each vehicle once."""
-    whole = {(one.begin // HOUR, one.edges) for one in hourly if not one.kind}
-    return [one for one in hourly if not one.kind or (one.begin // HOUR, one.edges) not in whole]
 
 
 def halfway(link: MapLink) -> tuple[float, float]:

@@ -2,7 +2,7 @@
 import random
 from collections.abc import Iterable
 
-from streetsim.base.files import Fault, FilePath, elements, told
+from streetsim.base.files import Fault, FilePath, elements, optional, seconds, told
 from streetsim.counts.cells import MOST_SECONDS, name_of, period_of, vehicles_of
 from streetsim.counts.reading import clock_rounded
 from streetsim.counts.tags import Tag, tags
@@ -29,7 +29,8 @@ def read_inflows(paths: Iterable[FilePath], seed: int) -> list[Inflow]:
             if element.get("to") or element.find("route") is not None:
                 raise Fault(f"{told(path, element)}: it has an end: give it to --candidates or streetsim-route --trips")
             times = departs(path, element, draws)
-            begin, end = int(float(element.get("begin", "0"))), int(max(times, default=0)) + 1
+            begin = int(optional(path, element, "begin", seconds, 0.0))
+            end = int(max(times, default=begin)) + 1
             name, edge = element.get("id", ""), element.get("from", "")
             found.append(Inflow(name, edge, begin, end, len(times), told(path, element)))
         if len(found) == before:

@@ -1,9 +1,7 @@
 """Counts beside a run on a page, as HTML: by hour, screen lines, scatter, map of the differences, and the worst."""
-from collections import defaultdict
 from html import escape
 
-from streetsim.counts.judging import GOOD, HOUR, Compared, Judged, line_through, worst
-from streetsim.counts.pictures import of_geh
+from streetsim.counts.judging import GOOD, Judged, differences_of, line_through, of_geh, worst
 from streetsim.model.mapping import Map
 from streetsim.model.names import Names
 from streetsim.reports.drawing import lines_picture
@@ -65,7 +63,7 @@ def worst_table(fit: Judged, names: Names) -> str:
 def scatter(fit: Judged) -> str:
     """A picture (SVG) of passed over counted, vehicles an hour, by place and hour, with the curves on which GEH is
     5."""
-    points = [(one.counted * per_hour(one), one.passed * per_hour(one), one.geh < GOOD) for one in fit.hourly]
+    points = [(one.counted * one.per_hour, one.passed * one.per_hour, one.geh < GOOD) for one in fit.hourly]
     most = 1.08 * max([1.0, *(max(counted, passed) for counted, passed, _ in points)])
     scale = (SIDE - EDGE - 10) / most
 
@@ -92,20 +90,8 @@ def scatter(fit: Judged) -> str:
     return f"<svg {shape}>{''.join(parts)}</svg>"
 
 
-def per_hour(one: Compared) -> float:
-    """The factor that makes a count of a period one of an hour."""
-    return HOUR / (one.end - one.begin)
-
-
 def differences_map(fit: Judged, mapping: Map) -> str:
     """A map of how many vehicles an hour more or fewer passed than were counted, of an edge, else of its turns
-    together, as HTML. A place that is counted for all vehicles and for a class has both added."""
-    hours = len({one.begin // HOUR for one in fit.hourly})
-    whole: defaultdict[str, float] = defaultdict(float)
-    turns: defaultdict[str, float] = defaultdict(float)
-    for one in fit.hourly:
-        into = whole if len(one.edges) == 1 else turns
-        into[one.edges[0]] += (one.passed - one.counted) * per_hour(one) / hours
-    values = {**turns, **whole}
+    together, as HTML."""
     told = "Vehicles an hour more (red) or fewer (blue) in the run than counted; dark grey: as many; light: not counted"
-    return f"<figure>{lines_picture(mapping, values)}<figcaption>{told}</figcaption></figure>"
+    return f"<figure>{lines_picture(mapping, differences_of(fit.hourly))}<figcaption>{told}</figcaption></figure>"

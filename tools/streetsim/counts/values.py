@@ -1,6 +1,9 @@
 """What a planner has: counts, zones, matrices, inflows and turn ratios, each with the line that tells it."""
-from collections.abc import Mapping
+from collections import defaultdict
+from collections.abc import Callable, Iterable, Iterator, Mapping
 from dataclasses import dataclass
+from itertools import pairwise
+from typing import TypeVar
 
 
 @dataclass(frozen=True, slots=True)
@@ -49,6 +52,20 @@ class Cell:
     vehicles: float
     where: str
     kind: str = ""  # the vehicle class; empty: a car
+
+
+Dated = TypeVar("Dated", Count, Cell)
+
+
+def overlapping(some: Iterable[Dated], key: Callable[[Dated], object]) -> Iterator[tuple[Dated, Dated]]:
+    """Pairs of counts, or of cells, of one key whose periods overlap, the one that begins sooner first. Only those that
+    follow each other by their begins are compared, so that there is a pair where any two overlap."""
+    found: defaultdict[object, list[Dated]] = defaultdict(list)
+    for one in some:
+        found[key(one)].append(one)
+    for alike in found.values():
+        alike.sort(key=lambda one: (one.begin, one.end))
+        yield from ((first, second) for first, second in pairwise(alike) if second.begin < first.end)
 
 
 @dataclass(frozen=True, slots=True)

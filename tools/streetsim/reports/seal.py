@@ -152,5 +152,5 @@ def read_beside(seal: Seal, page: str) -> dict[str, bytes]:
     try:
         with zipfile.ZipFile(path) as made:
             return {name: made.read(name) for name in made.namelist()}
-    except (OSError, zipfile.BadZipFile, zlib.error) as fault:
+    except (OSError, EOFError, RuntimeError, zipfile.BadZipFile, zlib.error) as fault:
         raise Fault(f"{path}: the file beside {page} cannot be read: {fault}") from None

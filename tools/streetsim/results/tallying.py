@@ -3,6 +3,7 @@ import csv
 import gzip
 import json
 import os
+import zlib
 from collections.abc import Iterator
 from dataclasses import dataclass
 from pathlib import Path
@@ -35,7 +36,8 @@ def files_in(folder: str) -> list[str]:
 def compared(said: str, found: str, counts: Compared) -> Iterator[tuple[str, str, str]]:
     """Where the files of the folder `said` differ from those of `found`, made anew: (file and place in it, said,
     found). Files that only `said` has, made.json and lights.json are passed over. Adds to `counts`. Fault where a
-    setting.json holds no setting, or a packed file cannot be unpacked."""
+    setting.json holds no setting, a packed file cannot be unpacked, or a table cannot be
+    read."""
     for name in (one for one in files_in(found) if one not in PATHS):
         counts.files += 1
         if not os.path.exists(f"{said}/{name}"):
@@ -67,7 +69,7 @@ def lines_of(path: str) -> list[bytes]:
     content = Path(path).read_bytes()
     try:
         return (gzip.decompress(content) if path.endswith(".gz") else content).split(b"\n")
-    except (OSError, EOFError) as fault:
+    except (OSError, EOFError, zlib.error) as fault:
         raise Fault(f"{path}: {fault}") from None
 
 
@@ -83,9 +85,12 @@ def of_lines(name: str, first: list[bytes], second: list[bytes], counts: Compare
 
 def of_tables(name: str, first: str, second: str, counts: Compared) -> Iterator[tuple[str, str, str]]:
     """The cells of two CSV files that differ, as `compared` gives them; name: the file; first: path of the one that was
-    said, second: of the one found. Adds to `counts`."""
+    said, second: of the one found. Adds to `counts`. Fault where the first is no table."""
     with open(first, encoding="utf-8", newline="") as one, open(second, encoding="utf-8", newline="") as other:
-        rows = [list(csv.reader(file)) for file in (one, other)]
+        try:
+            rows = [list(csv.reader(file)) for file in (one, other)]
+        except (UnicodeDecodeError, csv.Error) as fault:
+            raise Fault(f"{first}: cannot be read: {fault}") from None
     head = rows[1][0] if rows[1] else []
     for number in range(max(map(len, rows))):
         said, found = (side[number] if number < len(side) else [] for side in rows)
