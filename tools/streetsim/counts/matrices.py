@@ -14,8 +14,8 @@ MORE = ("begin", "end", "class")
 
 def read_matrices(paths: Iterable[FilePath], period: tuple[int, int] | None) -> list[Cell]:
     """The cells of files, by the format that each begins with. Fault where a file cannot be read, is of none of the
-    formats or has no cell, or two cells of one pair and class have periods that overlap. period: (begin, end), seconds, of cells of
-    tables without these columns; None: such tables are a Fault."""
+    formats or has no cell, or two cells of one pair and class have periods that overlap. period: (begin, end),
+    seconds, of cells of tables without these columns; None: such tables are a Fault."""
     found: list[Cell] = []
     for path in paths:
         if begins_with(path, "<"):
