@@ -1,14 +1,17 @@
 """Bounds and gaps of actuated lights: what a search changes, and what it writes."""
 import csv
 import unittest
+from types import SimpleNamespace
 
 from support import PROGRAM, Case, needs_simulator
 from test_actuated import PHASES, street
 from test_nema import street as ringed
 from streetsim.actuated.lights import driven_lights
+from streetsim.base.files import Fault
 from streetsim.model.mapping import read_map
 from streetsim.model.runs import read_run
-from streetsim.signals.bounds import Bounds, given_bounds, kept_with, key_of, search_bounds, with_bounds, write_bounds
+from streetsim.signals.bounded import Asked, searched_bounds
+from streetsim.signals.bounds import Bounds, bounds_text, given_bounds, kept_with, key_of, search_bounds, with_bounds
 from streetsim.signals.search import Search
 
 OWN = Bounds(((0, 5, 40), (2, 5, 30)), (3.0,))
@@ -39,6 +42,13 @@ class Changing(unittest.TestCase):
         self.assertEqual(own, Bounds(((0, 9, 56 if own.greens[0][2] == 56 else 55),), (2.0,)))
         self.assertEqual(search.trials[0].step, "given")
 
+    def test_a_budget_below_the_seeds_that_the_runs_ask_for(self):
+        spread = (100, 120, 140, 90, 80, 150, 100, 110, 90, 130)
+        workers = SimpleNamespace(ordered=lambda tasks: (SimpleNamespace(seconds=one) for one in spread))
+        ground = SimpleNamespace(town=SimpleNamespace(session=SimpleNamespace(departs=[0])), given={})
+        with self.assertRaisesRegex(Fault, "--budget 9: one plan takes 10 simulations"):
+            searched_bounds(Asked(9, (), 5), workers, ground, range(1, 11))
+
 
 @needs_simulator
 class Runs(Case):
@@ -61,7 +71,7 @@ class Runs(Case):
         [made] = with_bounds(lights, mapping, {"L": Bounds(((0, 8, 60),), (2.0,))}).driven
         self.assertEqual((made.phases[0].least, made.phases[0].most, made.gaps), (8, 60, (2.0,)))
         self.assertEqual(kept_with(mapping.programs[0], OWN)["parameters"], {"max-gap": "3"})
-        write_bounds(str(self.folder / "x.add.xml"), mapping, {"L": Bounds(((0, 8, 60),), (2.0,))})
+        self.write("x.add.xml", bounds_text(mapping, {"L": Bounds(((0, 8, 60),), (2.0,))}))
         text = (self.folder / "x.add.xml").read_text(encoding="utf-8")
         self.assertIn('<tlLogic id="L" type="actuated" programID="streetsim" offset="0">', text)
         self.assertIn('<param key="max-gap" value="2"/>', text)
@@ -81,7 +91,7 @@ class Runs(Case):
         [made] = with_bounds(lights, mapping, {"L": found}).driven
         phases = [(one.name, one.least, one.most, one.extension) for one in made.rings.phases]
         self.assertEqual(phases, [(2, 5, 40, 2.0), (4, 7, 40, 2.0), (6, 5, 30, 3.5), (8, 5, 40, 2.0)])
-        write_bounds(str(self.folder / "x.add.xml"), mapping, {"L": found})
+        self.write("x.add.xml", bounds_text(mapping, {"L": found}))
         text = (self.folder / "x.add.xml").read_text(encoding="utf-8")
         self.assertIn('<tlLogic id="L" type="NEMA" programID="streetsim" offset="0">', text)
         more = 'name="6" vehext="3.5" yellow="3" red="2"'

@@ -11,7 +11,7 @@ from streetsim.junctions import reporting
 from streetsim.junctions.capacity import usual_flow
 from streetsim.junctions.facing import facing
 from streetsim.junctions.layout import Approach, Greens, approaches_of, turn_name, ways_that_stop
-from streetsim.junctions.measures import Measures, Totals, stop_loss, together
+from streetsim.junctions.measures import Measures, Losses, stop_loss, together
 from streetsim.junctions.passages import Passages, discharges, queue_metres, who_stand
 from streetsim.junctions.rows import Tables
 from streetsim.junctions.sampling import LOOKS, Ends, Sampled, moments
@@ -164,7 +164,7 @@ class Definitions(unittest.TestCase):
 
     def test_several_movements_together(self):
         """10 vehicles that lose 20 s and 30 that lose 40 s; errors of independent means."""
-        made = together([Totals(10, 20.0, 10.0, 1.0, 4.0), Totals(30, 40.0, 30.0, 2.0, 1.0), Totals(0, 0.0, 0.0, 0.0)])
+        made = together([Losses(10, 20.0, 10.0, 1.0, 4.0), Losses(30, 40.0, 30.0, 2.0, 1.0), Losses(0, 0.0, 0.0, 0.0)])
         self.assertEqual((made.vehicles, made.delay, made.stood, made.stops), (40, 35.0, 25.0, 1.75))
         self.assertAlmostEqual(made.error, (40**2 + 30**2) ** 0.5 / 40)
 

@@ -5,7 +5,6 @@ from __future__ import annotations
 
 from collections.abc import Iterator, Sequence
 
-from streetsim.actuated.kept import NodeOf
 from streetsim.actuated.nema import Nema
 from streetsim.actuated.ring_phases import GREEN, RED, YELLOW, RingPhase, Rings, together
 from streetsim.actuated.rings import DrivenRings
@@ -13,8 +12,9 @@ from streetsim.actuated.showing import WEIGHT, Lengths, lit_node, plan_of, settl
 from streetsim.base import limits
 from streetsim.model.mapping import Map
 from streetsim.model.runs import Command
+from streetsim.model.timing import runs_of
 from streetsim.sumo.signals import Green, LitNode, green_seconds
-from streetsim.sumo.yielding import GREEN as FIRST, OPEN, STOPPED, runs_of
+from streetsim.sumo.yielding import GREEN as FIRST, OPEN, STOPPED
 
 LIT = FIRST + OPEN + STOPPED  # letters of a signal that some pass
 Times = list[tuple[RingPhase, int]]  # by second: a phase, and what it shows
@@ -82,8 +82,8 @@ def of_green(letters: str, shown: Sequence[bool], letter: str, gone: int) -> lis
     runs = runs_of(letters, letter)
     if not runs:
         return [True]
-    start = max(runs, key=lambda one: runs[one])
-    own = [shown[(start + second) % len(shown)] for second in range(runs[start])]
+    start, length = max(runs, key=lambda run: run[1])
+    own = [shown[(start + second) % len(shown)] for second in range(length)]
     return own[min(gone, len(own) - 1) :]
 
 

@@ -131,6 +131,11 @@ class Vehicle:
         assert self.link is not None and self.lane is not None
         return self.link, self.lane
 
+    @property
+    def arrival(self) -> int | None:
+        """The clock at which it arrived; None where it has not, or was taken out."""
+        return self.step + 1 if self.state == "arrived" and self.step is not None else None
+
 
 @dataclass(slots=True, frozen=True)
 class Lane:

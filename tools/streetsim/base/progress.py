@@ -12,7 +12,7 @@ PAUSE = 0.2  # seconds between two writings of a line
 
 
 class TerminalLine:
-    """A line that is written over and over on a terminal, where `is_due` says so: never where the stream is no
+    """A line that is written over and over on a terminal, where `takes_turn` says so: never where the stream is no
     terminal."""
 
     def __init__(self, stream: IO[str] | None = None) -> None:
@@ -24,7 +24,7 @@ class TerminalLine:
         """Seconds since this line was made."""
         return time.monotonic() - self.begin
 
-    def is_due(self, ended: bool) -> bool:
+    def takes_turn(self, ended: bool) -> bool:
         """Whether to write it now, which is then noted: on a terminal at most five times a second, and when the work
         has ended."""
         now = time.monotonic()
@@ -34,8 +34,8 @@ class TerminalLine:
         return True
 
     def write(self, text: str, end: str = "") -> None:
-        """Writes a text from the left end of the line on, and `end` behind it, on whatever the stream is: ask `is_due`
-        before."""
+        """Writes a text from the left end of the line on, and `end` behind it, on whatever the stream is: ask
+        `takes_turn` before."""
         print(f"\r{text}", end=end, file=self.stream, flush=True)
 
     def write_over(self, text: str) -> None:
@@ -61,7 +61,7 @@ class Meanwhile(TerminalLine):
 
     def show(self, done: int, more: str = "") -> None:
         """Writes the line where it is due; done: parts done, 0 to the total; more: what else there is to say."""
-        if self.is_due(done >= self.total):
+        if self.takes_turn(done >= self.total):
             self.write_over(self.line(done, more, self.seconds()))
 
     def line(self, done: int, more: str, seconds: float) -> str:
@@ -93,7 +93,7 @@ class UnderWay(TerminalLine):
             return
         self.clocks[run], self.ways[run], self.arrived[run] = clock, census.cells + census.buffers, census.arrived
         ended = min(self.clocks) >= self.until
-        if self.is_due(ended):
+        if self.takes_turn(ended):
             self.write(f"{self.line(self.seconds())} ", "\n" if ended else "")
 
     def line(self, seconds: float) -> str:

@@ -7,6 +7,7 @@ from streetsim.base.files import Fault
 
 MOST_SEEDS = 1000
 MOST_RUNS = 1_000_000
+SEARCH_SPREAD, SEARCH_ERROR, MOST_SEARCHED = 0.005, 0.01, 10  # of a search: shares of the mean, and seeds
 NORMAL = NormalDist().inv_cdf(0.975)
 # Quantiles of Student's t at 97.5 %, for 1 to 30 degrees of freedom.
 STUDENT = (
@@ -66,12 +67,12 @@ def runs_needed(deviation: float, error: float) -> int | None:
     return low
 
 
-def seeds_for(values: Sequence[float], spread: float = 0.005, error: float = 0.01, most: int = 10) -> int:
+def seeds_for(values: Sequence[float]) -> int:
     """How many seeds a search needs, by the values of two or more runs of the given plan: one where their standard
-    deviation is at most the share `spread` of the mean; else so many that the standard error of the mean is at most the
-    share `error` of it, 2 to `most`."""
+    deviation is at most 0.5 % of the mean; else so many that the standard error of the mean is at most 1 % of it, 2 to
+    10."""
     relative = stdev(values) / fmean(values) if fmean(values) else 0.0
-    return 1 if relative <= spread else min(most, max(2, ceil((relative / error) ** 2)))
+    return 1 if relative <= SEARCH_SPREAD else min(MOST_SEARCHED, max(2, ceil((relative / SEARCH_ERROR) ** 2)))
 
 
 def interval(values: Sequence[float]) -> tuple[float, float | None]:

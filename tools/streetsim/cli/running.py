@@ -18,7 +18,7 @@ from streetsim.buses.priority import waiting
 from streetsim.model import trust
 from streetsim.model.folder import LIGHTS, NAME
 from streetsim.model.mapping import Map
-from streetsim.model.runs import Run, read_with_map, seeded
+from streetsim.model.runs import Run, read_with_map, with_load
 from streetsim.model.tables import PHASES_FILE, SEEDS, STOPS_FILE, WORKS_FILE, write_table
 from streetsim.outputs.folder import Figures, Making, first_poll, one_run
 from streetsim.outputs.kept import by_which, write_kept
@@ -177,7 +177,7 @@ def run_seeds(words: argparse.Namespace, making: Making, run: Run, mapping: Map,
                 """Passes on to the first process how far the run is."""
                 tell((clock, census))
 
-            return one_run(making, seeded(run, seed), mapping, settings, place, told)
+            return one_run(making, with_load(run, seed=seed), mapping, settings, place, told)
 
         figures = side_by_side(
             run_seed, seeds, words.jobs, lambda place, values: shown.show(values[0], values[1], place)

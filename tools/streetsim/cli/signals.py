@@ -7,7 +7,7 @@ from statistics import fmean, stdev
 
 from streetsim.base import limits, program
 from streetsim.base.files import Fault, place_of, refuse_equal
-from streetsim.base.progress import Meanwhile, Slow, Stopping
+from streetsim.base.progress import Slow
 from streetsim.base.seeds import seeds_for, seeds_of
 from streetsim.base.words import Parser, add_jobs, add_rounds, add_run, files_of, listed, time_within, within
 from streetsim.model.folder import Folder
@@ -15,14 +15,13 @@ from streetsim.outputs.folder import Making
 from streetsim.pictures.drawing import drawing
 from streetsim.pictures.plots import Corridor, refuse_broken
 from streetsim.sessions.machines import machines
-from streetsim.signals.bounded import (
-    Asked, Found, ground_of, outcomes, searched_bounds, verified_bounds, write_found_bounds,
-)
+from streetsim.signals.bounded import Asked, Found, ground_of, outcomes, searched_bounds, write_found_bounds
+from streetsim.signals.bounds import bounds_text
 from streetsim.signals.formulas import streets_of
 from streetsim.signals.found import Target, compared, doubts_of, tell, write_found
-from streetsim.signals.in_sumo import sumo_for, verified
-from streetsim.signals.planning import CHANGES, CYCLES, DRAWN, best_line, lengths, tried_seeds
-from streetsim.signals.plans import LEAST, Plan
+from streetsim.signals.in_sumo import PROGRAM_ID, sumo_for, verified
+from streetsim.signals.planning import CHANGES, CYCLES, DRAWN, ended_search, lengths, refuse_budget, tried_seeds
+from streetsim.signals.plans import LEAST, Plan, plan_text
 from streetsim.signals.search import Search, search_plan
 from streetsim.signals.town import Reading, Runner, Town, read_town, sessions_of
 
@@ -157,7 +156,8 @@ def main(arguments: list[str]) -> int:
         seeds = search_seeds(words, runner, tried)
         search, stopped = searched(words, runner, changed, cycles, seeds)
         before, after = (runner.outcomes(plan, check) for plan in (town.plan, search.best[1]))
-    sumo = verified(in_sumo, town, search.best[1], check, words.jobs) if in_sumo else None
+    texts = [plan_text(town.lights, plan, PROGRAM_ID) for plan in (town.plan, search.best[1])]
+    sumo = verified(in_sumo, town, texts, check, words.jobs) if in_sumo else None
     rows, doubts = compared(town, before, after, sumo), list(doubts_of(town, before, after, sumo))
     write_found(target, town, search, rows, doubts)
     return tell(town, search, rows, stopped, doubts, sumo)
@@ -185,7 +185,8 @@ def bounds_found(
         runner = Runner(workers, town)
         fixed, _ = searched(words, runner, changed, cycles, search_seeds(words, runner, tried))
         beside = runner.outcomes(fixed.best[1], check)
-    sumo = verified_bounds(in_sumo, ground, search.best[1], check, words.jobs) if in_sumo else None
+    texts = [bounds_text(town.mapping, one, PROGRAM_ID) for one in (ground.given, search.best[1])]
+    sumo = verified(in_sumo, town, texts, check, words.jobs) if in_sumo else None
     return write_found_bounds(words.output, words.out, ground, Found(search, stopped, before, after, beside, sumo))
 
 
@@ -215,8 +216,7 @@ def check_seeds(words: argparse.Namespace) -> range:
             f"--seeds {words.seeds} and --check {words.check} overlap: a plan must not be judged by "
             "what it was found by"
         )
-    if words.budget < len(seeds):
-        raise Fault(f"--budget {words.budget}: one plan takes {len(seeds)} simulations")
+    refuse_budget(words.budget, seeds)
     return check
 
 
@@ -281,8 +281,7 @@ def search_seeds(words: argparse.Namespace, runner: Runner, tried: Sequence[int]
     differ = f"trips of the given plan differ by {100 * stdev(means) / fmean(means):.1f} % from seed to seed"
     advice = f", {needed} are advised" if len(seeds) < needed else ""
     print(f"{differ}: the search uses {len(seeds)} seed{'s' if len(seeds) > 1 else ''}{advice}", file=sys.stderr)
-    if words.budget < len(seeds):
-        raise Fault(f"--budget {words.budget}: one plan takes {len(seeds)} simulations")
+    refuse_budget(words.budget, seeds)
     return seeds
 
 
@@ -291,22 +290,16 @@ def searched(
 ) -> tuple[Search, bool]:
     """Searches for a plan; gives (search when it has ended, whether the user ended it by Ctrl-C). changed, cycles: as
     `changes_of` gives them; seeds: of the search."""
-    town, meanwhile = runner.town, Meanwhile("simulations", words.budget)
+    town = runner.town
     streets = streets_of(town.run, town.mapping, town.lights)
-    with Stopping() as stopping:
+    def values(plans: Sequence[Plan]) -> Generator[float, None, None]:
+        """The mean trip, in seconds, of each plan over the seeds of the search, in the plans' order."""
+        means = runner.means(plans, seeds)
+        for _ in plans:
+            yield fmean(next(means) for _ in seeds)
 
-        def values(plans: Sequence[Plan]) -> Generator[float, None, None]:
-            """The mean trip, in seconds, of each plan over the seeds of the search, in the plans' order."""
-            means = runner.means(plans, seeds)
-            for _ in plans:
-                yield fmean(next(means) for _ in seeds)
-
-        def told(search: Search) -> bool:
-            """Shows how far the search is; gives whether the user has asked for an end."""
-            meanwhile.show(search.simulations, best_line(search))
-            return stopping.asked
-
-        search = Search(values, words.budget, len(seeds), told)
+    def climbs(search: Search) -> None:
+        """Searches from the given plan."""
         search_plan(search, town.plan, town.lights, streets, changed, lengths(cycles, town, streets))
-        meanwhile.end()
-        return search, stopping.asked
+
+    return ended_search(values, words.budget, len(seeds), climbs)

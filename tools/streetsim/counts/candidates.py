@@ -5,7 +5,6 @@ from collections.abc import Iterable, Iterator, Mapping, Sequence
 from dataclasses import dataclass, replace
 from itertools import pairwise
 
-from streetsim.base.files import Fault
 from streetsim.counts.science import Array, needed
 from streetsim.counts.values import Zone
 from streetsim.sumo.net import SumoNet
@@ -262,9 +261,3 @@ def with_given(
         total = sum(count for _, count in some) * (2 if at in has else 1)
         halved += [Way(at, path, seconds_of(graph, costs, path), count / total) for path, count in some]
     return all_pairs, halved
-
-
-def refuse_none(ways: Sequence[Way]) -> None:
-    """Fault where a demand has no way at all."""
-    if not ways:
-        raise Fault("no way leads from any place where trips begin to one where they end")

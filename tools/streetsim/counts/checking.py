@@ -6,12 +6,14 @@ from itertools import pairwise
 from typing import NamedTuple
 
 from streetsim.base.files import Fault
+from streetsim.base.report import some
 from streetsim.counts.values import Count, Zone, overlapping
 from streetsim.sumo.net import SumoNet
 from streetsim.ways.graph import Graph
 
 APART = 0.1  # of the larger of two numbers that should be equal
 LEAST_APART = 10.0  # vehicles: less is chance
+MOST_LINES = 4  # of a file, that are named
 MOST_A_LANE = 3600.0  # vehicles an hour: one a second
 
 Key = tuple[int, int, str]  # begin and end in seconds, class
@@ -146,14 +148,13 @@ def every(there: There, keys: Iterable[tuple[str, ...]]) -> list[Count]:
     return [] if None in found else [count for count in found if count is not None]
 
 
-def lines_told(counts: Sequence[Count], most: int = 4) -> str:
-    """Where some counts stand: each file once, with at most `most` of its lines and how many further ones there are."""
+def lines_told(counts: Sequence[Count]) -> str:
+    """Where some counts stand: each file once, with at most four of its lines and how many further ones there are."""
     places: defaultdict[str, list[str]] = defaultdict(list)
     for count in counts:
         path, _, line = count.where.rpartition(": line ")
         places[path].append(line)
     parts = []
     for path, lines in places.items():
-        more = f" and {len(lines) - most} more" if len(lines) > most else ""
-        parts.append(f"{path}: line{'s' * (len(lines) > 1)} {', '.join(lines[:most])}{more}")
+        parts.append(f"{path}: line{'s' * (len(lines) > 1)} {some(lines, MOST_LINES)}")
     return "; ".join(parts)

@@ -108,7 +108,8 @@ def basis_of(town: Town, asked: Asked, told: Told = lambda _text: None) -> Basis
     else:
         pairs, ways, thinned = by_pairs(town, asked, Times(free, driven), zones, cells)
         departs = []
-    candidates.refuse_none(ways)
+    if not ways:
+        raise Fault("no way leads from any place where trips begin to one where they end")
     lead = max(way.seconds for way in ways) if counts and not cells and not departs else 0.0
     slices = slices_of(bounds_of(counts, cells, departs), lead, town.options.begin)
     places = Places(counts, town.graph)

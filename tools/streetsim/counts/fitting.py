@@ -80,8 +80,8 @@ class Ends:
         self.weight = numpy.array([known[name].weight for name in numbers])
         self.kind = numpy.array([int(known[name].outside) for name in numbers])
 
-    def shares(self, vehicles: Array) -> Array:
-        """For each way, as an array, the vehicles (no shares) of the place where it begins, or ends: half of them as
+    def vehicles_at(self, vehicles: Array) -> Array:
+        """For each way, as an array, the vehicles of the place where it begins, or ends: half of them as
         the ways have them, half as all places of its kind would by their weights. vehicles: of each way, as an
         array."""
         numpy, _ = needed()
@@ -141,7 +141,7 @@ class Expecting:
     def by_ends(self, vehicles: Array) -> Array:
         """The vehicles of each way, as an array, as the product of how many begin and how many end at its places and of
         its share; their sum is that of `vehicles`, of each way."""
-        made = self.begins.shares(vehicles) * self.ends.shares(vehicles) * self.share
+        made = self.begins.vehicles_at(vehicles) * self.ends.vehicles_at(vehicles) * self.share
         return made * (vehicles.sum() / max(made.sum(), LEAST))
 
     def rates(self, passing: Sparse, counted: Array, base: Array) -> Array:

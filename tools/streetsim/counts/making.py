@@ -108,7 +108,8 @@ def write(places: Outputs, made: Made, setting: Json) -> None:
     goes into setting.json. Fault where a file cannot be written."""
     basis = made.basis
     loaded = made.best.loaded if made.best else basis.town.loaded(made.trips)
-    write_routes(places.routes, Trips(list(made.trips), types_of(basis)), basis.town.graph)
+    types = [f'<vType id="{kind}" vClass="{kind}"/>' for kind in basis.kinds if kind]
+    write_routes(places.routes, Trips(list(made.trips), types), basis.town.graph)
     if places.run and places.mapping:
         write_loaded(loaded, places.run, places.mapping)
     with whole_folder(places.folder, NAME, AT_WISH) as folder:
@@ -117,11 +118,6 @@ def write(places: Outputs, made: Made, setting: Json) -> None:
             write_judged(folder, made.judged)
             draw(folder, made.judged, loaded.mapping.links, "passed in the run" if made.tried else "fitted on paper")
         write_setting(folder, setting)
-
-
-def types_of(basis: Basis) -> list[str]:
-    """The vehicle types of the classes that counts and matrices tell apart, each as the XML of a vType."""
-    return [f'<vType id="{kind}" vClass="{kind}"/>' for kind in basis.kinds if kind]
 
 
 def setting_of(asked: Asked, made: Made, runs: int) -> Json:

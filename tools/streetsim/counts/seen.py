@@ -13,6 +13,7 @@ from streetsim.counts.values import Count
 from streetsim.model.folder import KEPT, Folder
 from streetsim.model.mapping import Map
 from streetsim.model.runs import read_run
+from streetsim.model.stops import classes_of
 
 MOST_APART = 60  # seconds between two polls, so that it is known by which ways vehicles went between them
 MOST_LINKS = 8  # between two looks at a vehicle
@@ -117,7 +118,7 @@ class Traces:
             self.of[count.edges].append(at)
         self.next = turns_of(self.mapping)
         self.known: dict[tuple[int, int], list[int]] = {}
-        self.kinds = vehicle_classes(self.mapping)
+        self.kinds = dict(enumerate(classes_of(self.mapping.kinds, len(self.mapping.cars))))
         self.most = max(len(count.edges) for count in counts)
         self.trails: dict[int, list[str]] = {}  # the last edges of each vehicle
         self.sums = [0.0] * len(counts)
@@ -211,7 +212,7 @@ def driven_in(folder: Folder) -> list[Driven]:
     if path is None:
         return []
     run = read_run(path)
-    if len(run.enters) != len(trips) or run.load.command.get("links") != links_of(folder.mapping):
+    if len(run.enters) != len(trips) or run.load.command.get("links") != folder.mapping.load_links():
         return []
     return [
         Driven(line.command["plan"], float(row["depart"]), arrival_of(row))
@@ -222,13 +223,6 @@ def driven_in(folder: Folder) -> list[Driven]:
 def arrival_of(row: Mapping[str, str]) -> float | None:
     """The clock at which the vehicle of a row of trips.csv arrived; none where it did not, or was rescued."""
     return float(row["arrival"]) if row["arrival"] and row["rescues"] == "0" else None
-
-
-def links_of(mapping: Map) -> list[list[int]]:
-    """The links of a map, as the load of a run has them: [number, begin, end, lanes, cells, limit]."""
-    return [
-        [at, link.begin, link.end, len(link.lanes), link.cells, link.limit] for at, link in enumerate(mapping.links)
-    ]
 
 
 def turns_of(mapping: Map) -> dict[int, list[int]]:
@@ -263,10 +257,3 @@ def places_in(lanes: Iterable[Sequence[object]]) -> Iterator[tuple[int, int]]:
             yield entry[0], link  # type: ignore[misc]
         for car in buffer:  # type: ignore[attr-defined]
             yield car, link  # type: ignore[misc]
-
-
-def vehicle_classes(mapping: Map) -> dict[int, str]:
-    """By number the vehicle class of each vehicle whose type the map keeps; an empty text where that type has none."""
-    types = mapping.kinds.get("types", [])
-    classes = [row[1] if len(row) > 1 else "" for row in types]
-    return {car: classes[at] if at < len(classes) else "" for car, at in enumerate(mapping.kinds.get("type", []))}

@@ -39,7 +39,7 @@ class Saturation:
     flow: float  # vehicles an hour of green
     lost: float  # seconds of each green that are lost at its begin; less than 0: won
 
-    def effective(self, open_: Sequence[bool]) -> float:
+    def effective_green(self, open_: Sequence[bool]) -> float:
         """Seconds of effective green, one at least; open_: whether each second of an interval shows green."""
         greens = sum(here and not before for before, here in zip([False, *open_], open_))
         return max(1.0, sum(open_) - self.lost * greens)
@@ -108,12 +108,12 @@ class Capacity:
             return Use(len(passages))
         saturation = self.flows.of(place)
         if is_alike(shown, taken):
-            ratio = len(passages) / (saturation.flow * saturation.effective(open_) / 3600)
+            ratio = len(passages) / (saturation.flow * saturation.effective_green(open_) / 3600)
         else:
-            ratio = self.used(place, begin, passages, open_, saturation.flow)
+            ratio = self.busy(place, begin, passages, open_, saturation.flow)
         return Use(len(passages), ratio * (1 + self.growth(place, begin, open_) / len(passages)))
 
-    def used(self, place: Place, begin: int, passages: Iterable[Passage], open_: Sequence[bool], flow: float) -> float:
+    def busy(self, place: Place, begin: int, passages: Iterable[Passage], open_: Sequence[bool], flow: float) -> float:
         """v/c, 0 to 1, of a lane without a signal, or whose vehicles do not all have the same green: the share of its
         green seconds with a vehicle on it that has stood, and a headway for each other one that passes. passages, open_
         (whether each second from the clock `begin` shows green): of the interval; flow: saturation flow, vehicles an

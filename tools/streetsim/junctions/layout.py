@@ -36,8 +36,7 @@ class Approach:
 
 def places_of(approaches: Mapping[str, Approach], mapping: Map) -> list[Place]:
     """All (link, lane) of some approaches (by edge), with the edges before them."""
-    links = [link for approach in approaches.values() for link in approach.all_links]
-    return [(link, lane) for link in links for lane in range(len(mapping.links[link].lanes))]
+    return mapping.lanes(link for approach in approaches.values() for link in approach.all_links)
 
 
 def approaches_of(mapping: Map) -> dict[str, Approach]:
@@ -53,8 +52,7 @@ def approaches_of(mapping: Map) -> dict[str, Approach]:
         if node in lit or node in real or in_ring and edge not in mapping.rings:
             control = SIGNALS if node in lit else ROUNDABOUT if in_ring else PRIORITY
             name = mapping.nodes[rings[node] if in_ring else node][0]
-            lanes = [(link, lane) for link in links for lane in range(len(mapping.links[link].lanes))]
-            found[edge] = Approach(edge, name, control, links, mapping.links[links[0]].metres, lanes)
+            found[edge] = Approach(edge, name, control, links, mapping.links[links[0]].metres, mapping.lanes(links))
     for turn in mapping.turns:
         source, target = mapping.links[turn.link], mapping.links[turn.next]
         if source.edge in found:

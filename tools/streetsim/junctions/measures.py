@@ -31,8 +31,8 @@ class Crossing:
 
 
 @dataclass(slots=True)
-class Totals:
-    """What some vehicles lost, as means of one vehicle."""
+class Losses:
+    """What some vehicles lost: means of one vehicle."""
 
     vehicles: int  # how many
     delay: float  # control delay, seconds
@@ -47,16 +47,16 @@ class Interval:
 
     begin: int
     end: int
-    lost: dict[Way, Totals] = field(default_factory=dict)
+    lost: dict[Way, Losses] = field(default_factory=dict)
     lanes: dict[Way, Mapping[Place, float]] = field(default_factory=dict)  # vehicles by lane
     queues: dict[Place, list[float]] = field(default_factory=dict)  # metres of the queue in each cycle, or at each look
     uses: dict[Place, Use] = field(default_factory=dict)
     flows: dict[Place, float] = field(default_factory=dict)  # saturation flow, vehicles an hour
 
 
-def totals(crossings: Collection[Crossing]) -> Totals:
+def mean_losses(crossings: Collection[Crossing]) -> Losses:
     """The means of crossings, one at least; the delay is at least the seconds of standing."""
-    return Totals(
+    return Losses(
         len(crossings),
         max(fmean(one.stood for one in crossings), fmean(one.delay for one in crossings)),
         fmean(one.stood for one in crossings),
@@ -64,7 +64,7 @@ def totals(crossings: Collection[Crossing]) -> Totals:
     )
 
 
-def together(parts: Iterable[Totals]) -> Totals:
+def together(parts: Iterable[Losses]) -> Losses:
     """The means over all vehicles of several movements, of which at least one has vehicles."""
     parts = [part for part in parts if part.vehicles]
     count = sum(part.vehicles for part in parts)
@@ -76,7 +76,7 @@ def together(parts: Iterable[Totals]) -> Totals:
 
     errors = [part.vehicles * part.error for part in parts if part.error is not None]
     error = sum(error * error for error in errors) ** 0.5 / count if errors else None
-    return Totals(count, mean("delay"), mean("stood"), mean("stops"), error)
+    return Losses(count, mean("delay"), mean("stood"), mean("stops"), error)
 
 
 def stop_loss(approach: Approach, target: str) -> float:
@@ -141,7 +141,7 @@ class Measures:
             if begin < one.clock <= end:
                 crossings[one.movement].append(one)
         for movement, those in crossings.items():
-            found.lost[movement] = totals(those)
+            found.lost[movement] = mean_losses(those)
             found.lanes[movement] = Counter(one.place for one in those)
         for place in self.passages.lanes:
             found.queues[place] = self.queues(place, begin, end)

@@ -147,8 +147,7 @@ class Passages:
         for links in self.before[place[0]]:
             if not fills(metres, full):
                 break
-            places = [(link, lane) for link in links for lane in range(len(self.mapping.links[link].lanes))]
-            metres = full + max(self.queue_on(place, shown) for place in places)
+            metres = full + max(self.queue_on(place, shown) for place in self.mapping.lanes(links))
             full += self.mapping.links[links[0]].metres
         return metres
 

@@ -57,8 +57,7 @@ def write_junctions(made: Recorded, interval: int) -> tuple[list[str], list[str]
 
 def arrivals_of(records: Records) -> list[int | None]:
     """The clock at which each vehicle arrived, by number in the file; none for one that did not."""
-    ends = (end.step if end is not None and end.state == "arrived" else None for end in records.ends)
-    return [None if step is None else step + 1 for step in ends]
+    return [end.arrival if end else None for end in records.ends]
 
 
 def of_queues(approaches: Sequence[str]) -> tuple[list[str], list[str]]:

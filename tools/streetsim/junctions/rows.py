@@ -3,7 +3,7 @@ from collections import defaultdict
 from collections.abc import Collection, Mapping, Sequence
 
 from streetsim.junctions.layout import Approach
-from streetsim.junctions.measures import Interval, Totals, together
+from streetsim.junctions.measures import Interval, Losses, together
 from streetsim.model.names import Names, write_named
 from streetsim.model.service import fills, level, percentile
 from streetsim.model.tables import APPROACHES, JUNCTIONS, MOVEMENTS, Entry
@@ -34,7 +34,7 @@ class Tables:
                 last = f"{max(queues):.1f}", f"{max(ratios):.2f}", level(lost.delay, control)
                 self.junctions.append((interval.begin, interval.end, junction, control, *told(lost, interval), *last))
 
-    def add_approach(self, interval: Interval, approach: Approach) -> tuple[Totals, float, float] | None:
+    def add_approach(self, interval: Interval, approach: Approach) -> tuple[Losses, float, float] | None:
         """Adds the rows of an approach and of its movements; gives (what its vehicles lost, metres of its longest
         queue, the greatest v/c of its movements); none where nobody used it."""
         parts, ratios = [], []
@@ -82,7 +82,7 @@ class Tables:
         write_named(f"{folder}/junctions.csv", JUNCTIONS, self.junctions, names)
 
 
-def told(lost: Totals, interval: Interval) -> tuple:
+def told(lost: Losses, interval: Interval) -> tuple:
     """The columns LOST of a row: vehicles, vehicles an hour, seconds of control delay, its error, seconds of standing,
     stops a vehicle; empty where a value is not known."""
     hourly = lost.vehicles * 3600 / (interval.end - interval.begin)

@@ -10,7 +10,7 @@ from typing import NamedTuple, Self
 from streetsim.buses.fleet import Dwell
 from streetsim.junctions.capacity import Use, is_alike, usual_flow
 from streetsim.junctions.layout import Approach, Greens, ways_that_stop
-from streetsim.junctions.measures import Interval, Totals, Way, stop_loss
+from streetsim.junctions.measures import Interval, Losses, Way, stop_loss
 from streetsim.junctions.passages import queue_metres, who_stand
 from streetsim.model.detectors import Cells
 from streetsim.model.folder import Frame
@@ -198,21 +198,21 @@ class Sampled:
             return self.greens_used[at, *place] / seen
         return hourly / (usual_flow(self.dawdle) * seen / self.looks[at])
 
-    def lost(self, at: int, movement: Way, count: int, looks: int, seconds: int) -> Totals:
+    def lost(self, at: int, movement: Way, count: int, looks: int, seconds: int) -> Losses:
         """What the vehicles of a movement lost in an interval, by its number, by Little's law; the share that stops is
         that of even arrivals, and how often they stop is not known. count: vehicles that passed, one at least; looks:
         in the interval, without any of which the losses are 0; seconds: its length."""
         seen = self.present[at, movement]
         vehicles = [number for number, _ in seen] + [0] * (looks - len(seen))
         if not looks:
-            return Totals(count, 0.0, 0.0, None)
+            return Losses(count, 0.0, 0.0, None)
         rate = count / seconds
         stood = max(0.0, sum(standing for _, standing in seen) / looks / rate - self.stood[at, movement] / count)
         delay = max(0.0, fmean(vehicles) / rate - (self.free[at, movement] + self.dwelt[at, movement]) / count)
         error = NORMAL * stdev(vehicles) / looks**0.5 / rate if looks > 1 else None
         loss = stop_loss(self.approaches[movement[0]], movement[1])
         delay += STOPPING * (movement in self.stopping)
-        return Totals(count, delay + loss * self.share_stopping(at, movement, rate), stood, None, error)
+        return Losses(count, delay + loss * self.share_stopping(at, movement, rate), stood, None, error)
 
     def share_stopping(self, at: int, movement: Way, rate: float) -> float:
         """The share, 0 to 1, of a movement's vehicles that stop in an interval, by its number. Of even arrivals those

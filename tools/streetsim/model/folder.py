@@ -2,7 +2,7 @@
 import json
 import os
 import re
-from collections.abc import Iterable, Iterator
+from collections.abc import Iterable, Iterator, Sequence
 from dataclasses import dataclass, field
 
 from streetsim.base.files import Fault, Json, open_text, read_json, reading
@@ -49,21 +49,22 @@ class Folder:
 
     def works(self) -> list[dict[str, str]]:
         """The rows of works.csv (tables.WORKS); Fault where the run had no works."""
-        if not os.path.exists(f"{self.path}/{tables.WORKS_FILE}"):
-            raise Fault(f"{self.path}: no works in this run (streetsim-run --close)")
-        return tables.read_table(f"{self.path}/{tables.WORKS_FILE}", tables.WORKS)
+        return self.at_wish(tables.WORKS_FILE, tables.WORKS, "no works in this run (streetsim-run --close)")
 
     def stops(self) -> list[dict[str, str]]:
         """The rows of stops.csv (tables.STOPS); Fault where the run had no stops."""
-        if not os.path.exists(f"{self.path}/{tables.STOPS_FILE}"):
-            raise Fault(f"{self.path}: no stops of vehicles in this run")
-        return tables.read_table(f"{self.path}/{tables.STOPS_FILE}", tables.STOPS)
+        return self.at_wish(tables.STOPS_FILE, tables.STOPS, "no stops of vehicles in this run")
 
     def phases(self) -> list[dict[str, str]]:
         """The rows of phases.csv (tables.PHASES); Fault where detectors drove no light."""
-        if not os.path.exists(f"{self.path}/{tables.PHASES_FILE}"):
-            raise Fault(f"{self.path}: detectors drive no light in this run")
-        return tables.read_table(f"{self.path}/{tables.PHASES_FILE}", tables.PHASES)
+        return self.at_wish(tables.PHASES_FILE, tables.PHASES, "detectors drive no light in this run")
+
+    def at_wish(self, name: str, header: Sequence[str], why: str) -> list[dict[str, str]]:
+        """The rows of a table that not every run has; Fault where this one has none. name: of the file; header: its
+        columns; why: what the Fault says."""
+        if not os.path.exists(f"{self.path}/{name}"):
+            raise Fault(f"{self.path}: {why}")
+        return tables.read_table(f"{self.path}/{name}", header)
 
     def polls(self) -> Iterator[Frame]:
         """What stood on the lanes at each poll, rising: {"clock", "lanes": [[link, lane, [[car, cell, speed], ..], [car

@@ -1,5 +1,5 @@
 """The map file: which SUMO names the numbers of a run stand for."""
-from collections.abc import Sequence
+from collections.abc import Iterable, Sequence
 from dataclasses import asdict, dataclass, field
 
 from streetsim.base import limits
@@ -11,6 +11,7 @@ from streetsim.model.waiting import Waiting, waiting_of
 Place = tuple[int, int]  # a link and a lane of it
 Shape = Sequence[Sequence[float]]  # of (x, y)
 KEYS = ("nodes", "links", "turns", "signals", "cars", "options", "warnings")
+WHERE_ANY = ("rings", "programs", "names", "fixed", "switches")  # keys that a map's file has where there are any
 
 
 @dataclass(slots=True, frozen=True)
@@ -105,9 +106,16 @@ class Map:
         """The (link, lane) of SUMO's id of a lane, EDGE_INDEX; none where the map does not have it."""
         return next((place for place in self.lanes() if self.lane_name(*place) == name), None)
 
-    def lanes(self) -> list[Place]:
-        """All (link, lane) of the run, rising."""
-        return [(number, lane) for number, link in enumerate(self.links) for lane in range(len(link.lanes))]
+    def lanes(self, links: Iterable[int] | None = None) -> list[Place]:
+        """All (link, lane) of some links, by number, in their order; of all links where none are given (None)."""
+        numbers = range(len(self.links)) if links is None else links
+        return [(link, lane) for link in numbers for lane in range(len(self.links[link].lanes))]
+
+    def load_links(self) -> list[list[int]]:
+        """The links as the load of a run has them: [number, begin, end, lanes, cells, limit] of each."""
+        return [
+            [at, link.begin, link.end, len(link.lanes), link.cells, link.limit] for at, link in enumerate(self.links)
+        ]
 
     def written(self) -> Json:
         """The content of the map's file, a dict to be dumped as JSON, which `map_from` reads."""
@@ -126,11 +134,7 @@ class Map:
             "vehicles": self.kinds,
             "location": self.location,
             "actuated": self.actuated,
-            **({"rings": self.rings} if self.rings else {}),
-            **({"programs": self.programs} if self.programs else {}),
-            **({"names": self.names} if self.names else {}),
-            **({"fixed": self.fixed} if self.fixed else {}),
-            **({"switches": self.switches} if self.switches else {}),
+            **{name: value for name in WHERE_ANY if (value := getattr(self, name))},
             **({"visits": [list(asdict(visit).values()) for visit in self.visits]} if self.visits else {}),
         }
 
@@ -147,11 +151,8 @@ def map_from(path: FilePath, value: Json) -> Map:
         links, turns = [MapLink(*link) for link in value["links"]], [MapTurn(*turn) for turn in value["turns"]]
         more: Json = {"detectors": detectors, "yields": waiting_of(value.get("yields", ()))}
         more |= {"sources": value.get("sources", {}), "kinds": value.get("vehicles", {})}
-        more["told"] = value.get("told", [])
-        more |= {"location": value.get("location", {}), "actuated": value.get("actuated", [])}
-        more |= {"rings": value.get("rings", []), "programs": value.get("programs", [])}
-        more |= {"names": value.get("names", {})}
-        more["fixed"] = value.get("fixed", [])
+        more |= {name: value.get(name, []) for name in ("told", "actuated", "rings", "programs", "fixed")}
+        more |= {name: value.get(name, {}) for name in ("location", "names")}
         more["visits"] = [Visit(*visit) for visit in value.get("visits", ())]
         more["switches"] = [(clock, light, program) for clock, light, program in value.get("switches", ())]
         more |= {key: value[key] for key in KEYS if key not in ("links", "turns")}

@@ -56,10 +56,7 @@ def read_with_map(run_path: FilePath, map_path: FilePath) -> tuple[Run, Map]:
     """(run, map of its names); Fault where a file is none of its kind, or the map belongs to another run, by the links,
     how many vehicles there are, and where these begin and end."""
     run, mapping = read_run(run_path), read_map(map_path)
-    links = [
-        [at, link.begin, link.end, len(link.lanes), link.cells, link.limit] for at, link in enumerate(mapping.links)
-    ]
-    if run.load.command.get("links") != links:
+    if run.load.command.get("links") != mapping.load_links():
         raise Fault(f"{map_path}: not the map of {run_path}, whose links are other ones")
     if len(mapping.cars) > len(run.enters):
         raise Fault(
@@ -152,8 +149,3 @@ def line_of(path: FilePath, number: int, text: str) -> Line:
     except (ValueError, KeyError, TypeError, AttributeError) as fault:
         raise Fault(f"{path}: line {number} is no command of a run: {fault}") from None
     return Line(0 if command.get(MARK) else number, text.strip(), command)
-
-
-def seeded(run: Run, seed: int) -> Run:
-    """The run with another seed in its load; the given one stays as it is."""
-    return with_load(run, seed=seed)

@@ -32,14 +32,8 @@ class Timing:
     conflicts: set[frozenset[int]]  # pairs of places in the states whose ways cross or join
 
     def states(self) -> list[str]:
-        """The state in each second of the cycle; durations are rounded so that each phase ends at the second nearest to
-        its end."""
-        found: list[str] = []
-        clock = 0.0
-        for duration, state in self.phases:
-            clock += duration
-            found += [state] * (round(clock) - len(found))
-        return found
+        """The state in each second of the cycle, as `states_of` gives it."""
+        return states_of(self.phases)
 
     def signs(self, movement: Movement) -> str:
         """What a movement is shown, a letter for each second of the cycle; of several lanes the letter that lets most
@@ -86,6 +80,17 @@ def timing_of(value: Json) -> Timing:
         value["kind"], [Movement(edge, to, tuple(places)) for edge, to, places in value["movements"]],
         {frozenset(pair) for pair in value["conflicts"]},
     )
+
+
+def states_of(phases: Iterable[tuple[float, str]]) -> list[str]:
+    """The state in each second of a cycle of phases, (seconds, state); durations are rounded so that each phase ends at
+    the second nearest to its end, and the cycle stays."""
+    found: list[str] = []
+    clock = 0.0
+    for duration, state in phases:
+        clock += duration
+        found += [state] * (round(clock) - len(found))
+    return found
 
 
 def runs_of(signs: str, those: str) -> list[tuple[int, int]]:

@@ -10,7 +10,6 @@ from dataclasses import dataclass
 from itertools import compress, pairwise
 from statistics import fmean
 
-from streetsim.base import limits
 from streetsim.base.files import whole_file
 from streetsim.model.folder import NAME
 from streetsim.model.freeflow import FreeFlow
@@ -40,7 +39,7 @@ class Trips:
     long_due: int  # those that would have arrived for STILL seconds and have not
     last: int  # clock of the last arrival, or of the start where nobody arrived
 
-    def gone(self) -> int | None:
+    def all_arrived(self) -> int | None:
         """The clock at which all who wished to depart had arrived; none where some have not."""
         return None if self.to_date else self.last
 
@@ -102,7 +101,7 @@ def doubts(
     """What speaks against a run, each in some words; empty where it is to be trusted. rescues: how many in all;
     censuses: of each minute; listed: lights that SUMO times by detectors and that show their listed seconds."""
     found = [*of_rescues(trips, rescues), *of_arrivals(trips), *of_entries(trips, censuses)]
-    found += of_works(works_in(run, mapping), [(trips.clock, trips.gone())])
+    found += of_works(works_in(run, mapping), [(trips.clock, trips.all_arrived())])
     return [*found, *of_lengths(trips.clock, run, mapping), *of_actuated(trips.clock, run, mapping, listed)]
 
 

@@ -26,8 +26,7 @@ def timings_of(runs: Runs) -> dict[str, Timing]:
     if path is None:
         return {}
     found = {timing.light: timing for timing in map(timing_of, read_json_list(path))}
-    shown = {light: timing for light, timing in found.items() if fits(timing, runs.first)}
-    return shown
+    return {light: timing for light, timing in found.items() if fits(timing, runs.first)}
 
 
 def fits(timing: Timing, folder: Folder) -> bool:

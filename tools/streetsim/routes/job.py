@@ -102,7 +102,8 @@ def write(job: Job, all_: Sequence[Diverted]) -> None:
     for one in all_[len(all_) > 1 :]:
         write_routes(placed(target.routes, one.share, many), Trips(list(one.trips), job.trips.types), job.town.graph)
         if target.run and target.map:
-            write_run_of(one, placed(target.run, one.share, many), placed(target.map, one.share, many))
+            paths = (placed(path, one.share, many) for path in (target.run, target.map))
+            write_loaded(one.search.town.loaded(one.trips), *paths)
     with whole_folder(target.folder, NAME, AT_WISH) as folder:
         for one in all_[len(all_) > 1 :]:
             place = f"{folder}/{one.label.replace(' ', '-')}" if many else folder
@@ -117,11 +118,6 @@ def write(job: Job, all_: Sequence[Diverted]) -> None:
             with whole_file(f"{folder}/{NAME}") as file:
                 json.dump({**setting_of(job, all_[0], all_[0]), "knowing": job.works.knowing}, file, indent=1)
                 file.write("\n")
-
-
-def write_run_of(one: Diverted, run_path: str, map_path: str) -> None:
-    """Writes the run of found routes and its map, as streetsim-import makes them, with the lines of the works."""
-    write_loaded(one.search.town.loaded(one.trips), run_path, map_path)
 
 
 def setting_of(job: Job, one: Diverted, before: Diverted) -> dict:

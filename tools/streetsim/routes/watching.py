@@ -1,19 +1,19 @@
 """A run that is watched: where its vehicles are seen at looks, what movements took by that, and when those passed who
 go first."""
 import resource
-from collections.abc import Mapping, Sequence
-from dataclasses import dataclass, replace
+from collections.abc import Mapping
+from dataclasses import dataclass
 from functools import partial
 from itertools import pairwise
 
 from streetsim.actuated.lights import LISTED, Lights, driven_lights
-from streetsim.base.client import Client, Lane, NoReply, ProgramEnded, Refused, Starved, Vehicle
+from streetsim.base.client import Client, Lane, NoReply, ProgramEnded, Refused, Starved
 from streetsim.base.files import Fault
 from streetsim.base.serving import serving
 from streetsim.base.words import ROUNDS
 from streetsim.model.freeflow import FreeFlow
 from streetsim.model.mapping import Map, Place
-from streetsim.model.runs import Run, seeded
+from streetsim.model.runs import Run, with_load
 from streetsim.routes.giving import Passed, named, waiting_lines
 from streetsim.routes.passes import Passes, Sight
 from streetsim.run.asking import EVERY, MINUTE, Asking
@@ -98,8 +98,8 @@ class Watcher(Recorder):
         records = super().record()
         if self.first:
             for owner, end in enumerate(records.ends):
-                if end and end.state == "arrived" and end.step is not None:
-                    self.passings.arrived(owner, end.step)
+                if end and end.arrival is not None:
+                    self.passings.arrived(owner, end.arrival - 1)
         return records
 
     def look(self, clock: int) -> None:
@@ -120,12 +120,12 @@ class Watcher(Recorder):
             self.note_passings(clock, lanes)
 
     def note_all(self, clock: int, lanes: Mapping[Place, Lane]) -> None:
-        """Notes where each vehicle on some lanes is, in a cell or past the stop line."""
+        """Notes where each vehicle on some lanes is, in a cell, or past the stop line, where it counts as standing."""
         for (link, _), reply in lanes.items():
             for car, cell, speed, *_ in reply.cells:
-                self.note(self.owners[car], clock, link, cell, speed)
+                self.seen[self.owners[car]].append(Sight(clock, link, (cell + 1) * self.scale[link], speed))
             for car, *_ in reply.buffer:
-                self.note_at_end(self.owners[car], clock, link)
+                self.seen[self.owners[car]].append(Sight(clock, link, self.driving[link], 0))
 
     def note_passings(self, clock: int, lanes: Mapping[Place, Lane]) -> None:
         """Notes the vehicles on some lanes for the passing of stop lines."""
@@ -135,36 +135,69 @@ class Watcher(Recorder):
             for car, *_ in reply.buffer:
                 self.passings.note(self.owners[car], clock, link, lane, self.mapping.links[link].cells, True)
 
-    def note(self, owner: int, clock: int, link: int, cell: int, speed: int) -> None:
-        """Notes that a vehicle, by its number in the file (owner), is in a cell of a link; speed: cells a step."""
-        self.seen[owner].append(Sight(clock, link, (cell + 1) * self.scale[link], speed))
-
-    def note_at_end(self, owner: int, clock: int, link: int) -> None:
-        """Notes that a vehicle, by its number in the file (owner), is past the stop line of a link, and stands."""
-        self.seen[owner].append(Sight(clock, link, self.driving[link], 0))
-
 
 def watched(ground: Ground, run: Run, mapping: Map, expected: Costs, seed: int, passed: Passed | None) -> Outcome:
     """Makes one run with a seed and gives what it showed; a task of a worker. expected: costs by which time lost
     between two sights is dealt out; passed: when those who go first passed in the run before, None: nobody waits for
     them. Fault as of observed_run."""
     lines = waiting_lines(passed, mapping, run.start()) if passed else []
-    return observed_run(ground, with_lines(seeded(run, seed), lines), mapping, expected, seed)
+    return observed_run(ground, with_lines(with_load(run, seed=seed), lines), mapping, expected, seed)
 
 
 def checked(ground: Ground, run: Run, mapping: Map, expected: Costs, seed: int) -> Outcome:
     """Makes one run with a seed, in which vehicles give way by rounds with this seed alone, as in streetsim-run, and
     gives what it showed; a task of a worker. expected, Fault: as of watched."""
-    run, serve = seeded(run, seed), partial(serving, ground.program, run.path)
+    return observed_run(ground, run_with_gaps(ground, run, mapping, seed), mapping, expected, seed)
+
+
+def run_with_gaps(ground: Ground, run: Run, mapping: Map, seed: int) -> Run:
+    """The run with a seed and the signal lines by which its vehicles give way without a light, found by rounds with
+    this seed alone, as in streetsim-run; without lines where ground.rounds is 0 or nobody gives way."""
+    run, serve = with_load(run, seed=seed), partial(serving, ground.program, run.path)
     settings = Settings(ground.until, lights=ground.lights(run, mapping))
     lines, _ = gaps_of(run, mapping, settings, ground.rounds, serve, lambda *_: None)
-    return observed_run(ground, with_lines(run, lines), mapping, expected, seed)
+    return with_lines(run, lines)
 
 
 def observed_run(ground: Ground, run: Run, mapping: Map, expected: Costs, seed: int) -> Outcome:
     """Makes a run as it is and gives what it showed; Fault where the program refuses it or ends. seed: named in the
     Fault, no more; expected: as of watched."""
     before, giving = resource.getrusage(resource.RUSAGE_CHILDREN), bool(ground.rounds and mapping.yields)
+    seen = seen_run(ground, run, mapping, expected, seed, giving)
+    after = resource.getrusage(resource.RUSAGE_CHILDREN)
+    spent = after.ru_utime + after.ru_stime - before.ru_utime - before.ru_stime
+    departs = [line.command["depart"] for line in run.enters]
+    entries = [clocks[0] if clocks else float(depart) for clocks, depart in zip(seen.clocks, departs, strict=True)]
+    ends = (ground.until if end is None else end for end in seen.ends)
+    mean = sum(end - depart for end, depart in zip(ends, departs, strict=True)) / len(departs)
+    records, passed = seen.watcher.records, named(seen.watcher.passings.found, mapping)
+    rescues, at_works = records.rescues.total(), tuple(doubts_of(records.works, mapping))
+    return Outcome(
+        seen.observed, entries, seen.ends, mean, rescues, records.calls, spent, passed, seen.waiting, at_works
+    )
+
+
+@dataclass(frozen=True, slots=True)
+class Seen:
+    """A run that was made, by its watcher. clocks: for each vehicle those at which it reached the links of its plan, as
+    Passes.clocks gives them; ends: the clock at which each arrived, None where it did not; observed: the seconds of
+    movements by time."""
+
+    watcher: Watcher
+    clocks: list[list[float]]
+    ends: list[int | None]
+    observed: Observed
+
+    @property
+    def waiting(self) -> tuple[int, int]:
+        """(how many vehicles waited to enter at the worst minute, its clock)."""
+        worst = max(self.watcher.records.censuses, key=lambda census: census.waiting, default=None)
+        return (worst.waiting, worst.clock) if worst else (0, 0)
+
+
+def seen_run(ground: Ground, run: Run, mapping: Map, expected: Costs, seed: int, giving: bool) -> Seen:
+    """Makes a run as it is, watched to its end; Fault where the program refuses it or ends. seed: named in the Fault,
+    no more; expected: as of watched; giving: as of Watcher."""
     try:
         with Client(ground.program) as sim:
             settings = Settings(ground.until, 0, lights=ground.lights(run, mapping))
@@ -172,43 +205,14 @@ def observed_run(ground: Ground, run: Run, mapping: Map, expected: Costs, seed: 
             records = watcher.record()
     except (Refused, Starved, NoReply, ProgramEnded) as fault:
         raise Fault(f"a run with seed {seed}: {fault}") from None
-    after = resource.getrusage(resource.RUSAGE_CHILDREN)
     passes = Passes(ground.graph, mapping, expected, run.load.command["dawdle"] / 1000)
-    spent = after.ru_utime + after.ru_stime - before.ru_utime - before.ru_stime
-    found = outcome_of(ground, run, passes, watcher.seen, records, spent, named(watcher.passings.found, mapping))
-    return replace(found, at_works=tuple(doubts_of(records.works, mapping)))
-
-
-def outcome_of(
-    ground: Ground,
-    run: Run,
-    passes: Passes,
-    seen: Sequence[Sequence[Sight]],
-    records: Records,
-    spent: float,
-    passed: Passed,
-) -> Outcome:
-    """What a run showed. seen: the sights of each vehicle; records: when vehicles ended, and censuses; spent: seconds
-    of the processor; passed: when those who go first passed."""
-    observed = nothing_observed(len(ground.graph.movements), ground.slices)
-    entries, ends, total = [], [], 0
-    for line, sights, last in zip(run.enters, seen, records.ends, strict=True):
-        plan, depart = line.command["plan"], line.command["depart"]
-        end = arrival_of(last)
-        clocks = passes.clocks(plan, depart, sights, end)
-        entries.append(clocks[0] if clocks else float(depart))
-        ends.append(end)
-        total += (ground.until if end is None else end) - depart
-        for place, (since, until) in enumerate(
-            pairwise([*clocks, float(ground.until if end is None else end)] if clocks else [])
-        ):
-            observed.add(passes.movement(plan, place), int(since // ground.width), until - since)
-    worst = max(records.censuses, key=lambda census: census.waiting, default=None)
-    waiting = (worst.waiting, worst.clock) if worst else (0, 0)
-    mean, rescues = total / len(run.enters), records.rescues.total()
-    return Outcome(observed, entries, ends, mean, rescues, records.calls, spent, passed, waiting)
-
-
-def arrival_of(last: Vehicle | None) -> int | None:
-    """The clock at which a vehicle arrived, of its last reply; None where it did not arrive, or never departed."""
-    return last.step + 1 if last is not None and last.state == "arrived" and last.step is not None else None
+    found = Seen(watcher, [], [], nothing_observed(len(ground.graph.movements), ground.slices))
+    for line, sights, last in zip(run.enters, watcher.seen, records.ends, strict=True):
+        plan, end = line.command["plan"], last.arrival if last else None
+        clocks = passes.clocks(plan, line.command["depart"], sights, end)
+        found.clocks.append(clocks)
+        found.ends.append(end)
+        there = float(ground.until if end is None else end)
+        for place, (since, until) in enumerate(pairwise([*clocks, there] if clocks else [])):
+            found.observed.add(passes.movement(plan, place), int(since // ground.width), until - since)
+    return found

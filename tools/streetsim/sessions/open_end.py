@@ -58,7 +58,7 @@ def outcome_of(program: str, run: Run, mapping: Map, settings: Settings) -> Outc
         assert isinstance(sim, Summed)
         records = Counted(sim, run, mapping, settings).record()
         digest = sim.sum.hexdigest()
-    ends = [one.step + 1 if one and one.state == "arrived" and one.step is not None else None for one in records.ends]
+    ends = [one.arrival if one else None for one in records.ends]
     seconds = sum(
         max(0, (records.clock if end is None else end) - line.command["depart"])
         for line, end in zip(run.enters, ends, strict=True)

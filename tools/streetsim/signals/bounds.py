@@ -13,10 +13,11 @@ from streetsim.actuated.kept import in_force
 from streetsim.actuated.lights import Driven, Lights, driven_of
 from streetsim.actuated.rings import DrivenRings, digits
 from streetsim.base import limits
-from streetsim.base.files import Json, whole_file
+from streetsim.base.files import Json
 from streetsim.model.mapping import Map
 from streetsim.sessions.giving import outcome_giving_way
 from streetsim.sessions.prepared import Outcome, Session
+from streetsim.signals.plans import PROGRAM, additional_of
 from streetsim.signals.search import Ended, Search, climb
 
 GAPS = (1.5, 2.0, 2.5, 3.5, 4.0, 5.0)  # seconds that are tried for all lights
@@ -141,8 +142,8 @@ def search_bounds(search: Search, given: Bounded, lowest: int) -> None:
                 for at in range(len(given[name].gaps)):
                     best = climb(search, best, f"gap of {name}", change_of(name, gap_by(at, gap)))
                 for at in range(len(given[name].greens)):
-                    best = climb(search, best, f"most of {name}", change_of(name, most_by(at, most, lowest)))
-                    best = climb(search, best, f"least of {name}", change_of(name, least_by(at, least, lowest)))
+                    best = climb(search, best, f"most of {name}", change_of(name, green_by(at, 0, most, lowest)))
+                    best = climb(search, best, f"least of {name}", change_of(name, green_by(at, least, 0, lowest)))
     except Ended:
         pass
 
@@ -183,46 +184,34 @@ def gap_by(at: int, seconds: float) -> Change:
     return lambda own, sign: own.with_gap(at, own.gaps[at] + sign * seconds)
 
 
-def most_by(at: int, seconds: int, lowest: int) -> Change:
-    """A change that makes the most of the green at a place of greens so many seconds longer (sign 1) or shorter (sign
-    -1); it gives None where Bounds.with_green does. lowest: as there."""
+def green_by(at: int, least: int, most: int, lowest: int) -> Change:
+    """A change that makes the least and the most of the green at a place of greens so many seconds (least, most) longer
+    (sign 1) or shorter (sign -1); it gives None where Bounds.with_green does. lowest: as there."""
+
     def change(own: Bounds, sign: int) -> Bounds | None:
-        """The bounds with another most; None where Bounds.with_green gives none."""
-        _, least, most = own.greens[at]
-        return own.with_green(at, least, most + sign * seconds, lowest)
+        """The bounds with another green; None where Bounds.with_green gives none."""
+        _, low, high = own.greens[at]
+        return own.with_green(at, low + sign * least, high + sign * most, lowest)
 
     return change
 
 
-def least_by(at: int, seconds: int, lowest: int) -> Change:
-    """A change that makes the least of the green at a place of greens so many seconds longer (sign 1) or shorter (sign
-    -1); it gives None where Bounds.with_green does. lowest: as there."""
-    def change(own: Bounds, sign: int) -> Bounds | None:
-        """The bounds with another least; None where Bounds.with_green gives none."""
-        _, least, most = own.greens[at]
-        return own.with_green(at, least + sign * seconds, most, lowest)
-
-    return change
-
-
-def write_bounds(path: str, mapping: Map, bounded: Mapping[str, Bounds], program: str = "streetsim") -> None:
-    """Writes to the file path the programs of some actuated and NEMA lights of a map with other bounds, as SUMO and
-    streetsim-import take them; Fault, and the file as it was, where it cannot be written. program: the programID of
-    each."""
+def bounds_text(mapping: Map, bounded: Mapping[str, Bounds], program: str = PROGRAM) -> str:
+    """The programs of some actuated and NEMA lights of a map with other bounds, as the text of an additional file.
+    program: the programID of each."""
     kept = in_force(mapping.programs)
-    with whole_file(path) as file:
-        file.write("<additional>\n")
-        for name, bounds in sorted(bounded.items()):
-            own = kept_with(kept[name], bounds)
-            words = f'type="{own["kind"]}" programID="{program}" offset="{own["offset"]:g}"'
-            file.write(f"    <tlLogic id={quoteattr(name)} {words}>\n")
-            for key, value in own["parameters"].items():
-                file.write(f"        <param key={quoteattr(key)} value={quoteattr(value)}/>\n")
-            for at, phase in enumerate(own["phases"]):
-                more = ring_words(*own["timing"][at]) if own.get("timing") else []
-                file.write(f"        <phase {' '.join([*phase_words(*phase), *more])}/>\n")
-            file.write("    </tlLogic>\n")
-        file.write("</additional>\n")
+    own = ((name, kept_with(kept[name], bounds)) for name, bounds in sorted(bounded.items()))
+    about = 'type="{}" programID="{}" offset="{:g}"'
+    return additional_of((name, about.format(one["kind"], program, one["offset"]), inside(one)) for name, one in own)
+
+
+def inside(kept: Json) -> Iterator[str]:
+    """The parameters and phases of a program, of what a map keeps of it, as elements of an additional file."""
+    for key, value in kept["parameters"].items():
+        yield f"<param key={quoteattr(key)} value={quoteattr(value)}/>"
+    for at, phase in enumerate(kept["phases"]):
+        more = ring_words(*kept["timing"][at]) if kept.get("timing") else []
+        yield f"<phase {' '.join([*phase_words(*phase), *more])}/>"
 
 
 def phase_words(

@@ -5,7 +5,7 @@ from collections.abc import Callable, Iterator, Mapping, Sequence
 from dataclasses import dataclass, replace
 from statistics import fmean
 
-from streetsim.base.files import whole_folder
+from streetsim.base.files import whole_file, whole_folder
 from streetsim.base.report import some
 from streetsim.base.seeds import paired
 from streetsim.model import trust
@@ -19,7 +19,7 @@ from streetsim.run.settings import Settings
 from streetsim.sessions.prepared import Outcome
 from streetsim.signals.in_sumo import Verified
 from streetsim.signals.light_lines import LightLines
-from streetsim.signals.plans import Plan, write_additional
+from streetsim.signals.plans import Plan, plan_text
 from streetsim.signals.search import Search
 from streetsim.signals.town import Town
 
@@ -43,15 +43,21 @@ def compared(
         "arrived": lambda one: one.arrived,
         "waited_to_enter": lambda one: one.waiting,
     }
-    rows: list[Compared] = []
-    for name, figure in figures.items():
-        first, second = ([figure(one) for one in outcomes] for outcomes in (before, after))
-        difference, half = paired(first, second)
-        assert half is not None
-        rows.append((name, fmean(first), fmean(second), difference, half, len(before)))
-    if sumo:
-        rows.append(("sumo_mean_trip_s", fmean(sumo.before), fmean(sumo.after), *sumo.difference(), len(sumo.before)))
-    return rows
+    pairs = {name: [[figure(one) for one in runs] for runs in (before, after)] for name, figure in figures.items()}
+    return [*(row_of(name, *pair) for name, pair in pairs.items()), *sumo_rows(sumo)]
+
+
+def row_of(name: str, before: Sequence[float], after: Sequence[float]) -> Compared:
+    """The row of before-after.csv of a figure, by its values in runs of what was given and of what was found with equal
+    seeds, two or more."""
+    difference, half = paired(before, after)
+    assert half is not None
+    return name, fmean(before), fmean(after), difference, half, len(before)
+
+
+def sumo_rows(sumo: Verified | None) -> list[Compared]:
+    """The row of before-after.csv with SUMO's mean trips, in a list; an empty one where SUMO was not run (None)."""
+    return [row_of("sumo_mean_trip_s", sumo.before, sumo.after)] if sumo else []
 
 
 def free_trip(town: Town) -> float:
@@ -77,15 +83,22 @@ def write_found(target: Target, town: Town, search: Search, rows: Sequence[Compa
     trusted, empty where it is."""
     plan = search.best[1]
     with whole_folder(target.folder, LAST, ("before.png", "after.png")) as folder:
-        told = [(name, *(f"{value:.3f}" for value in values), runs) for name, *values, runs in rows]
-        write_table(f"{folder}/{LAST}", BEFORE_AFTER, told)
         write_table(f"{folder}/lights.csv", LIGHTS, light_rows(town, plan))
-        trials = [(one.simulations, one.step, f"{one.value:.3f}", f"{one.best:.3f}") for one in search.trials]
-        write_table(f"{folder}/search.csv", TRIALS, trials)
+        write_search(folder, rows, search, doubts)
         for name, drawn in (("before", town.plan), ("after", plan)) if target.corridor else ():
             draw(target, town, drawn, f"{folder}/{name}.png")
-        trust.write_doubts(folder, doubts)
-        write_additional(target.plan, town.lights, plan)
+        with whole_file(target.plan) as file:
+            file.write(plan_text(town.lights, plan))
+
+
+def write_search(folder: str, rows: Sequence[Compared], search: Search, doubts: Sequence[str]) -> None:
+    """Writes before-after.csv, of its rows, search.csv and what speaks against the result (doubts) into a folder; Fault
+    where one cannot be written."""
+    told = [(name, *(f"{value:.3f}" for value in values), runs) for name, *values, runs in rows]
+    write_table(f"{folder}/{LAST}", BEFORE_AFTER, told)
+    trials = [(one.simulations, one.step, f"{one.value:.3f}", f"{one.best:.3f}") for one in search.trials]
+    write_table(f"{folder}/search.csv", TRIALS, trials)
+    trust.write_doubts(folder, doubts)
 
 
 def light_rows(town: Town, plan: Plan) -> Iterator[Entry]:
@@ -119,19 +132,32 @@ def tell(
     """Prints what was found, of the rows of before-after.csv, and warnings on standard error. stopped: the user ended
     the search; doubts: why the result is not to be trusted, empty where it is; sumo: None where SUMO was not run. Gives
     the exit status: 0 where the plan is shown to be better wherever it was run, else 1."""
-    _, before, after, difference, half, runs = rows[0]
     for text in warnings_of(town, search.best[1]):
         print(f"warning: {text}", file=sys.stderr)
     if stopped:
         print("stopped: the best plan found so far is written")
-    print(
+    print(trips_told(rows[0], search))
+    return tell_verdict(rows[0], search, doubts, sumo)
+
+
+def trips_told(row: Compared, search: Search) -> str:
+    """The line on mean trips as given and as found, of the first row of before-after.csv, and on what the search
+    took."""
+    _, before, after, difference, half, runs = row
+    return (
         f"mean trip {before:.1f} s as given, {after:.1f} s as found: {difference:+.1f} s ± {half:.1f} "
         f"(95 % interval, {runs} seeds that the search did not see); {search.simulations:,} "
         f"simulations{budget_ended(search)}"
     )
+
+
+def tell_verdict(row: Compared, search: Search, doubts: Sequence[str], sumo: Verified | None) -> int:
+    """Prints SUMO's figures, where it was run (None: it was not), and the last line; gives the exit status: 0 where
+    what was found is shown to be better wherever it was run, else 1. row: the first of before-after.csv; doubts: why
+    the result is not to be trusted."""
     if sumo:
         print(sumo.told())
-    found = {"here": (difference, half), **({"in SUMO": sumo.difference()} if sumo else {})}
+    found = {"here": (row[3], row[4]), **({"in SUMO": sumo.difference()} if sumo else {})}
     worse = [where for where, (mean, width) in found.items() if mean + width >= 0]
     if text := "; ".join(filter(None, (verdict(found, worse, search), trust.verdict(doubts) if doubts else ""))):
         print(text)
@@ -159,11 +185,8 @@ def verdict(found: Mapping[str, tuple[float, float]], worse: Sequence[str], sear
 def doubts_of(town: Town, before: Sequence[Outcome], after: Sequence[Outcome], sumo: Verified | None) -> Iterator[str]:
     """Why a result is not to be trusted, of the runs of the plan given and the plan found; nothing where it is. sumo:
     None where SUMO was not run, so that greens in which turns find their gaps by formula are a doubt."""
-    until, named = town.session.clocks[-1], {"as given": before, "as found": after}
-    arrived = {name: fmean(one.arrived for one in runs) for name, runs in named.items()}
-    yield from trust.of_missing(arrived, trust.due_at(until, town.run, town.mapping))
-    waiting = {name: [(one.waiting, one.waiting_at) for one in runs] for name, runs in named.items()}
-    yield from trust.of_waiting(waiting, len(town.session.departs))
+    until = town.session.clocks[-1]
+    yield from of_vehicles(town, before, after)
     yield from trust.of_lengths(until, town.run, town.mapping)
     yield from trust.of_actuated(
         until, town.run, town.mapping, [one for one in town.mapping.actuated if one not in town.lights]
@@ -171,6 +194,16 @@ def doubts_of(town: Town, before: Sequence[Outcome], after: Sequence[Outcome], s
     if town.lines.permissive and not sumo:
         lights = some(sorted(town.lines.permissive))
         yield f"without --verify-sumo, as turns find their gaps in oncoming traffic by formula at {lights}"
+
+
+def of_vehicles(town: Town, before: Sequence[Outcome], after: Sequence[Outcome]) -> Iterator[str]:
+    """Doubts where vehicles that had the time to arrive have not, or many waited to enter, in runs of what was given
+    and of what was found; nothing where neither is so."""
+    named = {"as given": before, "as found": after}
+    arrived = {name: fmean(one.arrived for one in runs) for name, runs in named.items()}
+    yield from trust.of_missing(arrived, trust.due_at(town.session.clocks[-1], town.run, town.mapping))
+    waiting = {name: [(one.waiting, one.waiting_at) for one in runs] for name, runs in named.items()}
+    yield from trust.of_waiting(waiting, len(town.session.departs))
 
 
 def warnings_of(town: Town, plan: Plan) -> Iterator[str]:

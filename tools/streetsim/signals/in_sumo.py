@@ -5,6 +5,8 @@ import subprocess
 import tempfile
 from collections.abc import Callable, Sequence
 from dataclasses import dataclass
+from itertools import count
+from pathlib import Path
 from statistics import fmean
 
 from streetsim.base.files import Fault, attribute, elements
@@ -15,7 +17,6 @@ from streetsim.model.mapping import Map
 from streetsim.model.runs import Run
 from streetsim.model.sources import Sources, sources_of
 from streetsim.results.compare import read_tripinfo
-from streetsim.signals.plans import Plan, write_additional
 from streetsim.signals.town import Reading, Town
 
 PROGRAM_ID = "streetsim-verified"  # of the lights: no program of the files given may have the same
@@ -118,19 +119,9 @@ def sumo_for(reading: Reading, mapping: Map, run: Run) -> InSumo:
     return InSumo(program, Sources(os.path.abspath(sources.net), additional, routes), run.start(), reading.until)
 
 
-def verified(in_sumo: InSumo, town: Town, plan: Plan, seeds: Sequence[int], jobs: int) -> Verified:
-    """What SUMO says of the plan given and of a plan found, by runs with each seed; jobs: how many run side by side.
-    Fault where SUMO fails."""
-    with tempfile.TemporaryDirectory() as folder:
-        paths = [f"{folder}/{name}.add.xml" for name in ("given", "found")]
-        for path, lights in zip(paths, (town.plan, plan), strict=True):
-            write_additional(path, town.lights, lights, PROGRAM_ID)
-        return verified_files(in_sumo, town, paths, seeds, jobs)
-
-
-def verified_files(in_sumo: InSumo, town: Town, paths: Sequence[str], seeds: Sequence[int], jobs: int) -> Verified:
-    """What SUMO says of two files of signal programs, by runs with each seed: paths has the file of what was given and
-    that of what was found; jobs: how many run side by side. Fault where SUMO fails."""
+def verified(in_sumo: InSumo, town: Town, texts: Sequence[str], seeds: Sequence[int], jobs: int) -> Verified:
+    """What SUMO says of what was given and of what was found, by runs with each seed. texts: of two additional files
+    with signal programs, the one given and the one found; jobs: how many run side by side. Fault where SUMO fails."""
     enters = zip(town.mapping.cars, (line.command["depart"] for line in town.run.enters), strict=True)
     departs = {name: depart for name, depart in enters if depart < in_sumo.until}
 
@@ -141,21 +132,16 @@ def verified_files(in_sumo: InSumo, town: Town, paths: Sequence[str], seeds: Seq
         told(1)
         return mean_trip(trips, departs, in_sumo.until), teleports
 
-    tasks = [(path, seed) for path in paths for seed in seeds]
-    meanwhile = Meanwhile("runs of SUMO", len(tasks))
-    done: set[int] = set()
-    means, teleports = zip(
-        *side_by_side(run, tasks, jobs, lambda place, _: meanwhile.show(add(done, place))), strict=True
-    )
+    with tempfile.TemporaryDirectory() as folder:
+        paths = [f"{folder}/{name}.add.xml" for name in ("given", "found")]
+        for path, text in zip(paths, texts, strict=True):
+            Path(path).write_text(text, encoding="utf-8")
+        tasks = [(path, seed) for path in paths for seed in seeds]
+        meanwhile, done = Meanwhile("runs of SUMO", len(tasks)), count(1)
+        means, teleports = zip(*side_by_side(run, tasks, jobs, lambda *_: meanwhile.show(next(done))), strict=True)
     meanwhile.end()
     half = len(seeds)
     return Verified(list(means[:half]), list(means[half:]), (sum(teleports[:half]), sum(teleports[half:])))
-
-
-def add(done: set, place: int) -> int:
-    """Adds a place to those that are done; gives how many are."""
-    done.add(place)
-    return len(done)
 
 
 def mean_trip(trips: dict, departs: dict, until: int) -> float:

@@ -79,7 +79,7 @@ class LightLines:
         found = {}
         if permissive is None and self.flows:
             connections = self.connections[junction]
-            found = movements_of_junction(junction, connections, self.net, self.flows, self.limits_of, self.report)
+            found = movements_of_junction(junction, connections, self.net, self.flows, self.limits_of)
         if any(movement.runs and movement.foes and movement.flow for movement in found.values()):
             self.permissive.add(name)
         turns = self.turns[node]

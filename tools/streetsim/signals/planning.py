@@ -1,6 +1,11 @@
 """What a search for signal plans tries, and with which seeds."""
+from collections.abc import Callable, Sequence
+from typing import Any
+
+from streetsim.base.files import Fault
+from streetsim.base.progress import Meanwhile, Stopping
 from streetsim.signals.formulas import Streets, critical_cycle
-from streetsim.signals.search import Search
+from streetsim.signals.search import Search, Values, key_of
 from streetsim.signals.town import Town
 
 CHANGES = ("offsets", "splits", "cycle")
@@ -21,6 +26,32 @@ def lengths(cycles: range, town: Town, streets: Streets) -> list[int]:
     within. cycles: a range by single seconds; empty: none is proposed."""
     made, critical = {*cycles[::STEP], *cycles[-1:]}, critical_cycle(town.lights, town.plan, streets)
     return sorted(made | ({critical} if critical is not None and critical in cycles else set()))
+
+
+def refuse_budget(budget: int, seeds: Sequence[int]) -> None:
+    """Fault where --budget does not reach for one plan, which takes a simulation for each seed."""
+    if budget < len(seeds):
+        raise Fault(f"--budget {budget}: one plan takes {len(seeds)} simulations")
+
+
+def ended_search(
+    values: Values, budget: int, seeds: int, climbs: Callable[[Search], None], key: Callable[[Any], Any] = key_of
+) -> tuple[Search, bool]:
+    """Makes a search, and shows on the terminal how far it is; gives (search when it has ended, whether the user ended
+    it by Ctrl-C). values, budget, seeds, key: as Search has them (key_of); climbs: searches until the search has
+    ended."""
+    meanwhile = Meanwhile("simulations", budget)
+    with Stopping() as stopping:
+
+        def told(search: Search) -> bool:
+            """Shows how far the search is; gives whether the user has asked for an end."""
+            meanwhile.show(search.simulations, best_line(search))
+            return stopping.asked
+
+        search = Search(values, budget, seeds, told, key_of=key)
+        climbs(search)
+        meanwhile.end()
+        return search, stopping.asked
 
 
 def best_line(search: Search) -> str:

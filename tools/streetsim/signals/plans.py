@@ -11,10 +11,10 @@ from typing import TypeVar
 from xml.sax.saxutils import quoteattr
 
 from streetsim.base import limits
-from streetsim.base.files import whole_file
 from streetsim.sumo.net import STATIC, Program
 
 Seconds = TypeVar("Seconds", int, float)
+PROGRAM = "streetsim"  # the programID of what is written
 LEAST = 5  # seconds of a green that may be stretched
 
 
@@ -154,18 +154,26 @@ def why_kept(name: str, program: Program, asked: Collection[str], timed: Collect
     return None
 
 
-def write_additional(
-    path: str, lights: Mapping[str, Light], plan: Mapping[str, Timing], program: str = "streetsim"
-) -> None:
-    """Writes a plan to the file path as SUMO and streetsim-import take it, a whole program for each of its lights;
-    Fault, and the file as it was, where it cannot be written. lights: by name, for the states; program: the programID
-    of each."""
-    with whole_file(path) as file:
-        file.write("<additional>\n")
-        for name, timing in sorted(plan.items()):
-            words = f'type="static" programID="{program}" offset="{timing.offset}"'
-            file.write(f"    <tlLogic id={quoteattr(name)} {words}>\n")
-            for duration, state in zip(timing.durations, lights[name].states, strict=True):
-                file.write(f'        <phase duration="{duration}" state="{state}"/>\n')
-            file.write("    </tlLogic>\n")
-        file.write("</additional>\n")
+def additional_of(programs: Iterable[tuple[str, str, Iterable[str]]]) -> str:
+    """The text of an additional file with the programs of lights, as SUMO and streetsim-import take it; of each (light,
+    its attributes but the light's name as one text, the elements inside)."""
+    parts = ["<additional>\n"]
+    for light, words, inner in programs:
+        elements = "".join(f"        {one}\n" for one in inner)
+        parts.append(f"    <tlLogic id={quoteattr(light)} {words}>\n{elements}    </tlLogic>\n")
+    return "".join([*parts, "</additional>\n"])
+
+
+def plan_text(lights: Mapping[str, Light], plan: Mapping[str, Timing], program: str = PROGRAM) -> str:
+    """A plan as the text of an additional file, a whole program for each of its lights. lights: by name, for the
+    states; program: the programID of each."""
+    return additional_of(
+        (
+            name, f'type="static" programID="{program}" offset="{timing.offset}"',
+            (
+                f'<phase duration="{duration}" state="{state}"/>'
+                for duration, state in zip(timing.durations, lights[name].states, strict=True)
+            ),
+        )
+        for name, timing in sorted(plan.items())
+    )  # fmt: skip

@@ -15,6 +15,7 @@ from streetsim.signals.plans import Light, Plan
 Key = tuple[tuple[str, int, tuple[int, ...]], ...]  # of a plan: lights, offsets, durations
 Tried = TypeVar("Tried")  # a plan, or bounds of lights
 
+Values = Callable[[Sequence[Any]], Generator[float, None, None]]  # of plans, or of bounds: their values in order
 SHARES = (0.25, 0.12, 0.06, 0.03)  # of the cycle, by which offsets are moved
 SECONDS = (8, 4, 2, 1)  # of green that are moved between phases
 
@@ -38,7 +39,7 @@ class Search:
     """The values of plans (or of bounds, with the key_of of signals.bounds), mean trips in seconds: each plan is run
     once, and its value kept; the best of them, and what was tried."""
 
-    value: Callable[[Sequence[Any]], Generator[float, None, None]]  # of plans: gives their values in order
+    value: Values
     budget: int  # simulations
     seeds: int  # simulations that one plan takes
     # Hears of each trial; gives whether the user has asked for an end.

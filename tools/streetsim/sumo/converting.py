@@ -48,7 +48,7 @@ def converted(net: SumoNet, types: Types, vehicles: Sequence[Vehicle], options: 
     last = max((round(vehicle.depart) for vehicle in vehicles), default=options.begin) + AFTER
     days = days_of(net, options.begin, last, report)
     network = Network(net, options, report, flows)
-    found = movements(net, network, flows, report)
+    found = movements(net, network, flows)
     network.equivalents = equivalents(one for junction in found.values() for one in junction.values())
     entered, driven = enters(vehicles, net, network, types, report)
     network.kinds = kinds_of(driven, types)

@@ -4,7 +4,7 @@ from collections import Counter, defaultdict
 from streetsim.base import limits
 from streetsim.base.report import Report, some
 from streetsim.sumo.net import SumoNet
-from streetsim.sumo.network import OTHER_SPEED, Link, Network
+from streetsim.sumo.network import OTHER_SPEED, Network
 
 MUCH = 1.1  # times as long as in SUMO
 FAST = 22.0  # metres a second: from here on a road with a merge is told
@@ -68,24 +68,14 @@ def warn_of_speeds(network: Network, report: Report) -> None:
     for (speed, limit), links in sorted(links_of.items()):
         free = (limit - network.options.dawdle / 1000) * limits.CELL_METRES
         if abs(free - speed) > OTHER_SPEED * speed:
-            usual, cells = (sum(map(count, links)) for count in (usual_cells, cells_here))
-            share = round(100 * (cells / usual - 1))
+            usual = sum(limits.cells_of(link.metres) for link in links)
+            share = round(100 * (sum(link.cells for link in links) / usual - 1))
             how = f"{abs(share)} % {'fewer' if share < 0 else 'more'} cells, so that it takes as long as in SUMO"
             told = (
                 f"{speed * 3.6:.0f} km/h becomes {limit} cells a step, {free * 3.6:.0f} km/h when free"
                 f"{f', on {how}' if share else ''}: {len(links)} links"
             )
             report.warn(told, dict.fromkeys(link.edge for link in links), light=share != 0)
-
-
-def usual_cells(link: Link) -> int:
-    """How many cells a link would have by its length alone."""
-    return limits.cells_of(link.metres)
-
-
-def cells_here(link: Link) -> int:
-    """How many cells a link has, which may differ from usual_cells for the sake of its speed."""
-    return link.cells
 
 
 def warn_of_merges(net: SumoNet, report: Report) -> None:

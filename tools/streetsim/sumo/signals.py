@@ -9,13 +9,14 @@ from streetsim.base.files import Fault
 from streetsim.base.report import Report, some
 from streetsim.model.mapping import MapTurn
 from streetsim.model.runs import Command
+from streetsim.model.timing import runs_of, states_of
 from streetsim.model.waiting import TurnKey
 from streetsim.sumo.losses import Flows
 from streetsim.sumo.net import NEMA, Connection, Program, SumoNet, connections_of
 from streetsim.sumo.network import Network, Turn
 from streetsim.sumo.yielding import (
     GREEN, OPEN, STOPPED, TWO_PARTS, Movement, hidden_middle, hidden_start, movements_of, places,
-    places_in_red, runs_of, settle,
+    places_in_red, settle,
 )
 
 Green = frozenset[TurnKey]
@@ -47,7 +48,7 @@ class LitNode:
 
     def states(self) -> list[str]:
         """The light's state, SUMO's letters, in each second of its cycle."""
-        return each_second(self.light, self.program, self.report)
+        return each_second(self.light, self.program)
 
     def told(self, states: Sequence[str]) -> Told:
         """How many seconds of each permissive green are shown, and in how many parts, in the form of by_gaps; states:
@@ -55,14 +56,14 @@ class LitNode:
         return by_gaps(self.found) if self.found else by_share(self.light, self.turns, states, self.permissive)
 
 
-def movements(net: SumoNet, network: Network, flows: Flows, report: Report) -> dict[str, dict[int, Movement]]:
+def movements(net: SumoNet, network: Network, flows: Flows) -> dict[str, dict[int, Movement]]:
     """The connections of each junction with a light over its cycle, {junction: {request: movement}}, with the seconds
     that are shown (settle); empty without flows, and without the junctions of which it is not known who gives way to
     whom. flows: vehicles an hour by (edge, next edge). Fault where each_second or check_states raises one."""
     limits_of = {link.edge: link.limit for link in network.links}
     found = {}
     for junction, connections in connections_of(net).items() if flows else ():
-        if at_junction := movements_of_junction(junction, connections, net, flows, limits_of, report):
+        if at_junction := movements_of_junction(junction, connections, net, flows, limits_of):
             found[junction] = at_junction
     return found
 
@@ -73,7 +74,6 @@ def movements_of_junction(
     net: SumoNet,
     flows: Flows,
     limits_of: Mapping[str, int],
-    report: Report,
 ) -> dict[int, Movement]:
     """The movements of one junction, {request: movement}, with the seconds that are shown (settle); empty where no
     light of it has a program, or it is not known who gives way to whom. flows: vehicles an hour by (edge, next edge);
@@ -82,7 +82,7 @@ def movements_of_junction(
     ours = [connection for connection in connections if connection.light in (light, None)]
     if not light or not net.yields.get(junction) or any(connection.request is None for connection in ours):
         return {}
-    states = each_second(light, net.programs[light], report)
+    states = each_second(light, net.programs[light])
     check_states(light, states, ours)
     found = movements_of(ours, states, net.yields[junction], flows, limits_of)
     settle(list(found.values()))
@@ -239,19 +239,14 @@ def signal(own: LitNode) -> Command:
     }
 
 
-def each_second(light: str, program: Program, report: Report) -> list[str]:
-    """The program's state in each second of its cycle; durations are rounded by their running sum, so that the cycle
-    stays. report: gets nothing. Fault where the cycle is shorter than half a second, or longer than LONGEST."""
-    states: list[str] = []
-    clock = 0.0
+def each_second(light: str, program: Program) -> list[str]:
+    """The program's state in each second of its cycle, as timing.states_of gives it. Fault, with the light's name,
+    where the cycle is shorter than half a second, or longer than LONGEST."""
     if (cycle := sum(duration for duration, _ in program.phases)) > LONGEST:
         raise Fault(
             f"light {light!r}: a cycle of {cycle:,.0f} s; at most {LONGEST:,} s are read: give it shorter phases"
         )
-    for duration, state in program.phases:
-        clock += duration
-        states += [state] * (round(clock) - len(states))
-    if not states:
+    if not (states := states_of(program.phases)):
         raise Fault(f"light {light!r}: its cycle is no second long")
     return states
 
@@ -282,7 +277,7 @@ def by_share(light: str, turns: Sequence[AtLight], states: Sequence[str], permis
     told: dict[int | None, dict[int, tuple[int, int]]] = {}
     for index in {turn.index for *_, turn in turns if turn.light == light}:
         runs = runs_of("".join(state[index] for state in states), OPEN)
-        told[index] = {start: (length - round(length * (1 - share)), 1) for start, length in runs.items()}
+        told[index] = {start: (length - round(length * (1 - share)), 1) for start, length in runs}
     return told
 
 
@@ -312,7 +307,7 @@ def shown_green(
     yellow some seconds are left out, as SUMO's queues start later and turn slower: those of hidden (grain, middle)."""
     count = len(states)
     shown = [state in GREEN for state in states]
-    greens, reds = runs_of(states, OPEN).items(), runs_of(states, STOPPED).items()
+    greens, reds = runs_of(states, OPEN), runs_of(states, STOPPED)
     pieces = [(start, length, places(length, *told.get(start, (length, 1)))) for start, length in greens]
     pieces += [(start, length, places_in_red(length, told.get(start, (0, 1))[0])) for start, length in reds]
     for start, length, found in pieces:
@@ -321,7 +316,7 @@ def shown_green(
             end = length if end == length else max(begin + grain, end // grain * grain)
             for second in range(begin, min(end, length)):
                 shown[(start + second) % count] = True
-    for start, length in runs_of(states, GREEN).items():
+    for start, length in runs_of(states, GREEN):
         if length < count and states[start - 1] not in OPEN:
             for second in hidden(length if length <= limits.PHASE_STEPS else QUEUED, turn, grain, middle):
                 shown[(start + second) % count] = False

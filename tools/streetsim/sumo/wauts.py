@@ -1,7 +1,7 @@
 """Programs of lights that change by the time of day, as SUMO's WAUT has them: read, and as lines of a run with "at"."""
 from collections import defaultdict
-from collections.abc import Iterable, Iterator, Mapping, Sequence
-from dataclasses import dataclass, replace
+from collections.abc import Iterator, Mapping, Sequence
+from dataclasses import replace
 from itertools import count, pairwise, takewhile
 from xml.etree.ElementTree import Element
 
@@ -101,7 +101,7 @@ def day_lines(
         for clock, end, program in spans:
             changed = replace(net, programs={**net.programs, light: program})
             junction = network.nodes[node]
-            own = junction, at_junction.get(junction, []), changed, flows, limits_of, report
+            own = junction, at_junction.get(junction, []), changed, flows, limits_of
             found = movements_of_junction(*own) if flows and network.options.permissive is None else {}
             lit = lit_node(changed, network, node, places[node], light, found, report)
             lines = signal_lines(lit, clock, end - 1)

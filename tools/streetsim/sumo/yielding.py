@@ -17,6 +17,7 @@ from functools import cache
 from itertools import pairwise
 from typing import Any
 
+from streetsim.model.timing import runs_of
 from streetsim.sumo.heads import Heads, passing_heads
 from streetsim.sumo.net import Connection
 
@@ -196,13 +197,13 @@ def movement_of(connection: Connection, states: Sequence[str], flow: float, limi
         cycle=cycle,
         sure=seconds_of(own, GREEN),
         green=seconds_of(own, SHOWN),
-        begins=[(start, red_before(own, start)) for start in runs_of(own, SHOWN) if own[start - 1] not in SHOWN],
+        begins=[(start, red_before(own, start)) for start, _ in runs_of(own, SHOWN) if own[start - 1] not in SHOWN],
         flow=flow,
         passing=flow,
         headway=headway(connection.speed or USUAL_SPEED),
         limit=limit,
-        runs=runs_of(own, OPEN),
-        stops=runs_of(own, STOPPED),
+        runs=dict(runs_of(own, OPEN)),
+        stops=dict(runs_of(own, STOPPED)),
     )
 
 
@@ -215,19 +216,6 @@ def seconds_from(start: int, length: int, cycle: int) -> int:
     """length seconds from start on, round the cycle, as bits."""
     bits = ((1 << min(length, cycle)) - 1) << start % cycle
     return (bits | bits >> cycle) & ((1 << cycle) - 1)
-
-
-def runs_of(states: str, shown: str) -> dict[int, int]:
-    """The unbroken runs of seconds, round the cycle, whose state is one of shown: {first second: length}; states: a
-    letter for each second."""
-    count = len(states)
-    if all(state in shown for state in states):
-        return {0: count}
-    starts = [at for at in range(count) if states[at] in shown and states[at - 1] not in shown]
-    return {
-        start: next(steps for steps in range(1, count + 1) if states[(start + steps) % count] not in shown)
-        for start in starts
-    }
 
 
 def red_before(states: str, start: int) -> int:

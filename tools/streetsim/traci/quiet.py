@@ -2,7 +2,6 @@
 and the first of each domain says so."""
 import sys
 from collections.abc import Callable
-from typing import Any
 
 from streetsim.simulation.errors import NotHere
 from streetsim.traci.advice import WINDOW

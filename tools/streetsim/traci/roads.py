@@ -1,6 +1,6 @@
 """TraCI's lanes, edges, junctions and detectors; traci/vehicles.py says which calls look at vehicles."""
 from collections.abc import Sequence
-from typing import Any, NoReturn
+from typing import NoReturn
 
 from streetsim.model.detectors import Detector
 from streetsim.simulation.calls import GAP, METRES, LaneCalls, PlaceCalls, StretchCalls

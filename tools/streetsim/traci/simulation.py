@@ -3,7 +3,6 @@ import sys
 from collections.abc import Iterable, Sequence
 from dataclasses import dataclass
 from math import hypot
-from typing import Any
 
 from streetsim.simulation.calls import SimulationCalls
 from streetsim.simulation.errors import NotHere, TraCIException

@@ -6,7 +6,6 @@ counts from there.
 """
 from collections.abc import Collection, Sequence
 from itertools import pairwise
-from typing import Any
 
 from streetsim.simulation.calls import METRES, VehicleCalls
 from streetsim.simulation.errors import TraCIException
