@@ -10,7 +10,6 @@ wrote in FOLDER.
 
 import math
 import os
-import random
 from collections import defaultdict
 from pathlib import Path
 from statistics import fmean, median
@@ -86,19 +85,11 @@ def flows_of(shape, hourly, left, right):
     return found
 
 
-def demand(seed):
-    """The routes: vehicles at random."""
-    draws, found = random.Random(seed), []
+def streams():
+    """(begin of names, vehicles an hour, edges) of all."""
     for name, one in JUNCTIONS.items():
         for (arm, to), hourly in flows_of(*one).items():
-            clock = 0.0
-            while hourly and (clock := clock + draws.expovariate(hourly / 3600)) < LAST:
-                found.append((clock, f"{name}.{arm}.{len(found)}", f"{name}{arm}c {name}c{to}"))
-    lines = (
-        f'<vehicle id="{name}" depart="{clock:.1f}" departSpeed="max"><route edges="{edges}"/></vehicle>'
-        for clock, name, edges in sorted(found)
-    )
-    return f"<routes>{''.join(lines)}</routes>"
+            yield f"{name}.{arm}", hourly, f"{name}{arm}c {name}c{to}"
 
 
 def legs(trips):
@@ -112,7 +103,7 @@ def legs(trips):
 def both(seed, folder, program):
     """The legs in SUMO and here."""
     routes, trips = folder / f"demand-{seed}.rou.xml", folder / f"trips-{seed}.xml"
-    routes.write_text(demand(seed), encoding="utf-8")
+    routes.write_text(shared.random_routes(streams(), LAST, seed), encoding="utf-8")
     if not trips.exists():
         words = ["sumo", "-n", "net.net.xml", "-r", routes, "--end", END, "--seed", seed, "--time-to-teleport", -1]
         run([*words, "--no-step-log", "--no-warnings", "--tripinfo-output", "half.xml"], folder)

@@ -8,7 +8,6 @@ Usage: bench/opposing.py PROGRAM --work FOLDER [--seed 1]
 Arms of 500 m, one lane, 50 km/h; the main street's vehicles go straight on, half of them from each side. \
 It needs Debian's sumo.
 """
-import random
 from collections import Counter
 from pathlib import Path
 
@@ -45,28 +44,14 @@ def network(folder):
     run("netconvert -n plain.nodes.xml -e plain.edges.xml --no-turnarounds true -o net.net.xml".split(), folder)
 
 
-def streams(sides, left, flow):
-    """(kind, from, to, vehicles an hour) of a cross."""
-    yield from (("main", begin, end, flow / 2) for begin, end in ("we", "ew"))
-    for side in sides:
-        straight, turned = WAYS[side]
-        yield "minor", side, straight, FULL * (1 - left)
-        yield "minor", side, turned, FULL * left
-
-
-def demand(seed):
-    """The routes: vehicles at random."""
-    draws, found = random.Random(seed), []
+def streams():
+    """(begin of names, vehicles an hour, edges) of all."""
     for name, sides, left, flow in crosses():
-        for kind, begin, end, hourly in streams(sides, left, flow):
-            clock = 0.0
-            while hourly and (clock := clock + draws.expovariate(hourly / 3600)) < LAST:
-                found.append((clock, f"{name}.{kind}.{len(found)}", f"{name}{begin}c {name}c{end}"))
-    lines = (
-        f'<vehicle id="{name}" depart="{clock:.1f}" departSpeed="max"><route edges="{edges}"/></vehicle>'
-        for clock, name, edges in sorted(found)
-    )
-    return f"<routes>{''.join(lines)}</routes>"
+        for begin, end in ("we", "ew"):
+            yield f"{name}.main", flow / 2, f"{name}{begin}c {name}c{end}"
+        for side in sides:
+            for end, share in zip(WAYS[side], (1 - left, left), strict=True):
+                yield f"{name}.minor", FULL * share, f"{name}{side}c {name}c{end}"
 
 
 def passed(trips):
@@ -85,7 +70,7 @@ def main():
     folder, trips = args.work, args.work / f"trips-{args.seed}.xml"
     folder.mkdir(parents=True, exist_ok=True)
     network(folder)
-    (folder / "demand.rou.xml").write_text(demand(args.seed), encoding="utf-8")
+    (folder / "demand.rou.xml").write_text(shared.random_routes(streams(), LAST, args.seed), encoding="utf-8")
     usual = ["--end", LAST, "--time-to-teleport", -1, "--no-step-log", "--no-warnings", "--seed", args.seed]
     run(["sumo", "-n", "net.net.xml", "-r", "demand.rou.xml", *usual, "--tripinfo-output", trips], folder)
     run(

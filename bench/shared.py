@@ -6,6 +6,7 @@ It puts the tools of this repository on the path, so that a script that imports 
 import argparse
 import json
 import os
+import random
 import subprocess
 import sys
 import xml.etree.ElementTree as ElementTree
@@ -39,6 +40,21 @@ def parser_of(page):
     made = argparse.ArgumentParser(description=page, formatter_class=argparse.RawTextHelpFormatter)
     made.add_argument("program")
     return made
+
+
+def random_routes(streams, last, seed):
+    """A route file with vehicles at random until a second. streams: (begin of their names, vehicles an hour, edges) of
+    each."""
+    draws, found = random.Random(seed), []
+    for name, hourly, edges in streams:
+        clock = 0.0
+        while hourly and (clock := clock + draws.expovariate(hourly / 3600)) < last:
+            found.append((clock, f"{name}.{len(found)}", edges))
+    lines = (
+        f'<vehicle id="{name}" depart="{clock:.1f}" departSpeed="max"><route edges="{edges}"/></vehicle>'
+        for clock, name, edges in sorted(found)
+    )
+    return f"<routes>{''.join(lines)}</routes>"
 
 
 def work_of(args):

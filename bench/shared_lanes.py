@@ -5,7 +5,7 @@ oncoming traffic, in SUMO and here, at lone crosses of one lane an arm with seve
 Usage: bench/shared_lanes.py PROGRAM --work FOLDER [--seeds 1-2] [--all]
 
 Differences over all cases of a row, each the mean of several seeds; --all: also each case. The first row chose the gap
-of one alone in streetsim/sumo/yielding.py, the others judge. It needs Debian's sumo, and keeps what SUMO wrote in
+of one alone in streetsim/sumo/gaps.py, the others judge. It needs Debian's sumo, and keeps what SUMO wrote in
 FOLDER.
 """
 

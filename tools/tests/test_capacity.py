@@ -7,30 +7,13 @@ from streetsim.base.report import Report
 from streetsim.importing.convert import convert
 from streetsim.model.folder import read_folder
 from streetsim.results.compare import trips_of
+from streetsim.sumo.crossing import Movement, set_heads, set_lane, wait_together
+from streetsim.sumo.gaps import after_stop, gap_capacity, gap_wait, until_first
+from streetsim.sumo.greens import green_here, hidden_middle, hidden_start, leaving, passing_here
 from streetsim.sumo.heads import Heads, passing_heads
 from streetsim.sumo.net import request_of
 from streetsim.sumo.network import Options
-from streetsim.sumo.yielding import (
-    Movement,
-    after_stop,
-    gap_capacity,
-    gap_wait,
-    green_here,
-    hidden_middle,
-    hidden_start,
-    lane_here,
-    lane_queue,
-    lane_there,
-    leaving,
-    passing_here,
-    seconds_for,
-    set_heads,
-    set_lane,
-    settle,
-    time_of,
-    until_first,
-    wait_together,
-)
+from streetsim.sumo.yielding import lane_here, lane_queue, lane_there, seconds_for, settle, time_of
 
 # SUMO's vehicles a green by case and way, of the demand with seed 1; a tenth or 0.6 of a vehicle off is allowed.
 SUMO = {

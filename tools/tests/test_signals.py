@@ -8,9 +8,9 @@ from streetsim.base.files import Fault
 from streetsim.base.report import Report
 from streetsim.importing.convert import convert
 from streetsim.results import series
+from streetsim.sumo.gaps import gap_capacity
 from streetsim.sumo.network import Options, Turn
 from streetsim.sumo.signals import joined, run_lengths, shown_green
-from streetsim.sumo.yielding import gap_capacity
 
 
 def phases(*pairs):

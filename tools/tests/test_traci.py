@@ -287,7 +287,8 @@ class Vehicles(Started):
             traci.FatalTraCIError, "--vehroute-output old.xml: not written here .* leave it out, or give"
         ):
             traci.start(words)
-        traci.start([*words, "--vehroute-output", "/dev/null"])
+        traci.start([*words, "--vehroute-output", "/dev/null", "--end", "01:30:00"])
+        self.assertEqual(traci.simulation.getEndTime(), 5400.0)
         self.assertEqual(traci.simulation.getOption("log"), str(self.folder / "log.txt"))
         traci.simulationStep(60)
         self.assertEqual(traci.vehicle.getIDList(), ("later",))

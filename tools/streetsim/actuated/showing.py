@@ -14,9 +14,10 @@ from streetsim.base import limits
 from streetsim.base.report import Report
 from streetsim.model.mapping import Map
 from streetsim.model.runs import Command
+from streetsim.sumo.crossing import Movement, movements_of
 from streetsim.sumo.net import Program
 from streetsim.sumo.signals import Green, LitNode, green_seconds, joined
-from streetsim.sumo.yielding import Movement, movements_of, settle
+from streetsim.sumo.yielding import settle
 
 WEIGHT = 0.2  # of the newest length in a phase's mean, chosen at eight rows of four networks
 Lengths = tuple[int, ...]  # seconds of each phase of a cycle

@@ -13,8 +13,8 @@ from streetsim.base import limits
 from streetsim.model.mapping import Map
 from streetsim.model.runs import Command
 from streetsim.model.timing import runs_of
+from streetsim.sumo.crossing import GREEN as FIRST, OPEN, STOPPED
 from streetsim.sumo.signals import Green, LitNode, green_seconds
-from streetsim.sumo.yielding import GREEN as FIRST, OPEN, STOPPED
 
 LIT = FIRST + OPEN + STOPPED  # letters of a signal that some pass
 Times = list[tuple[RingPhase, int]]  # by second: a phase, and what it shows

@@ -7,7 +7,7 @@ from itertools import groupby
 from streetsim.model.mapping import Map, Place
 from streetsim.model.waiting import TurnKey, Waiting
 from streetsim.run.gaps import Passed
-from streetsim.sumo.yielding import passing_here
+from streetsim.sumo.greens import passing_here
 
 PART = 900  # seconds, of which each is looked at alone
 LIMIT = 2  # cells a step of the links whose queues are reckoned with

@@ -9,11 +9,11 @@ from streetsim.model.mapping import Map, MapLink, MapTurn
 from streetsim.model.runs import Command, Run
 from streetsim.signals.plans import Light, Timing
 from streetsim.sumo.additional import read_additional
+from streetsim.sumo.crossing import hourly_flows
 from streetsim.sumo.net import Program, SumoNet, connections_of, read_net
 from streetsim.sumo.signals import LitNode, movements_of_junction, signal
 from streetsim.sumo.slowing import slowed
 from streetsim.sumo.types import Types
-from streetsim.sumo.yielding import hourly_flows
 
 
 class Flowing:

@@ -8,7 +8,7 @@ from streetsim.actuated.logic import Actuated
 from streetsim.simulation.errors import TraCIException
 from streetsim.simulation.shown import CONSTANT
 from streetsim.simulation.simulation import Simulation
-from streetsim.sumo.yielding import PERMISSIVE
+from streetsim.sumo.crossing import PERMISSIVE
 
 STATES = "rRyYgGsSuUoO"
 

@@ -5,9 +5,9 @@ from streetsim.base import limits
 from streetsim.base.report import Report
 from streetsim.model.mapping import Map, MapTurn
 from streetsim.simulation.fleet import Command
+from streetsim.sumo.crossing import GREEN
 from streetsim.sumo.net import Program
 from streetsim.sumo.signals import LitNode, TooLong, cycle_told, phase_lines, signal
-from streetsim.sumo.yielding import GREEN
 
 NOTHING: Command = {}
 CONSTANT = 600  # seconds of a phase that is shown until the next is set

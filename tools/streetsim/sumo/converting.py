@@ -9,6 +9,7 @@ from streetsim.base.report import Report
 from streetsim.model.mapping import Map, MapLink, MapTurn
 from streetsim.model.runs import Command
 from streetsim.sumo.conflicts import conflicts_of
+from streetsim.sumo.crossing import hourly_flows
 from streetsim.sumo.demand import Vehicle, enters, kinds_of
 from streetsim.sumo.detectors import placed
 from streetsim.sumo.net import SumoNet, actuated
@@ -20,7 +21,7 @@ from streetsim.sumo.slowing import slowed
 from streetsim.sumo.timings import warn_of_clashes
 from streetsim.sumo.types import Types
 from streetsim.sumo.wauts import day_lines, days_of, sensing, switches_of
-from streetsim.sumo.yielding import equivalents, hourly_flows
+from streetsim.sumo.yielding import equivalents
 
 # The network, its lights with their nodes, the commands of the run, the names of its vehicles.
 Made = tuple[Network, list[tuple[str, int]], list[Command], list[str]]

@@ -11,13 +11,12 @@ from streetsim.model.mapping import MapTurn
 from streetsim.model.runs import Command
 from streetsim.model.timing import runs_of, states_of
 from streetsim.model.waiting import TurnKey
+from streetsim.sumo.crossing import GREEN, OPEN, STOPPED, Movement, movements_of
+from streetsim.sumo.greens import TWO_PARTS, hidden_middle, hidden_start, places, places_in_red
 from streetsim.sumo.losses import Flows
 from streetsim.sumo.net import NEMA, Connection, Program, SumoNet, connections_of
 from streetsim.sumo.network import Network, Turn
-from streetsim.sumo.yielding import (
-    GREEN, OPEN, STOPPED, TWO_PARTS, Movement, hidden_middle, hidden_start, movements_of, places,
-    places_in_red, settle,
-)
+from streetsim.sumo.yielding import settle
 
 Green = frozenset[TurnKey]
 AtLight = tuple[int, int, int, Turn | MapTurn]  # link, lane, next link

@@ -4,6 +4,7 @@ from collections.abc import Iterable, Sequence
 from dataclasses import dataclass
 from math import hypot
 
+from streetsim.base.files import seconds
 from streetsim.simulation.calls import SimulationCalls
 from streetsim.simulation.errors import NotHere, TraCIException
 from streetsim.simulation.saving import load_state, save_state
@@ -63,8 +64,8 @@ class Simulation(Domain, SimulationCalls[Session]):
 
     def getEndTime(self) -> float:
         """The end that the command's words or the configuration name, seconds; it ends nothing under a script. -1 where
-        they name none; ValueError where they write it as HH:MM:SS."""
-        return float(self.now().options.get("end", -1.0))
+        they name none; ValueError where theirs is no time."""
+        return seconds(self.now().options.get("end", "-1"))
 
     def getScale(self) -> float:
         """1.0: the demand is as in the files."""

@@ -1,0 +1,202 @@
+"""The movements of a junction over one cycle of its light: when each has green, to whom it gives way, who is on its lane.
+
+The seconds of a cycle are bits of a number, second 0 the lowest.
+"""
+from __future__ import annotations
+
+from collections import Counter, defaultdict
+from collections.abc import Collection, Iterable, Mapping, Sequence
+from dataclasses import dataclass, field
+from itertools import pairwise
+from typing import Any
+
+from streetsim.model.timing import runs_of
+from streetsim.sumo.greens import USUAL_SPEED, headway
+from streetsim.sumo.heads import Heads
+from streetsim.sumo.net import Connection
+
+Way = tuple[str, str]  # an edge and the next one
+Meeting = tuple[int, tuple["Movement", ...]]  # seconds, and the foes that are green in them
+LEAST_SHARE = 0.02  # of a lane's vehicles wait, also where routes have fewer
+GREEN, OPEN, STOPPED = "GO", "go", "s"  # goes first; when there is a gap; the same after a stop, as right on red
+PERMISSIVE, SHOWN = OPEN + STOPPED, GREEN + OPEN
+
+
+def hourly_flows(vehicles: Iterable[Any]) -> dict[Way, float]:
+    """Vehicles an hour by (edge, next edge), over the time in which vehicles depart, which counts as 900 s at least.
+    vehicles: a list or the like, as it is gone over twice, of anything with edges and depart (seconds)."""
+    flows: Counter[Way] = Counter()
+    for vehicle in vehicles:
+        flows.update(pairwise(vehicle.edges))
+    departs = [vehicle.depart for vehicle in vehicles]
+    hours = max(900.0, max(departs) - min(departs)) / 3600 if departs else 1.0
+    return {movement: count / hours for movement, count in flows.items()}
+
+
+@dataclass(slots=True, eq=False)
+class Movement:
+    """A connection over one cycle of its light: when it has green, to whom it gives way, and how many vehicles pass."""
+
+    way: Way
+    lane: tuple[str, int]  # edge, lane
+    index: int | None  # in the light's state
+    cycle: int  # seconds
+    sure: int  # the seconds in which it goes first
+    green: int  # these and those in which it gives way
+    begins: list[tuple[int, int]]  # of the greens: (second, seconds of red before it)
+    flow: float  # vehicles an hour that wish to pass
+    passing: float  # vehicles an hour that do
+    headway: float  # seconds between vehicles of a queue, in SUMO
+    limit: int  # of its link, cells a step
+    runs: dict[int, int]  # first second of a permissive green: its length
+    # First second of a red in which one may go after a stop: its length.
+    stops: dict[int, int] = field(default_factory=dict)
+    foes: list[Movement] = field(default_factory=list)  # that it gives way to
+    meets: dict[int, list[Meeting]] = field(default_factory=dict)  # by first second of a permissive green
+    # By first second of a permissive green: how many seconds of it are shown.
+    shown: dict[int, int] = field(default_factory=dict)
+    parts: int = 1  # in which they are shown
+    sharing: list[Movement] = field(default_factory=list)  # its lane, with it
+    lanes: int = 1  # of its edge
+    share: float = 1.0  # of the vehicles on its lane that wait for gaps
+    beside: float = 0.0  # seconds between vehicles of a queue of those on its lane that do not
+    heads: Heads | None = None  # its lane and the one that faces it, where some wait on both
+    opposite: tuple[str, int] | None = None  # the lane that faces it
+
+    @property
+    def waits(self) -> bool:
+        """Whether its vehicles wait for gaps: it has permissive greens (in which it gives way), and foes."""
+        return bool(self.runs and self.foes)
+
+    @property
+    def shown_open(self) -> int:
+        """How many seconds of its permissive greens are shown, in all; shown must be set (settle)."""
+        return sum(self.shown[start] for start in self.runs)
+
+
+def movements_of(
+    connections: Sequence[Connection],
+    states: Sequence[str],
+    yields: Mapping[int, Iterable[int]],
+    flows: Mapping[Way, float],
+    limits_of: Mapping[str, int],
+) -> dict[int, Movement]:
+    """The movements of a junction, by the connections' requests, of which none is None; their shown is set by settle.
+    states: of its light, one for each second; yields: by request those that it gives way to; flows: vehicles an hour by
+    (edge, next edge); limits_of: cells a step, by edge."""
+    sharing = Counter((connection.source, connection.target) for connection in connections)
+    found = {}
+    for connection in connections:
+        way = connection.source, connection.target
+        flow = flows.get(way, 0.0) / sharing[way]
+        assert connection.request is not None
+        found[connection.request] = movement_of(connection, states, flow, limits_of[connection.source])
+    for request, movement in found.items():
+        before = (foe for foe in sorted(yields.get(request, ())) if foe in found and found[foe].flow)
+        movement.foes = [found[foe] for foe in before if not wait_together(request, foe, found, yields)]
+        runs = {**movement.runs, **movement.stops}
+        movement.meets = {start: meetings(movement, start, length) for start, length in runs.items()}
+    for movement in found.values():
+        set_lane(movement, found.values())
+    for movement in found.values():
+        set_heads(movement)
+    return found
+
+
+def wait_together(one: int, other: int, found: Mapping[int, Movement], yields: Mapping[int, Iterable[int]]) -> bool:
+    """Whether two requests are turns of permissive greens that face each other: each gives way to others of the other's
+    edge. Neither waits for the other, as both stand inside the junction and wait for those others."""
+    return all(
+        found[own].runs
+        and any(foe != its and foe in found and found[foe].way[0] == found[its].way[0] for foe in yields.get(own, ()))
+        for own, its in ((one, other), (other, one))
+    )
+
+
+def set_heads(movement: Movement) -> None:
+    """Sets the lane that faces a movement's, and how their heads wait for each other: where each is the only one of its
+    edge, and on both some wait for the other in a permissive green. What all know of their lanes must be set."""
+    lanes = {foe.lane: foe for one in movement.sharing for foe in one.foes if foe.green & one.green & ~one.sure}
+    facing = [foe for foe in lanes.values() if waiting_share(foe.sharing, movement.sharing)]
+    if movement.lanes == 1 and len(facing) == 1 and facing[0].lanes == 1:
+        movement.opposite = facing[0].lane
+        movement.heads = heads_of(movement.sharing, facing[0].sharing)
+
+
+def heads_of(own: Sequence[Movement], other: Sequence[Movement]) -> Heads | None:
+    """The heads of two lanes, by the movements of each; None where nobody of one waits for the other."""
+    sides = (own, other), (other, own)
+    first, second = (waiting_share(*side) for side in sides)
+    if not (first and second):
+        return None
+    whole = [sum(one.flow for one in side) for side in (own, other)]
+    own_waits, other_waits = (
+        sum(one.flow * foe.flow for one in side if one.waits for foe in one.foes if foe in against)
+        / (whole[0] * whole[1])
+        for side, against in sides
+    )
+    each = sum(one.flow * one.headway for one in (*own, *other)) / sum(whole)
+    return Heads((own_waits, other_waits), (1 - own_waits / first, 1 - other_waits / second), each)
+
+
+def waiting_share(own: Sequence[Movement], other: Sequence[Movement]) -> float:
+    """The share, 0 to 1, of the vehicles of a lane that wait for some of another one in a permissive green, by the
+    movements of both."""
+    whole = sum(one.flow for one in own)
+    waiting = sum(one.flow for one in own if one.waits and any(foe in other for foe in one.foes))
+    return waiting / whole if whole else 0.0
+
+
+def set_lane(movement: Movement, movements: Collection[Movement]) -> None:
+    """Sets what a movement knows of its lane, of all movements of the junction: who shares it, how many lanes its edge
+    has, in how many parts its seconds are shown (two where others on its lane need not wait, at an edge of several
+    lanes), the share that waits for gaps, and the seconds between those who do not."""
+    movement.lanes = len({other.lane for other in movements if other.way[0] == movement.way[0]})
+    movement.sharing = [other for other in movements if other.lane == movement.lane]
+    movement.parts = 2 if movement.lanes > 1 and any(one.flow and not one.runs for one in movement.sharing) else 1
+    going = [one for one in movement.sharing if not one.waits]
+    whole, free = (sum(one.flow for one in group) for group in (movement.sharing, going))
+    movement.share = max(LEAST_SHARE, 1 - free / whole) if whole else 1.0
+    movement.beside = sum(one.flow * one.headway for one in going) / free if free else movement.headway
+
+
+def movement_of(connection: Connection, states: Sequence[str], flow: float, limit: int) -> Movement:
+    """The movement of one connection, without its foes and lane. states: of its light, one for each second; flow:
+    vehicles an hour; limit: of its link, cells a step."""
+    lit, cycle = connection.light is not None, len(states)
+    own = "".join(state[connection.index] for state in states) if lit else "G" * cycle
+    return Movement(
+        way=(connection.source, connection.target),
+        lane=(connection.source, connection.source_lane),
+        index=connection.index if lit else None,
+        cycle=cycle,
+        sure=seconds_of(own, GREEN),
+        green=seconds_of(own, SHOWN),
+        begins=[(start, red_before(own, start)) for start, _ in runs_of(own, SHOWN) if own[start - 1] not in SHOWN],
+        flow=flow,
+        passing=flow,
+        headway=headway(connection.speed or USUAL_SPEED),
+        limit=limit,
+        runs=dict(runs_of(own, OPEN)),
+        stops=dict(runs_of(own, STOPPED)),
+    )
+
+
+def seconds_of(states: str, shown: str) -> int:
+    """The seconds of a cycle, as bits, whose state is one of shown; states: a letter for each second."""
+    return sum(1 << second for second, state in enumerate(states) if state in shown)
+
+
+def red_before(states: str, start: int) -> int:
+    """How many seconds without green end where a green begins, at start. Some second must have green."""
+    return next(steps for steps in range(len(states)) if states[start - steps - 1] in SHOWN)
+
+
+def meetings(movement: Movement, start: int, length: int) -> list[Meeting]:
+    """The seconds of a permissive green of length seconds from start, [(seconds as bits, foes that have green in
+    them)]; the movement's foes must be set."""
+    found: defaultdict[tuple[Movement, ...], int] = defaultdict(int)
+    for second in range(start, start + length):
+        place = second % movement.cycle
+        found[tuple(foe for foe in movement.foes if foe.green >> place & 1)] |= 1 << place
+    return [(seconds, foes) for foes, seconds in found.items()]

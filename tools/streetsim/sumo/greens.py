@@ -1,0 +1,80 @@
+"""How many vehicles of a queue pass a junction in some seconds of green, in SUMO and here, and which seconds of a green
+are shown, so that as many pass here. The values were measured in SUMO and here at a lone cross, under a queue that does
+not end."""
+from functools import cache
+
+BEHIND, ROOM = 1.42, 7.5  # in SUMO (g - start) / (BEHIND + ROOM / speed) pass in a green of g seconds, where the
+EARLY, ACCELERATION = 1.87, 2.6  # start is what a vehicle loses that speeds up, speed / (2 * ACCELERATION), less EARLY
+HEADWAYS, AHEAD = (3.0, 2.07, 1.89, 1.83, 1.83), 1.35  # here (g + AHEAD) / HEADWAYS, by the link's limit;
+SHORT = (0.8, 0.97, 1.68, 2.45, 2.82, 3.37)  # in 1 to 6 seconds so many
+TWO_PARTS = 9  # seconds of green, from which on seconds in its middle hold a queue up as wanted
+USUAL_SPEED = 13.9  # metres a second, where a junction's is not known
+START = USUAL_SPEED / (2 * ACCELERATION) - EARLY  # seconds until a queue moves that drives straight on, in SUMO
+
+
+def headway(speed: float) -> float:
+    """Seconds between vehicles of a queue that pass a junction in SUMO; speed: metres a second, above 0."""
+    return BEHIND + ROOM / speed
+
+
+def leaving(green: float, speed: float) -> float:
+    """How many vehicles leave a queue in SUMO in so many seconds of green, one at least; speed: inside the junction,
+    metres a second."""
+    return max(1.0, (green - speed / (2 * ACCELERATION) + EARLY) / headway(speed))
+
+
+def green_here(vehicles: float, limit: int) -> int:
+    """The seconds of green in which so many vehicles leave a queue in streetsim; limit: of their link, cells a step."""
+    short = next((second for second, passing in enumerate(SHORT, 1) if passing >= vehicles - 0.1), None)
+    return short or round(vehicles * HEADWAYS[limit - 1] - AHEAD)
+
+
+def passing_here(seconds: int, limit: int) -> float:
+    """How many vehicles leave a queue in streetsim in so many seconds of green (1 or more); limit: of their link, cells
+    a step."""
+    return SHORT[seconds - 1] if seconds <= len(SHORT) else (seconds + AHEAD) / HEADWAYS[limit - 1]
+
+
+def hidden_start(length: int, speed: float, limit: int) -> int:
+    """How many seconds at the begin of a green of length seconds are not shown, so that as many pass here as in SUMO,
+    where a queue starts later and turns are slower. speed: metres a second; limit: cells a step."""
+    return max(0, length - green_here(leaving(length, speed), limit))
+
+
+@cache
+def hidden_middle(length: int, speed: float, limit: int) -> tuple[int, int]:
+    """The seconds that are not shown in a green of length seconds, (begin, end) counted from its begin: from its half
+    on, so that as many pass here as in SUMO; who has waited alone for its begin then goes at once, as in SUMO. As a
+    queue starts twice they are more seconds than at the begin. A green below TWO_PARTS has them at its begin. speed:
+    metres a second; limit: cells a step."""
+    if length < TWO_PARTS:
+        return 0, hidden_start(length, speed, limit)
+    half, vehicles = length // 2, leaving(length, speed)
+
+    def off(pause: int) -> float:
+        """How far the vehicles that pass here, with pause seconds in the middle left out, are from SUMO's; not below
+        0."""
+        passing = passing_here(length, limit)
+        if pause:
+            passing = passing_here(half, limit) + passing_here(length - half - pause, limit)
+        return abs(passing - vehicles)
+
+    return half, half + min((0, *range(2, length - half)), key=off)
+
+
+def places(length: int, seconds: int, parts: int) -> list[tuple[int, int]]:
+    """Where seconds of a permissive green of length seconds are shown, (begin, end) from its begin: at its end, as
+    those who are given way to go first; or in parts with equal waits before them, so that a vehicle that waits holds
+    its lane up for less long."""
+    parts = parts if 2 * parts <= seconds <= 0.9 * length else 1
+    wait, shown = (length - seconds) / parts, seconds / parts
+    return [(round((at + 1) * wait + at * shown), round((at + 1) * (wait + shown))) for at in range(parts)]
+
+
+def places_in_red(length: int, seconds: int) -> list[tuple[int, int]]:
+    """Where seconds of a red of length seconds are shown to those who may go after a stop, (begin, end) from its begin:
+    evenly spread, by twos."""
+    parts = max(1, seconds // 2)
+    sizes = [seconds // parts + (at < seconds % parts) for at in range(parts)] if seconds else []
+    begins = [int((at + 1) * length / (parts + 1) - size / 2) for at, size in enumerate(sizes)]
+    return [(begin, begin + size) for begin, size in zip(begins, sizes, strict=True)]
