@@ -13,7 +13,7 @@ from streetsim.junctions.passages import queue_metres
 from streetsim.model.mapping import MapLink
 from streetsim.model.service import COLOURS, LIGHT
 from streetsim.model.tables import APPROACHES, JUNCTIONS, MOVEMENTS, SEEDS, TRIPS, write_table
-from streetsim.reports.comparing import paired, total_delay
+from streetsim.reports.comparing import paired, mean_delay
 from streetsim.reports.drawing import anchor, queue_picture
 from streetsim.results.reading import read_runs
 
@@ -116,7 +116,7 @@ class Pages(Given):
         runs = read_runs(str(self.folder / "before"))
         row = runs.rows["movements", 0, 900]["B", "a", "b"]
         self.assertEqual((row.delay, row.letter(), list(runs.folders)), (92.0, "F", [1, 2]))
-        self.assertEqual(total_delay(runs.rows["junctions", 0, 900].values()), {1: 90.0, 2: 94.0})
+        self.assertEqual(mean_delay(runs.rows["junctions", 0, 900].values()), {1: 90.0, 2: 94.0})
         self.assertEqual((runs.busiest(), runs.mean_trips()), ((0, 900), {1: 101.0, 2: 102.0}))
 
     def test_what_the_page_says(self):

@@ -12,9 +12,10 @@ from streetsim.base import program
 from streetsim.base.files import Fault, open_text, reading
 from streetsim.base.progress import Slow
 from streetsim.base.words import Parser, add_jobs, within
-from streetsim.cli.checking import folder_again, is_study, seeds_words, study_again
+from streetsim.cli.checking import folder_again, seeds_words, study_again
 from streetsim.cli.report import text_again
 from streetsim.cli.run import main as run
+from streetsim.cli.study import MADE
 from streetsim.model.folder import LIGHTS
 from streetsim.model.sources import digest_of
 from streetsim.reports.elements import Mismatch, differences, numbers_in
@@ -47,7 +48,7 @@ def main(arguments: list[str]) -> int:
     a run, else 1. Fault for words that do not fit, and for a target that does not keep what made it."""
     words = parser().parse_args(arguments)
     words.program = program.find_program(words.program)
-    study = os.path.isdir(words.target) and is_study(words.target)
+    study = os.path.exists(f"{words.target}/{MADE}")
     if words.study and not study:
         raise Fault("--study is of a study's folder")
     if os.path.isdir(words.target):

@@ -42,11 +42,6 @@ def folder_again(words: argparse.Namespace, out: str) -> str:
     return f"{out}/seed-{plan['seeds'][0]}" if seeds and os.path.exists(f"{words.target}/{NAME}") else out
 
 
-def is_study(folder: str) -> bool:
-    """Whether a folder was written by streetsim-study."""
-    return os.path.exists(f"{folder}/{MADE}")
-
-
 def study_again(words: argparse.Namespace, out: str) -> str:
     """Makes the study of the folder `words.target` again, into `out`, which it gives; Fault where its file is gone or
     has changed since."""

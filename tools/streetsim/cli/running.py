@@ -55,7 +55,9 @@ def run_by(words: argparse.Namespace, given: Sequence[str], again: Sequence[str]
         raise Fault(f"--until {settings.until}: the run starts at {run.start()}")
     if not settings.open_end:
         refuse_no_poll(settings, run.start())
-    making = replace(making_of(words), again=by_which(run, given, again))
+    simulator = program.find_program(words.program)
+    more = words.rounds, words.workers, words.jobs, words.sumo_output, words.junctions
+    making = Making(simulator, *more, by_which(run, given, again))
     if words.stops == "made":
         settings = replace(settings, buses=planned(run, mapping))
     if words.lights == "actuated" and mapping.actuated:
@@ -117,13 +119,6 @@ def settings_of(words: argparse.Namespace, run: Run) -> Settings:
         open_end=words.until is None,
         merging=words.merge == "turns",
     )
-
-
-def making_of(words: argparse.Namespace) -> Making:
-    """How the words ask for a run to be made: by which program, and with which outputs; Fault where there is no
-    program."""
-    simulator = program.find_program(words.program)
-    return Making(simulator, words.rounds, words.workers, words.jobs, words.sumo_output, words.junctions)
 
 
 def refuse_unknown(words: argparse.Namespace, settings: Settings, mapping: Map) -> None:

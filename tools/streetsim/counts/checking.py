@@ -7,7 +7,7 @@ from typing import NamedTuple
 
 from streetsim.base.files import Fault
 from streetsim.base.report import some
-from streetsim.counts.values import Count, Zone, overlapping
+from streetsim.counts.values import Count, overlapping
 from streetsim.sumo.net import SumoNet
 from streetsim.ways.graph import Graph
 
@@ -74,12 +74,6 @@ def check_periods(counts: Sequence[Count]) -> None:
         same = (first.begin, first.end) == (second.begin, second.end)
         how = "counted a second time in this period" if same else f"counted already until {first.end:,} s"
         raise Fault(f"{second.where}: {second.place()} is {how} (as {first.where})")
-
-
-def check_zone_edges(zones: Mapping[str, Zone], net: SumoNet) -> None:
-    """Fault for zones with edges that the network does not have, or on which none of the classes may drive."""
-    for zone in zones.values():
-        check_edges([*zone.sources, *zone.sinks], zone.where, net)
 
 
 NOWHERE: frozenset[int] = frozenset()

@@ -137,7 +137,8 @@ def read_matrix(asked: Asked, counts: Sequence[Count], town: Town) -> tuple[dict
     a zone. Cells without a period have that from the first begin to the last end of counts. Fault for zones or edges
     that are not known, and for a matrix without a vehicle."""
     zones = read_zones(asked.zones)
-    checking.check_zone_edges(zones, town.net)
+    for zone in zones.values():
+        checking.check_edges([*zone.sources, *zone.sinks], zone.where, town.net)
     period = (min(one.begin for one in counts), max(one.end for one in counts)) if counts else None
     cells = matrices.read_matrices(asked.matrices, period)
     if cells and not zones:

@@ -1,7 +1,6 @@
 """What a page tells of a network beside its map: names of streets and areas of junctions; and when vehicles would end
 if nobody were in their way."""
 import os
-from collections.abc import Iterable
 
 from streetsim.base.files import Fault, FilePath, elements
 from streetsim.model.freeflow import Alone
@@ -26,15 +25,10 @@ def streets_and_areas(mapping: Map, map_path: FilePath) -> tuple[dict[str, str],
             if element.tag == "edge" and name:
                 names.setdefault(own, name)
             elif element.tag == "junction" and shape and not own.startswith(":"):
-                areas[own] = points_of(shape.split())
+                areas[own] = [[float(value) for value in text.split(",")[:2]] for text in shape.split()]
     except (Fault, ValueError):
         return names, {}
     return names, areas
-
-
-def points_of(texts: Iterable[str]) -> Area:
-    """The points [x, y] of a shape's texts "x,y" or "x,y,z", in metres."""
-    return [[float(value) for value in text.split(",")[:2]] for text in texts]
 
 
 def departures_and_ends(run: Run, mapping: Map) -> tuple[list[int], list[int]]:

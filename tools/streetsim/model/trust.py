@@ -3,7 +3,6 @@
 The marks are chosen, not measured: above them a run is of another town than the one that was asked for.
 """
 import json
-from bisect import bisect_right
 from collections import Counter
 from collections.abc import Iterable, Iterator, Mapping, Sequence
 from dataclasses import dataclass
@@ -79,11 +78,6 @@ def free_arrivals(run: Run, mapping: Map) -> list[float]:
     green."""
     free_flow = FreeFlow(mapping, run.load.command["dawdle"] / 1000)
     return sorted(line.command["depart"] + free_flow(line.command["plan"]) for line in run.enters)
-
-
-def due_at(clock: int, run: Run, mapping: Map) -> int:
-    """How many vehicles of a run would have arrived by a clock, were nobody in their way."""
-    return bisect_right(free_arrivals(run, mapping), clock)
 
 
 def of_missing(arrived: Mapping[str, float], due: float) -> list[str]:

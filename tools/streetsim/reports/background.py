@@ -72,8 +72,3 @@ def warnings(all_runs: Sequence[Runs]) -> str:
             left = len(those) - len(told)
             parts.append(f"<h3>{title}</h3>" + bullets([*told, *([f"{left:,} more: warnings.csv"] if left else [])]))
     return "".join(parts) or "<p>The import had nothing to warn of.</p>"
-
-
-def assumptions() -> str:
-    """What the simulation assumes, as an HTML list."""
-    return bullets(ASSUMPTIONS)

@@ -43,8 +43,8 @@ def by_seed(row: Row, name: str) -> dict:
     return {seed: values[name] for seed, values in row.by_seed.items() if name in values}
 
 
-def total_delay(rows: Iterable[Row]) -> dict:
-    """{seed: mean (no total) control delay, seconds a vehicle, over all vehicles of some rows}; seeds without vehicles
+def mean_delay(rows: Iterable[Row]) -> dict:
+    """{seed: mean control delay, seconds a vehicle, over all vehicles of some rows}; seeds without vehicles
     are left out."""
     sums: dict[int, tuple[float, float]] = {}
     for row in rows:

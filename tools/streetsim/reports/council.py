@@ -3,16 +3,15 @@ from collections.abc import Sequence
 from html import escape
 
 from streetsim.base.report import HEAVY
-from streetsim.model.names import Names
 from streetsim.model.service import COLOURS
 from streetsim.reports import works
 from streetsim.reports.choosing import Told, told_of
-from streetsim.reports.comparing import Difference, paired, total_delay
+from streetsim.reports.comparing import mean_delay, paired
 from streetsim.reports.costs import NOTICED, Costs, Means, costs_of, means_by_class
 from streetsim.reports.drawing import letter_mark, map_picture
 from streetsim.reports.markup import bullets, change_told, clock, mean_told, table
 from streetsim.reports.saying import change_in_words, number, several
-from streetsim.results.reading import Row, Runs
+from streetsim.results.reading import Runs
 
 Interval = tuple[int, int]  # begin and end, seconds
 MOST_GROUPS = 6  # flows in the table of trips
@@ -59,15 +58,10 @@ def doubts_of(runs: Runs) -> list[str]:
     return [f"seed {seed}: {doubt}" for seed, folder in runs.folders.items() for doubt in folder.doubts]
 
 
-def delay_change(plans: Sequence[Runs], shown: Interval) -> Difference | None:
-    """The change, over seeds, of the mean control delay, seconds, of all vehicles at all junctions from the first of
-    two plans to the second; none without a common seed."""
-    return paired(*(total_delay(runs.rows["junctions", *shown].values()) for runs in plans))
-
-
 def change_verdict(plans: Sequence[Runs], shown: Interval) -> str:
     """What the second of two plans changes for trips and delays, as plain text."""
-    trip, delay = paired(*(runs.mean_trips() for runs in plans)), delay_change(plans, shown)
+    trip = paired(*(runs.mean_trips() for runs in plans))
+    delay = paired(*(mean_delay(runs.rows["junctions", *shown].values()) for runs in plans))
     first, name = "Nothing can be said of trips, as nobody arrived.", plans[1].name
     if trip:
         means = f"{trip.after:.1f} s on average, and {trip.before:.1f} s with '{plans[0].name}'"
@@ -84,7 +78,7 @@ def change_verdict(plans: Sequence[Runs], shown: Interval) -> str:
 
 def state_verdict(runs: Runs, shown: Interval) -> str:
     """How long trips and delays are with one plan, and how many junctions are worse than D, as plain text."""
-    delays = total_delay(runs.rows["junctions", *shown].values())
+    delays = mean_delay(runs.rows["junctions", *shown].values())
     rows = junctions_of([runs], shown)
     bad = [one for one in rows if one.is_bad]
     trip = f"A trip takes {mean_told(runs.mean_trips().values())} s on average"
@@ -99,14 +93,14 @@ def state_verdict(runs: Runs, shown: Interval) -> str:
 def map_section(runs: Runs, shown: Interval, rows: Sequence[Told] = (), detailed: int = 0) -> str:
     """The map of a plan in an interval by level of service, with its legend, as HTML. rows: of junctions, which are
     marked where they change; the first `detailed` of them are links to their sections."""
-    names = runs.names
+    names, told = runs.names, runs.names.junction_told
     approaches = {
         row.key[1]: (row.letter(), f"{row.key[1]} {names.approach(row.key[1])}: {row.delay:.1f} s, {row.letter()}")
         for row in runs.rows["approaches", *shown].values()
     }
     linked = {one.key[0] for one in rows[:detailed]}
     junctions = {
-        row.key[0]: (row.letter(), junction_text(row, names), row.key[0] in linked)
+        row.key[0]: (row.letter(), f"{told(row.key[0])}: {row.delay:.1f} s, {row.letter()}", row.key[0] in linked)
         for row in runs.rows["junctions", *shown].values()
     }
     signs = {one.key[0]: one.change.change for one in rows if one.changes and one.change}
@@ -115,13 +109,8 @@ def map_section(runs: Runs, shown: Interval, rows: Sequence[Told] = (), detailed
     picture = map_picture(runs.first.mapping, approaches, junctions, signs, closed)
     more = "; &#9650; waits more and &#9660; less than before, for sure" if signs else ""
     more += "; black: road works" if closed else ""
-    told = f"{escape(runs.name)}: approaches and junctions by level of service {legend}{more}"
-    return f"<figure>{picture}<figcaption>{told}</figcaption></figure>"
-
-
-def junction_text(row: Row, names: Names) -> str:
-    """What a junction's mark on the map says of it: name, delay, letter."""
-    return f"{names.junction_told(row.key[0])}: {row.delay:.1f} s, {row.letter()}"
+    caption = f"{escape(runs.name)}: approaches and junctions by level of service {legend}{more}"
+    return f"<figure>{picture}<figcaption>{caption}</figcaption></figure>"
 
 
 def costs(plans: Sequence[Runs], shown: Interval) -> str:

@@ -6,7 +6,7 @@ from html import escape
 from streetsim.reports import background, council, junctions, works
 from streetsim.reports.choosing import Told
 from streetsim.reports.council import Interval
-from streetsim.reports.markup import Section, clock, page
+from streetsim.reports.markup import Section, bullets, clock, page
 from streetsim.results.reading import Runs
 
 
@@ -62,7 +62,7 @@ def appendix_of(
     yield from wishes.pictures
     yield Section("run", "What was run", background.what_was_run(plans))
     yield Section("warnings", "What the import said", background.warnings(plans))
-    yield Section("assumptions", "Assumptions", background.assumptions())
+    yield Section("assumptions", "Assumptions", bullets(background.ASSUMPTIONS))
 
 
 def details(runs: Runs, shown: Interval, rows: Iterable[Told], count: int) -> str:

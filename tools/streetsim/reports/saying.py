@@ -14,10 +14,9 @@ def several(count: int, one: str, many: str = "") -> str:
     return f"{number(count)} {one if count == 1 else many or one + 's'}"
 
 
-def less_or_more(change: float, unit: str = "s") -> str:
-    """A change with its size and direction, one decimal: '17.9 s less'; 0 is 'more'. unit: what stands behind the
-    number."""
-    return f"{abs(change):.1f} {unit} {'less' if change < 0 else 'more'}"
+def less_or_more(change: float) -> str:
+    """A change in seconds with its size and direction, one decimal: '17.9 s less'; 0 is 'more'."""
+    return f"{abs(change):.1f} s {'less' if change < 0 else 'more'}"
 
 
 def between(one: Difference) -> str:

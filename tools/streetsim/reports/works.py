@@ -56,17 +56,13 @@ def rows_of(folder: Folder) -> list[dict[str, str]]:
 def note_queues(folder: Folder, places: Sequence[Seen]) -> None:
     """Adds to `queues` of each place of works the metres of the queue before it at each poll of a run while they last;
     0 where none is listed."""
-    queues = {(row["edge"], row["lane"], int(row["time"])): float(row["metres"]) for row in before_works(folder)}
+    rows = (row for row in folder.queues() if row["before"] == tables.BEFORE_WORKS)
+    queues = {(row["edge"], row["lane"], int(row["time"])): float(row["metres"]) for row in rows}
     for seen in places:
         edge, lane, *_ = seen.place
         first, last = min(begin for begin, _ in seen.rows), max(end for _, end in seen.rows)
         for time in polls(folder, first, last):
             seen.queues[time].append(queues.get((edge, lane, time), 0.0))
-
-
-def before_works(folder: Folder) -> Iterable[dict[str, str]]:
-    """The rows of queues.csv that are of queues before works."""
-    return (row for row in folder.queues() if row["before"] == tables.BEFORE_WORKS)
 
 
 def polls(folder: Folder, first: int, last: int) -> range:

@@ -5,6 +5,7 @@ from dataclasses import dataclass, field, replace
 from statistics import fmean
 
 from streetsim.base import limits
+from streetsim.base.files import Fault
 from streetsim.routes.closing import Closing, turn_off
 from streetsim.routes.giving import Passed
 from streetsim.routes.loading import Loaded, Town
@@ -13,7 +14,7 @@ from streetsim.routes.watching import Ground, Outcome
 from streetsim.ways.costs import Costs, costs_of, flat_costs, mean_of
 from streetsim.ways.empty import times_without_routes
 from streetsim.ways.router import FAR, Found, Path, Wish
-from streetsim.ways.start import first_ways, no_way
+from streetsim.ways.start import first_ways
 from streetsim.ways.trips import Trip
 
 LEAST_GAIN = 0.5  # seconds for which a trip changes its way
@@ -141,7 +142,8 @@ class Search:
         if any(not trip.path for trip in self.trips):
             free, capacity = times_without_routes(self.town.net, self.town.graph, self.town.options)
             if lost := first_ways(self.town.graph, self.trips, free, capacity, seed, self.team.search):
-                raise no_way(self.town.graph, lost[0])
+                trip, edges = lost[0], self.town.graph.edges
+                raise Fault(f"trip {trip.name!r}: no way from {edges[trip.origin]} to {edges[trip.target]}")
 
     def improve(self, asked: Asked) -> None:
         """Searches until asked.iterations are done, the gap is well below asked.gap (OWN_SEED of it) or told gives

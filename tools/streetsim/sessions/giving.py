@@ -1,7 +1,6 @@
 """Giving way without a light in studies and searches: rounds are made where a run is done,
 with its signals and its seed."""
 import json
-from collections.abc import Iterator
 from dataclasses import replace
 from functools import partial
 
@@ -122,10 +121,4 @@ def open_outcome(session: Session, lines: list, signals: bytes, seed: int) -> Ou
 def with_signals(run: Run, signals: bytes, nodes: frozenset) -> Run:
     """The run with signals (lines in bytes) in place of its own first signals at some nodes."""
     kept = (line for line in run.first if not (line.command["cmd"] == "signal" and line.command["node"] in nodes))
-    return replace(run, first=[*kept, *lines_in(signals)])
-
-
-def lines_in(text: bytes) -> Iterator[Line]:
-    """The lines of some bytes, as lines that stand in no file."""
-    for line in text.decode().splitlines():
-        yield Line(0, line, json.loads(line))
+    return replace(run, first=[*kept, *(Line(0, line, json.loads(line)) for line in signals.decode().splitlines())])

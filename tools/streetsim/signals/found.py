@@ -1,6 +1,7 @@
 """What streetsim-signals writes of a search: the plan, tables, pictures, and what is said of it."""
 import sys
 import tempfile
+from bisect import bisect_right
 from collections.abc import Callable, Iterator, Mapping, Sequence
 from dataclasses import dataclass, replace
 from statistics import fmean
@@ -201,7 +202,8 @@ def of_vehicles(town: Town, before: Sequence[Outcome], after: Sequence[Outcome])
     and of what was found; nothing where neither is so."""
     named = {"as given": before, "as found": after}
     arrived = {name: fmean(one.arrived for one in runs) for name, runs in named.items()}
-    yield from trust.of_missing(arrived, trust.due_at(town.session.clocks[-1], town.run, town.mapping))
+    due = bisect_right(trust.free_arrivals(town.run, town.mapping), town.session.clocks[-1])
+    yield from trust.of_missing(arrived, due)
     waiting = {name: [(one.waiting, one.waiting_at) for one in runs] for name, runs in named.items()}
     yield from trust.of_waiting(waiting, len(town.session.departs))
 

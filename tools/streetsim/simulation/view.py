@@ -49,7 +49,9 @@ class View:
                 if not isinstance(reply, Lane):
                     raise FatalTraCIError(f"streetsim refused a poll of a lane: {reply}")
                 self.note_lane(place, reply)
-        self.note_held()
+        # Vehicles that were taken out to go another way count as there until they are seen on their next link.
+        self.held = {car: place for car, place in self.held.items() if car not in self.places}
+        self.places.update(self.held)
         self.departed = [car for car in self.places if car not in self.seen]
         self.seen.update(self.departed)
         self.note_gone([car for car in self.before if car not in self.places])
@@ -64,12 +66,6 @@ class View:
         self.on_lane[place] = [entry[0] for entry in reply.cells]
         self.in_buffer[place] = [entry[0] for entry in reply.buffer]
         self.frame.append((*place, reply.cells, self.in_buffer[place]))
-
-    def note_held(self) -> None:
-        """Adds the vehicles that were taken out at a node to go another way: they count as there until they are seen on
-        their next link."""
-        self.held = {car: place for car, place in self.held.items() if car not in self.places}
-        self.places.update(self.held)
 
     def note_gone(self, cars: Iterable[int]) -> None:
         """Asks what became of vehicles that are no longer seen, by number, and notes when each ended, and who

@@ -20,7 +20,7 @@ from streetsim.sumo.signals import AFTER, movements, signals
 from streetsim.sumo.slowing import slowed
 from streetsim.sumo.timings import warn_of_clashes
 from streetsim.sumo.types import Types
-from streetsim.sumo.wauts import day_lines, days_of, sensing, switches_of
+from streetsim.sumo.wauts import day_lines, days_of, sensing
 from streetsim.sumo.yielding import equivalents
 
 # The network, its lights with their nodes, the commands of the run, the names of its vehicles.
@@ -62,7 +62,7 @@ def converted(net: SumoNet, types: Types, vehicles: Sequence[Vehicle], options: 
     lights = [(light, command["node"]) for light, command in made if "at" not in command]
     network.yields = conflicts_of(net, network, flows)
     network.actuated = list(dict.fromkeys([*actuated(net, (light for light, _ in made)), *sensing(net, days)]))
-    network.switches = switches_of(days)
+    network.switches = sorted((clock, light, program) for light, day in days.items() for clock, program in day)
     network.programs = kept_programs(net, network, lights, flows)
     network.fixed = fixed_programs(net, network, lights, flows, lights_of_riders(entered, driven, types, network))
     return (

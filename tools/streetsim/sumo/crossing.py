@@ -1,4 +1,4 @@
-"""The movements of a junction over one cycle of its light: when each has green, to whom it gives way, who is on its lane.
+"""The movements of a junction over one cycle of its light: when each has green, to whom it gives way, by which lane.
 
 The seconds of a cycle are bits of a number, second 0 the lowest.
 """

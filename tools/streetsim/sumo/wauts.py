@@ -124,9 +124,6 @@ def nodes_of(
                 yield light, node, spans
 
 
-def switches_of(days: Mapping[str, Day]) -> list[tuple[int, str, str]]:
-    """The changes by time of day, (clock, light, program), rising; the first of each light is at the run's begin."""
-    return sorted((clock, light, program) for light, day in days.items() for clock, program in day)
 
 
 def sensing(net: SumoNet, days: Mapping[str, Day]) -> list[str]:

@@ -5,7 +5,6 @@ from collections import defaultdict
 from collections.abc import Callable, Iterable, Sequence
 from itertools import pairwise
 
-from streetsim.base.files import Fault
 from streetsim.ways.costs import Costs, flat_costs
 from streetsim.ways.graph import Graph
 from streetsim.ways.router import Found, Wish
@@ -57,9 +56,6 @@ def volumes(graph: Graph, trips: Iterable[Trip]) -> list[int]:
     return found
 
 
-def no_way(graph: Graph, trip: Trip) -> Fault:
-    """The Fault, for the caller to raise, of a trip for which there is no way."""
-    return Fault(f"trip {trip.name!r}: no way from {graph.edges[trip.origin]} to {graph.edges[trip.target]}")
 
 
 def delayed(graph: Graph, free: Sequence[float], loads: Sequence[float]) -> list[float]:

@@ -3,7 +3,7 @@ from collections.abc import Iterable
 from dataclasses import dataclass, replace
 
 from streetsim.model.mapping import Map
-from streetsim.model.runs import Command, Line, Run
+from streetsim.model.runs import Run
 
 
 @dataclass(slots=True, frozen=True)
@@ -32,7 +32,10 @@ def closures_of(run: Run, until: int) -> list[Closure]:
     timed = [*((run.start(), line) for line in run.first), *run.timed]
     open_: dict[tuple[int, int, int, int], int] = {}
     found = []
-    for clock, command in commands_in(timed):
+    for clock, line in timed:
+        command = line.command
+        if command["cmd"] not in ("close", "reopen"):
+            continue
         key = command["link"], command["lane"], command["first"], command["last"]
         if command["cmd"] == "close":
             open_.setdefault(key, clock)
@@ -58,8 +61,3 @@ def begun_here(closures: Iterable[Closure], mapping: Map) -> list[Closure]:
     going_on = set(further.values())
     begun = [one for one in closures if one not in going_on]
     return [replace(one, beyond=further[one].metres(mapping)[1]) if one in further else one for one in begun]
-
-
-def commands_in(timed: Iterable[tuple[int, Line]]) -> Iterable[tuple[int, Command]]:
-    """(clock, command) of the close and reopen lines among timed lines; others are left out."""
-    return ((clock, line.command) for clock, line in timed if line.command["cmd"] in ("close", "reopen"))

@@ -69,11 +69,7 @@ class Merges:
         """The commands to send before the next step, by the replies on both lanes of a link that is due; they count as
         sent. Sets when it is due again."""
         one = self.links[link]
-        changes = one.merging.told(clock, [side_of(lane) for lane in lanes])
+        sides = [Side([Seen(*entry) for entry in lane.cells], lane.closed) for lane in lanes]
+        changes = one.merging.told(clock, sides)
         one.due = clock + one.merging.seconds()
         return [change.on(link) for change in changes]
-
-
-def side_of(lane: Lane) -> Side:
-    """A lane's reply in the form that Merging takes."""
-    return Side([Seen(*entry) for entry in lane.cells], lane.closed)

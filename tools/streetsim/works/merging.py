@@ -43,10 +43,6 @@ class Seen:
         """The cell of its rear, the last one that it takes."""
         return self.cell - self.size + 1
 
-    def covers(self) -> range:
-        """The cells that it takes, from its rear to its front."""
-        return range(self.rear, self.cell + 1)
-
 
 @dataclass(slots=True, frozen=True)
 class Side:
@@ -149,7 +145,7 @@ def take(turn: Turn, clock: int, place: Place, sides: Sequence[Side]) -> None:
         turn.head, turn.since = head, clock
     waited = clock - turn.since
     if turn.held:
-        beside = {cell for one in sides[1 - place.lane].vehicles for cell in one.covers()}
+        beside = {cell for one in sides[1 - place.lane].vehicles for cell in range(one.rear, one.cell + 1)}
         is_free = beside.isdisjoint(range(turn.held[0], turn.held[1] + AHEAD + 1))
         if head is None or waited > MOST_HELD or is_free:
             turn.held, turn.since = None, clock
