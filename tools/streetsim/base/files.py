@@ -274,6 +274,18 @@ def refuse_equal(outputs: Mapping[str, FilePath], inputs: Iterable[FilePath] = (
             raise Fault(f"{path}: {places[os.path.realpath(path)]} names a file that is read")
 
 
+def refuse_places(folder: str, outputs: Mapping[str, FilePath | None], inputs: Iterable[FilePath]) -> None:
+    """Fault where outputs cannot be written: as refuse_equal has it, where a file has no folder or `folder` is none.
+    outputs: {what the user calls it: path}, None for one that is not wanted."""
+    wanted = {name: path for name, path in outputs.items() if path is not None}
+    refuse_equal(wanted, inputs)
+    for path in wanted.values():
+        if not os.path.isdir(own := os.path.dirname(place_of(path))):
+            raise Fault(f"{path}: there is no folder {own}")
+    if os.path.exists(folder) and not os.path.isdir(folder):
+        raise Fault(f"{folder}: exists and is no folder")
+
+
 @contextlib.contextmanager
 def whole_path(path: FilePath) -> Iterator[str]:
     """A path to write to. When the block ends, the file written there takes the place of the output `path`; after an

@@ -1,11 +1,10 @@
 """streetsim-demand: from counts, matrices or turn ratios to a demand that fits them, on paper and in the simulation."""
 import argparse
-import os
 from collections.abc import Sequence
 from dataclasses import replace
 
 from streetsim.base import program
-from streetsim.base.files import Fault, place_of, refuse_equal
+from streetsim.base.files import Fault, refuse_places
 from streetsim.base.progress import Slow, Stopping
 from streetsim.base.report import Report
 from streetsim.base.words import Parser, add_rounds, files_of, share_of, within
@@ -136,10 +135,4 @@ def check_words(words: argparse.Namespace) -> None:
         raise Fault("--ends says where trips begin without zones: give no --zones, --matrix or --flows beside")
     inputs = [words.net, *words.additional, *words.counts, *words.zones, *words.matrix, *words.flows, *words.ratios]
     outputs = {"-o": words.output, "--run": words.run, "--map": words.map}
-    given = {name: path for name, path in outputs.items() if path is not None}
-    refuse_equal(given, [*inputs, *words.candidates])
-    for path in given.values():
-        if not os.path.isdir(os.path.dirname(place_of(path))):
-            raise Fault(f"{path}: there is no folder {os.path.dirname(place_of(path))}")
-    if os.path.exists(words.out) and not os.path.isdir(words.out):
-        raise Fault(f"{words.out}: exists and is no folder")
+    refuse_places(words.out, outputs, [*inputs, *words.candidates])

@@ -1,11 +1,10 @@
 """streetsim-route: finds routes for trips, from which nobody gains much by leaving them."""
 import argparse
-import os
 import sys
 from collections.abc import Sequence
 
 from streetsim.base import limits, program
-from streetsim.base.files import Fault, place_of, refuse_equal
+from streetsim.base.files import Fault, refuse_places
 from streetsim.base.progress import Slow, Stopping
 from streetsim.base.report import Report
 from streetsim.base.seeds import seeds_of
@@ -166,14 +165,8 @@ def check_words(words: argparse.Namespace) -> None:
     if (words.run is None) != (words.map is None):
         raise Fault("--run and --map are given together or not at all")
     outputs = {"-o": words.output, "--run": words.run, "--map": words.map}
-    given = {name: path for name, path in outputs.items() if path is not None}
     read = [words.net, *files_of(words.additional), *files_of(words.trips), *([words.before] if words.before else [])]
-    refuse_equal(given, read)
-    for path in given.values():
-        if not os.path.isdir(os.path.dirname(place_of(path))):
-            raise Fault(f"{path}: there is no folder {os.path.dirname(place_of(path))}")
-    if os.path.exists(words.out) and not os.path.isdir(words.out):
-        raise Fault(f"{words.out}: exists and is no folder")
+    refuse_places(words.out, outputs, read)
     for name in ("knowing", "sign", "before", "lost"):
         if getattr(words, name) and not words.close:
             raise Fault(f"--{name} is of road works: give --close too")

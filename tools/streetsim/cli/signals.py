@@ -1,12 +1,11 @@
 """streetsim-signals: finds signal plans by simulation."""
 import argparse
-import os
 import sys
 from collections.abc import Generator, Sequence
 from statistics import fmean, stdev
 
 from streetsim.base import limits, program
-from streetsim.base.files import Fault, place_of, refuse_equal
+from streetsim.base.files import Fault, refuse_places
 from streetsim.base.progress import Slow
 from streetsim.base.seeds import seeds_for, seeds_of
 from streetsim.base.words import Parser, add_jobs, add_rounds, add_run, files_of, listed, time_within, within
@@ -224,12 +223,7 @@ def reading_of(words: argparse.Namespace, changed: Sequence[str]) -> Reading:
     """What is to be read of a town; Fault where an output has no place or is an input. The reserve is 0 where offsets
     alone are changed and no bounds are to be found."""
     plans = files_of(words.plans)
-    refuse_equal({"-o": words.output}, [words.run, words.map, *plans])
-    folder = os.path.dirname(place_of(words.output))
-    if not os.path.isdir(folder):
-        raise Fault(f"{words.output}: there is no folder {folder}")
-    if os.path.exists(words.out) and not os.path.isdir(words.out):
-        raise Fault(f"{words.out}: exists and is no folder")
+    refuse_places(words.out, {"-o": words.output}, [words.run, words.map, *plans])
     return Reading(
         run=words.run,
         map=words.map,

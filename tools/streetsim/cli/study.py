@@ -4,7 +4,7 @@ import json
 import os
 
 from streetsim.base import program
-from streetsim.base.files import Fault, whole_file, whole_folder
+from streetsim.base.files import refuse_places, whole_file, whole_folder
 from streetsim.base.progress import Meanwhile, Slow
 from streetsim.base.words import ROUNDS, Parser, add_rounds
 from streetsim.cli.given import given_words
@@ -62,8 +62,7 @@ def main(arguments: list[str]) -> int:
     Fault where --out is no folder."""
     made = parser()
     words = made.parse_args(arguments)
-    if os.path.exists(words.out) and not os.path.isdir(words.out):
-        raise Fault(f"{words.out}: exists and is no folder")
+    refuse_places(words.out, {}, ())
     words.program = program.find_program(words.program)
     with Slow(f"reading {words.study}"):
         study = read_study(words.study, words.program, words.rounds)

@@ -4,9 +4,9 @@ from collections import defaultdict
 from collections.abc import Iterable, Sequence
 from dataclasses import dataclass
 from html import escape
-from math import hypot
 from statistics import fmean
 
+from streetsim.base.shapes import along
 from streetsim.model import tables
 from streetsim.model.folder import Folder
 from streetsim.model.mapping import Map, Shape
@@ -85,17 +85,6 @@ def part_of(mapping: Map, place: Place) -> Shape:
     link = mapping.links[next((one for one in links if int(lane) in mapping.links[one].lanes), links[0])]
     shares = float(begin) / link.metres, float(end) / link.metres
     return [along(link.shape, share) for share in (shares[0], sum(shares) / 2, shares[1])]
-
-
-def along(shape: Shape, share: float) -> tuple[float, float]:
-    """The point (x, y) at a share, 0 to 1, of a line's length."""
-    lengths = [hypot(x - begin_x, y - begin_y) for (begin_x, begin_y), (x, y) in zip(shape, shape[1:])]
-    left = share * sum(lengths)
-    for (begin, end), length in zip(zip(shape, shape[1:]), lengths, strict=True):
-        if left <= length and length:
-            return begin[0] + (end[0] - begin[0]) * left / length, begin[1] + (end[1] - begin[1]) * left / length
-        left -= length
-    return shape[-1][0], shape[-1][1]
 
 
 def section(plans: Sequence[Runs], shown: tuple[int, int]) -> str:

@@ -2,12 +2,12 @@
 from collections.abc import Callable, Collection, Container, Iterable, Mapping, Sequence
 from typing import Any
 
+from streetsim.base.shapes import Line, distance
 from streetsim.simulation.calls import Calls
 from streetsim.simulation.errors import NotHere, TraCIException
 from streetsim.simulation.session import Session
 from streetsim.traci import constants as tc
 from streetsim.traci.advice import advice_on
-from streetsim.traci.shapes import Line, distance
 
 Values = dict[int, Any]  # what is told, by variable
 

@@ -2,6 +2,7 @@
 from collections.abc import Sequence
 from typing import NoReturn
 
+from streetsim.base.shapes import Line, Point, along
 from streetsim.model.detectors import Detector
 from streetsim.simulation.calls import GAP, METRES, LaneCalls, PlaceCalls, StretchCalls
 from streetsim.simulation.errors import NotHere, TraCIException
@@ -9,7 +10,6 @@ from streetsim.simulation.session import Session
 from streetsim.simulation.street_facts import LaneFacts
 from streetsim.traci import constants as tc
 from streetsim.traci.domain import Placed
-from streetsim.traci.shapes import Line, Point, along
 from streetsim.works.sites import why_parallel
 
 

@@ -5,6 +5,7 @@ from dataclasses import dataclass
 from math import hypot
 
 from streetsim.base.files import seconds
+from streetsim.base.shapes import Point, along, nearest
 from streetsim.simulation.calls import SimulationCalls
 from streetsim.simulation.errors import NotHere, TraCIException
 from streetsim.simulation.saving import load_state, save_state
@@ -12,7 +13,6 @@ from streetsim.simulation.session import Session
 from streetsim.simulation.street_facts import LaneFacts
 from streetsim.traci import constants as tc
 from streetsim.traci.domain import Domain, Values
-from streetsim.traci.shapes import Point, along, nearest
 
 
 @dataclass

@@ -7,6 +7,7 @@ counts from there.
 from collections.abc import Collection, Sequence
 from itertools import pairwise
 
+from streetsim.base.shapes import Line, along, heading
 from streetsim.simulation.calls import METRES, VehicleCalls
 from streetsim.simulation.errors import TraCIException
 from streetsim.simulation.fleet import NOWHERE, Place
@@ -15,7 +16,6 @@ from streetsim.simulation.session import Session
 from streetsim.sumo.types import DEFAULT, Kind
 from streetsim.traci import constants as tc
 from streetsim.traci.domain import Domain, Placed, Values
-from streetsim.traci.shapes import Line, along, heading
 
 YELLOW = (255, 255, 0, 255)  # SUMO's colour of a vehicle
 FASTEST = 55.55555555555556  # metres a second of a type that tells no speed, as SUMO has it for cars
