@@ -21,9 +21,8 @@ from streetsim.model.mapping import Map
 from streetsim.model.runs import Run, read_with_map, with_load
 from streetsim.model.tables import PHASES_FILE, SEEDS, STOPS_FILE, WORKS_FILE, write_table
 from streetsim.outputs.folder import Figures, Making, first_poll, one_run
-from streetsim.outputs.kept import by_which, write_kept
+from streetsim.outputs.kept import by_which, write_kept, write_lights
 from streetsim.outputs.kinds import KINDS
-from streetsim.outputs.lit import write_lights
 from streetsim.run.asking import told_of_polls
 from streetsim.run.ending import first_guess
 from streetsim.run.settings import Settings

@@ -1,10 +1,15 @@
-"""Keeps in a run's folder the lines of its run, so that it can be made again without the files that it was made of."""
+"""Keeps in a run's folder the lines of its run, so that it can be made again without the files that it was made of, and
+what its lights show at the road, as far as the files of the import are still there."""
+import json
+import os
 from collections.abc import Sequence
 
-from streetsim.base.files import Json, whole_file
-from streetsim.model.folder import KEPT
+from streetsim.base.files import Fault, FilePath, Json, whole_file
+from streetsim.model.folder import KEPT, LIGHTS
+from streetsim.model.mapping import Map
 from streetsim.model.runs import Run, texts_of
-from streetsim.model.sources import sum_of_lines
+from streetsim.model.sources import sum_of, sum_of_lines
+from streetsim.sumo.timings import timings_of_files
 
 
 def write_kept(folder: str, run: Run) -> None:
@@ -17,3 +22,22 @@ def by_which(run: Run, words: Sequence[str], again: Sequence[str]) -> Json:
     """What a run's setting says of how it is made again: `words`, the options that were given and change its numbers;
     `again`, those of them that are needed beside the kept lines; and `lines`, the SHA-256 of these lines."""
     return {"words": list(words), "again": list(again), "lines": sum_of_lines(texts_of(run))}
+
+
+def write_lights(folder: str, mapping: Map, map_path: FilePath) -> None:
+    """Writes lights.json, the programs of the lights by the files that were imported, to a folder; map_path: from which
+    these are found. Writes nothing, and says nothing, where these are gone, changed or cannot be read, or there is no
+    light."""
+    if not mapping.sources or not mapping.signals:
+        return
+    beside = os.path.dirname(os.path.realpath(map_path))
+    paths = [os.path.join(beside, path) for path in (mapping.sources["net"], *mapping.sources.get("additional", ()))]
+    try:
+        if [sum_of(path) for path in paths] != mapping.sources["sums"][: len(paths)]:
+            return
+        found = timings_of_files(paths[0], paths[1:], mapping.options.get("classes", ["passenger"]))
+    except (Fault, OSError):
+        return
+    lit = {light for light, _ in mapping.signals}
+    with whole_file(f"{folder}/{LIGHTS}") as file:
+        json.dump([timing.written() for timing in found if timing.light in lit], file, separators=(",", ":"))
