@@ -12,14 +12,13 @@ from unittest.mock import patch
 from xml.etree import ElementTree
 
 from support import MAP, NUMBERED, PROGRAM, TOOLS, Case, needs_package, needs_simulator, needs_sumo_tools
-from streetsim.base.files import Fault
 from streetsim.buses.fleet import Dwell
 from streetsim.cli import run as running
 from streetsim.model.folder import read_folder
 from streetsim.model.mapping import map_from
-from streetsim.model.tables import AREAS, EDGES, LOOPS, SUMMARY, TRIPS, read_table
+from streetsim.model.tables import AREAS, EDGES, LOOPS, SUMMARY, read_table
 from streetsim.outputs.kinds import KINDS
-from streetsim.outputs.writing import Outputs, write_from_folder
+from streetsim.outputs.writing import Outputs
 from streetsim.run import watching
 
 SUMO = Path("/usr/share/sumo")
@@ -193,15 +192,6 @@ class Faults(Case):
         self.assertIn("--sumo-output e2: the map has no laneAreaDetector: import an additional file that has one", told)
         self.assertFalse((self.folder / "out").exists())
 
-    def test_a_folder_without_every_second(self):
-        value = {"map": MAPPING, "signals": [], "dawdle": 0, "every": 10, "period": 900}
-        self.write("setting.json", json.dumps(value))
-        self.write("trips.csv", ",".join(TRIPS) + "\nv,0,30,30,4,26,2,0,arrived\nw,1,,,4,,2,0,cell\n")
-        with gzip.open(self.folder / "lanes.jsonl.gz", "wt") as file:
-            file.write('{"clock":10,"lanes":[]}\n')
-        with self.assertRaisesRegex(Fault, "need a run with --every 1"):
-            write_from_folder(read_folder(self.folder), ["fcd"], str(self.folder))
-
 
 @needs_simulator
 class OfARun(Case):
@@ -270,11 +260,11 @@ class OfARun(Case):
             self.assertEqual(step["arrived"], row["arrived"])
 
     def test_a_folder_with_every_second_gives_the_same(self):
-        os.mkdir(self.folder / "again")
-        write_from_folder(read_folder(self.base / "polled"), KINDS, str(self.folder / "again"))
-        for kind in KINDS:
-            again, there = self.folder / f"again/{kind}.xml", self.sumo / f"{kind}.xml"
-            self.assertEqual(again.read_text(), there.read_text(), kind)
+        polled, paths = read_folder(self.base / "polled"), {kind: self.folder / f"{kind}.xml" for kind in KINDS}
+        with Outputs(paths, polled.mapping, polled.dawdle / 1000, polled.period) as outputs:
+            outputs.write(polled.trips(), polled.polls())
+        for kind, path in paths.items():
+            self.assertEqual(path.read_text(), (self.sumo / f"{kind}.xml").read_text(), kind)
 
     @needs_package("libxml2-utils", shutil.which("xmllint"))
     @needs_package("sumo", (SUMO / "data/xsd").is_dir())

@@ -128,17 +128,6 @@ def add_jobs(made: argparse.ArgumentParser) -> None:
     )
 
 
-def add_merge(made: argparse.ArgumentParser) -> None:
-    """Adds --merge to a parser: how vehicles merge before works, "turns" (where it is not given) or "none"."""
-    made.add_argument(
-        "--merge",
-        choices=["turns", "none"],
-        default="turns",
-        help="before road works on one lane of a joint link the lanes take turns; none: who stands there waits for a "
-        "gap (default %(default)s)",
-    )
-
-
 def add_lost(made: argparse.ArgumentParser) -> None:
     """Adds --lost to a parser: what those do who lose their only lane by road works, "lead", "wait" or "bar"; None
     where it is not given, which stands for "lead"."""

@@ -3,7 +3,7 @@ import argparse
 
 from streetsim.base import limits, program
 from streetsim.base.words import (
-    Parser, add_jobs, add_lights, add_lost, add_merge, add_rounds, add_run, time_within, within,
+    Parser, add_jobs, add_lights, add_lost, add_rounds, add_run, time_within, within,
 )
 from streetsim.buses.planned import MOST_SEEN, SEEN
 from streetsim.cli.given import given_words
@@ -94,7 +94,13 @@ def add_lanes(made: argparse.ArgumentParser) -> None:
         help="road works: close a lane (edge_index) between two places, from one second to another; "
         "several with commas between, or by the word again",
     )
-    add_merge(made)
+    made.add_argument(
+        "--merge",
+        choices=["turns", "none"],
+        default="turns",
+        help="before road works on one lane of a joint link the lanes take turns; none: who stands there waits for a "
+        "gap (default %(default)s)",
+    )
     add_lost(made)
     made.add_argument(
         "--works-limit",

@@ -1,18 +1,14 @@
 """Writes SUMO's output files, from a run's looks at the lanes in every second."""
 import contextlib
-import itertools
-import os
 from bisect import insort
 from collections import defaultdict
-from collections.abc import Callable, Iterable, Iterator, Mapping, Sequence
+from collections.abc import Callable, Iterable, Mapping, Sequence
 from typing import Any
 
 from streetsim.base.files import Fault, TextFile, whole_file
 from streetsim.buses.fleet import Done, Dwell, dwells
-from streetsim.model.folder import Folder, Frame
+from streetsim.model.folder import Frame
 from streetsim.model.mapping import Map
-from streetsim.model.stops import Visit
-from streetsim.model.tables import STOPS_FILE
 from streetsim.outputs.formats import Fcd, Queue, Summary, Tripinfo, XmlFile
 from streetsim.outputs.intervals import Areas, Edgedata, Loops
 from streetsim.outputs.places import Places
@@ -91,26 +87,3 @@ class Outputs(contextlib.ExitStack):
                 raise Fault(f"SUMO's outputs need a look at every second: after {clock} s comes {frame['clock']} s")
             clock = frame["clock"]
             self.step(clock, frame["lanes"], arrivals.pop(clock, ()))
-
-
-def write_from_folder(folder: Folder, kinds: Iterable[str], out: str) -> None:
-    """Writes output files of some kinds, KIND.xml, to the folder `out`, of a folder that streetsim-run wrote with
-    --every 1 and all edges; Fault where that has no polls of every second. Whether all edges were polled is not looked
-    at."""
-    paths = {kind: f"{out}/{kind}.xml" for kind in kinds}
-    polls = folder.polls()
-    first = next(polls, None)
-    if first is None or folder.every != 1:
-        raise Fault(f"{folder.path}: SUMO's outputs need a run with --every 1, or streetsim-run --sumo-output")
-    with Outputs(paths, folder.mapping, folder.dawdle / 1000, folder.period, first["clock"] - 1) as outputs:
-        outputs.write(folder.trips(), itertools.chain([first], polls), stops_in(folder))
-
-
-def stops_in(folder: Folder) -> Iterator[Done]:
-    """What became of the stops of a run, by its stops.csv; nothing where it has none."""
-    visits: defaultdict[tuple[str, str], list[Visit]] = defaultdict(list)
-    for visit in sorted(folder.mapping.visits, key=lambda one: (one.vehicle, one.at)):
-        visits[folder.mapping.cars[visit.vehicle], visit.stop].append(visit)
-    for row in folder.stops() if os.path.exists(f"{folder.path}/{STOPS_FILE}") else ():
-        clocks = (int(row[name]) if row[name] else None for name in ("arrival", "departure"))
-        yield Done(visits[row["id"], row["stop"]].pop(0), row["state"], None, *clocks)

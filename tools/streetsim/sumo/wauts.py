@@ -124,8 +124,6 @@ def nodes_of(
                 yield light, node, spans
 
 
-
-
 def sensing(net: SumoNet, days: Mapping[str, Day]) -> list[str]:
     """The lights with a WAUT of whose programs, the first and those to which they change, SUMO times one by anything
     but seconds alone (not static)."""

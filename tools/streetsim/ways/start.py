@@ -56,8 +56,6 @@ def volumes(graph: Graph, trips: Iterable[Trip]) -> list[int]:
     return found
 
 
-
-
 def delayed(graph: Graph, free: Sequence[float], loads: Sequence[float]) -> list[float]:
     """The seconds of each movement, a list, under its load (volume by capacity): its seconds without traffic (free),
     plus its own delay, or plus the mean delay of the used movements of its edge where that is more."""

@@ -60,7 +60,11 @@ def with_works(
     names += [name for name in lanes_to_join(works, mapping) if name not in names]
     led = [name for name in lanes_to_lead(works, mapping) if asking.lost == "lead" and name not in names]
     if names or led:
-        with imported_for(some([*names, *led]), joined_by([*names, *led])):
+        why = (
+            "nobody changes lane between the parallel links of an edge, so its lanes must be joint, which needs the "
+            f"import anew: {{}}. Run streetsim-import with --joint {','.join([*names, *led])}"
+        )
+        with imported_for(some([*names, *led]), why):
             run, mapping = imported_anew(run, mapping, map_path, joint=names, led=led)
     if names:
         told.append(f"joint for this run, so that vehicles change lane: edges {some(sorted(edges_of(names, mapping)))}")
@@ -215,15 +219,6 @@ def imported_for(what: str, why: str) -> Iterator[None]:
         yield
     except Fault as fault:
         raise Fault(f"{what}: {why.format(fault)}" if why else f"{what} needs the import anew: {fault}") from None
-
-
-def joined_by(names: Sequence[str]) -> str:
-    """Why lanes or edges need an import, and with which words the user makes one; a text with {} where the fault is to
-    stand, for imported_for."""
-    return (
-        "nobody changes lane between the parallel links of an edge, so its lanes must be joint, which needs the import "
-        f"anew: {{}}. Run streetsim-import with --joint {','.join(names)}"
-    )
 
 
 def edges_of(names: Iterable[str], mapping: Map) -> set[str]:
