@@ -8,7 +8,7 @@ from streetsim.importing.convert import convert
 from streetsim.model.folder import read_folder
 from streetsim.results.compare import trips_of
 from streetsim.sumo.crossing import Movement, set_heads, set_lane, wait_together
-from streetsim.sumo.gaps import after_stop, gap_capacity, gap_wait, until_first
+from streetsim.sumo.gaps import gap_capacity, gap_wait, until_first
 from streetsim.sumo.greens import green_here, hidden_middle, hidden_start, leaving, passing_here
 from streetsim.sumo.heads import Heads, passing_heads
 from streetsim.sumo.net import request_of
