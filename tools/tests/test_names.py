@@ -7,7 +7,7 @@ from support import DATA, PROGRAM, Case, needs_simulator
 from streetsim.live.facts import streets_and_areas
 from streetsim.model.folder import read_folder
 from streetsim.model.mapping import read_map
-from streetsim.model.names import Names, wind
+from streetsim.model.names import Names, read_own, wind
 from streetsim.model.tables import QUEUES, write_table
 from streetsim.pictures.playing import data_of
 from streetsim.results.series import crossed, longest_queues
@@ -86,6 +86,18 @@ class Told(Crossing):
                 self.write("bad.csv", text), status=2,
             )[1]
             self.assertIn(told, said)
+
+    def test_the_name_of_a_light_at_several_junctions_is_that_of_each(self):
+        """But of one with a row of its own; an id that a junction has too names that junction alone."""
+        mapping = read_map(self.imported()[1])
+        number = {name: at for at, (name, *_) in enumerate(mapping.nodes)}
+        mapping.signals = [("joined", number["M"]), ("joined", number["W"]), ("joined", number["E"])]
+        mapping.signals += [("N", number["N"]), ("N", number["S"])]
+        read_own(self.write("own.csv", "id,name\nE,East Gate\njoined,Town Hall\nN,Hilltop\n"), mapping)
+        names = Names(mapping)
+        self.assertEqual([names.junction(one) for one in "MWENS"], [
+            "Town Hall", "Town Hall", "East Gate", "Hilltop", "Hill Street",
+        ])
 
     def test_a_map_without_names_is_as_it_was(self):
         """That of the grid, whose edges have none; and a map of before names has none."""

@@ -25,7 +25,7 @@ from streetsim.sessions.giving import for_search, giving_session, outcome_giving
 from streetsim.sessions.prepared import Outcome, outcome, session_of, vehicle_seconds
 from streetsim.signals.formulas import tree, webster_cycle
 from streetsim.signals.found import doubts_of, verdict
-from streetsim.signals.in_sumo import mean_trip
+from streetsim.signals.in_sumo import mean_trip, sumo_for
 from streetsim.signals.light_lines import LightLines, read_plans
 from streetsim.signals.plans import Light, Timing, light_of, spread, whole
 from streetsim.signals.search import Search, climb, search_plan, shift_of
@@ -489,6 +489,33 @@ def read_until(terminal, word, seconds):
     while not ("left" in shown and word in shown) and time.monotonic() < end:
         shown += os.read(terminal, 4096).decode()
     return shown
+
+
+@needs_sumo
+class Trips(Case):
+    def test_vehicles_of_trips_drive_in_sumo(self):
+        """On the ways that the import found; a vehicle of routes, and types, are as in their files."""
+        network, run, mapped = CORRIDOR / "corridor.net.xml.gz", self.folder / "x.jsonl", self.folder / "x.map.json"
+        trips = self.write("x.trips.xml", """<routes><vType id="van" vClass="delivery"/>
+            <trip id="t" type="van" depart="0" from="WJ1" to="J5E"/>
+            <flow id="f" begin="5" end="65" number="2" from="N1J1" to="J2J3"/></routes>""")
+        routes = '<routes><vehicle id="v" depart="1"><route edges="EJ5 J5J4"/></vehicle></routes>'
+        words = "--routes", self.write("x.rou.xml", routes), "--trips", trips
+        self.tool("import", network, *words, "-o", run, "--map", mapped)
+        mapping = read_map(str(mapped))
+        reading = Mock(map=str(mapped), run=str(run), plans=[str(network)], until=600)
+        in_sumo = sumo_for(reading, mapping, read_run(str(run)))
+        ways = in_sumo.with_ways(mapping, str(self.folder / "ways.rou.xml"))
+        root = ElementTree.parse(self.folder / "ways.rou.xml").getroot()
+        self.assertEqual(
+            {one.get("id"): (one.get("type"), one.find("route").get("edges")) for one in root.iter("vehicle")},
+            {
+                "t": ("van", "WJ1 J1J2 J2J3 J3J4 J4J5 J5E"), "v": (None, "EJ5 J5J4"),
+                "f.0": (None, "N1J1 J1J2 J2J3"), "f.1": (None, "N1J1 J1J2 J2J3"),
+            },
+        )
+        arrived, _ = ways.trips(self.write("none.add.xml", "<additional/>"), 1)
+        self.assertEqual(set(arrived), {"t", "v", "f.0", "f.1"})
 
 
 @needs_simulator

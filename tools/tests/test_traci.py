@@ -120,6 +120,30 @@ class Vehicles(Started):
         with self.assertRaisesRegex(traci.TraCIException, "Vehicle 'v' is not known."):
             traci.vehicle.getSpeed("v")
 
+    def test_lists_are_of_all_steps_of_a_call(self):
+        """As in SUMO; a call that makes no step empties them, and a vehicle of the script is loaded until the next."""
+        self.start(routes=f"""<routes><route id="r" edges="a b"/>{"".join(
+            f'<vehicle id="{name}" depart="{depart}" route="r"/>' for name, depart in (("v", 0), ("w", 3), ("x", 5))
+        )}</routes>""")
+        simulation = traci.simulation
+
+        def lists():
+            return simulation.getLoadedIDList(), simulation.getDepartedIDList(), simulation.getArrivedIDList()
+
+        traci.simulationStep()
+        self.assertEqual(lists(), (("v",), ("v",), ()))
+        traci.simulationStep(7)
+        self.assertEqual((*lists(), simulation.getDepartedNumber()), (("w", "x"), ("w", "x"), (), 2))
+        traci.vehicle.add("own", "r", depart="8")
+        self.assertEqual(lists(), (("w", "x", "own"), ("w", "x"), ()))
+        traci.simulationStep(7)
+        self.assertEqual(lists(), ((), (), ()))
+        traci.simulationStep(200)
+        self.assertEqual((lists()[:2], sorted(lists()[2])), (((), ("own",)), ["own", "v", "w", "x"]))
+        self.assertEqual((simulation.getArrivedNumber(), simulation.getLoadedNumber()), (4, 0))
+        self.steps(1)
+        self.assertEqual(lists(), ((), (), ()))
+
     def test_a_way_that_ends_where_the_vehicle_is(self):
         """It drives to the end of its edge, past the light, and arrives a second later; the run goes on."""
         self.start()

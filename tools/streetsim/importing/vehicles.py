@@ -9,10 +9,10 @@ from streetsim.sumo.network import Options
 from streetsim.sumo.types import Types
 from streetsim.ways.costs import Costs
 from streetsim.ways.empty import times_without_routes
-from streetsim.ways.graph import graph_of_net
+from streetsim.ways.graph import Graph, graph_of_net
 from streetsim.ways.router import Found, Router, Wish, in_order
 from streetsim.ways.start import first_ways
-from streetsim.ways.trips import read_trips
+from streetsim.ways.trips import Trips, read_trips
 
 NO_WAY = "no way from where the trip begins to where it ends"
 
@@ -20,16 +20,26 @@ NO_WAY = "no way from where the trip begins to where it ends"
 def vehicles_with_ways(
     net: SumoNet, types: Types, paths: Iterable[str], options: Options, report: Report
 ) -> list[Vehicle]:
-    """The vehicles of files of trips, flows and routes, by departure. Those without a route have the way that is
-    shortest with free speed, the waits at signals and the delays that the volumes so far would make; who has none is
-    left out, and counted in the report. Fault where read_trips raises one.
+    """The vehicles of files of trips, flows and routes, by departure, as trips_with_ways has them."""
+    graph = graph_of_net(net)
+    return [
+        Vehicle(trip.name, trip.depart, graph.names(trip.path), trip.type, trip.route, trip.stops, trip.line)
+        for trip in trips_with_ways(net, graph, types, paths, options, report).all
+    ]
+
+
+def trips_with_ways(
+    net: SumoNet, graph: Graph, types: Types, paths: Iterable[str], options: Options, report: Report
+) -> Trips:
+    """The trips of files of trips, flows and routes, by departure, each with a way. Those without a route have the way
+    that is shortest with free speed, the waits at signals and the delays that the volumes so far would make; who has
+    none is left out, and counted in the report. Fault where read_trips raises one. graph: of the net.
 
     Lanes that are joint for works change nothing of it, so that a run and one with works differ by the works alone.
     """
-    graph = graph_of_net(net)
-    trips = read_trips(paths, net, graph, types, options, report).all
+    trips = read_trips(paths, net, graph, types, options, report)
     lost: set[str] = set()
-    if any(not trip.path for trip in trips):
+    if any(not trip.path for trip in trips.all):
         free, capacity = times_without_routes(net, graph, replace(options, joint=(), led=(), slow=()))
 
         def search(wishes: Sequence[Wish], costs: Costs) -> list[Found]:
@@ -37,12 +47,7 @@ def vehicles_with_ways(
             router = Router(graph, costs)
             return [router.found(wish) for wish in in_order(wishes)]
 
-        lost = {trip.name for trip in first_ways(graph, trips, free, capacity, options.seed, search)}
+        lost = {trip.name for trip in first_ways(graph, trips.all, free, capacity, options.seed, search)}
     if lost:
         report.skipped[NO_WAY] += len(lost)
-    names = graph.names
-    return [
-        Vehicle(trip.name, trip.depart, names(trip.path), trip.type, trip.route, trip.stops, trip.line)
-        for trip in trips
-        if trip.name not in lost
-    ]
+    return Trips([trip for trip in trips.all if trip.name not in lost], trips.types)

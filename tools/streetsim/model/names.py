@@ -1,7 +1,7 @@
 """The names that people know of streets, junctions and movements; a direction where a street has no name."""
 import csv
 from collections import Counter
-from collections.abc import Callable, Iterable, Mapping, Sequence
+from collections.abc import Callable, Container, Iterable, Mapping, Sequence
 from math import atan2, pi
 
 from streetsim.base.files import Fault, FilePath, open_text, reading
@@ -115,30 +115,42 @@ def beside(called: Callable[[str], str] | None, cell: object) -> list[object]:
 
 def read_own(path: FilePath, mapping: Map) -> None:
     """Adds names of one's own to a map, in place of those that it has; an empty name takes one away. The file is a CSV
-    with the columns id (of an edge, a junction, or a light for its junction) and name; Fault where it cannot be read,
-    has other columns, or an id is unknown or stands twice."""
-    edges, junctions = dict(mapping.names.get(EDGES, {})), dict(mapping.names.get(JUNCTIONS, {}))
-    nodes = {name for name, *_ in mapping.nodes} | {light for light, _ in mapping.signals}
-    lights = {light: mapping.nodes[node][0] for light, node in mapping.signals}
+    with the columns id (of an edge, a junction, or a light for each of its junctions that has no row of its own) and
+    name; Fault where it cannot be read, has other columns, or an id is unknown or stands twice."""
+    nodes, lights = {name for name, *_ in mapping.nodes}, junctions_of(mapping)
+    own = own_rows(path, {*mapping.links_of, *nodes, *lights})
+    by_light = {node: name for light, name in own.items() if light not in nodes for node in lights.get(light, ())}
+    found = {
+        EDGES: {**mapping.names.get(EDGES, {}), **{one: own[one] for one in own if one in mapping.links_of}},
+        JUNCTIONS: {**mapping.names.get(JUNCTIONS, {}), **by_light, **{one: own[one] for one in own if one in nodes}},
+    }
+    kept = {kind: {one: name for one, name in names.items() if name} for kind, names in found.items()}
+    mapping.names = {kind: names for kind, names in kept.items() if names}
+
+
+def junctions_of(mapping: Map) -> dict[str, list[str]]:
+    """By light the names of the junctions at which it stands."""
+    found: dict[str, list[str]] = {}
+    for light, node in mapping.signals:
+        found.setdefault(light, []).append(mapping.nodes[node][0])
+    return found
+
+
+def own_rows(path: FilePath, known: Container[str]) -> dict[str, str]:
+    """{id: name, without blanks around it} of a file of one's own names; Faults as read_own has them, an id that is not
+    known among them."""
+    found: dict[str, str] = {}
     with reading(path), open_text(path) as file:
         rows = csv.DictReader(file)
         if tuple(rows.fieldnames or ()) != COLUMNS:
             raise Fault(f"{path}: expected the columns {', '.join(COLUMNS)}")
-        seen: set[str] = set()
         for row in rows:
             own, name = row["id"], row["name"]
             if name is None or None in row:
                 raise Fault(f"{path}: line {rows.line_num}: expected the columns {', '.join(COLUMNS)}")
-            name = name.strip()
-            if own in seen:
+            if own in found:
                 raise Fault(f"{path}: line {rows.line_num}: {own!r} twice")
-            seen.add(own)
-            if own not in mapping.links_of and own not in nodes:
+            if own not in known:
                 raise Fault(f"{path}: line {rows.line_num}: the map has no edge or junction {own!r}")
-            if own in mapping.links_of:
-                edges[own] = name
-            if own in nodes:
-                junctions[lights.get(own, own)] = name
-    found = {EDGES: {own: name for own, name in edges.items() if name}}
-    found[JUNCTIONS] = {own: name for own, name in junctions.items() if name}
-    mapping.names = {kind: names for kind, names in found.items() if names}
+            found[own] = name.strip()
+    return found

@@ -4,7 +4,7 @@ import shutil
 import subprocess
 import tempfile
 from collections.abc import Callable, Sequence
-from dataclasses import dataclass
+from dataclasses import dataclass, replace
 from itertools import count
 from pathlib import Path
 from statistics import fmean
@@ -12,12 +12,20 @@ from statistics import fmean
 from streetsim.base.files import Fault, attribute, elements
 from streetsim.base.jobs import side_by_side
 from streetsim.base.progress import Meanwhile
+from streetsim.base.report import Report
 from streetsim.base.seeds import paired
+from streetsim.importing.vehicles import trips_with_ways
 from streetsim.model.mapping import Map
 from streetsim.model.runs import Run
 from streetsim.model.sources import Sources, sources_of
 from streetsim.results.compare import read_tripinfo
 from streetsim.signals.town import Reading, Town
+from streetsim.sumo.additional import read_additional
+from streetsim.sumo.converting import options_again
+from streetsim.sumo.net import read_net
+from streetsim.sumo.types import Types
+from streetsim.ways.graph import graph_of_net
+from streetsim.ways.trips import write_routes
 
 PROGRAM_ID = "streetsim-verified"  # of the lights: no program of the files given may have the same
 
@@ -49,23 +57,39 @@ class Verified:
 
 @dataclass(slots=True)
 class InSumo:
-    """SUMO, and what its runs are given: the path of the program, the files of the import, and the first and last
-    second."""
+    """SUMO, and what its runs are given: the path of the program, the files of the import, further additional files
+    (more), and the first and last second."""
 
     program: str
     sources: Sources
+    more: list[str]
     start: int
     until: int
 
     def words(self, plan: str, seed: int, trips: str, statistic: str) -> list[str]:
         """The words of the command of one run. plan: a file of signal programs that is read last; trips, statistic:
         files that SUMO writes."""
-        words = [self.program, "-n", self.sources.net, "-a", ",".join([*self.sources.additional, plan])]
+        words = [self.program, "-n", self.sources.net, "-a", ",".join([*self.sources.additional, *self.more, plan])]
         words += [
             "-r", ",".join(self.sources.routes), "--seed", str(seed), "--begin", str(self.start),
             "--end", str(self.until),
         ]
         return [*words, "--tripinfo-output", trips, "--statistic-output", statistic, "--no-step-log", "--no-warnings"]
+
+    def with_ways(self, mapping: Map, path: str) -> "InSumo":
+        """The same, with a file of routes, which it writes to path, in place of the files of an import with --trips:
+        its vehicles, on the ways that the import found; itself where the import had none. mapping: of the import."""
+        sources = self.sources
+        if not sources.trips:
+            return self
+        options, report = options_again(mapping), Report()
+        net, types = read_net(sources.net, options.classes, report), Types(options.seed, report)
+        for one in sources.additional:
+            read_additional(one, net, types, report)
+        graph = graph_of_net(net)
+        paths = [*sources.routes, *sources.trips]
+        write_routes(path, trips_with_ways(net, graph, types, paths, options, report), graph)
+        return replace(self, sources=Sources(sources.net, sources.additional, [path]))
 
     def trips(self, plan: str, seed: int) -> tuple[dict, int]:
         """Runs SUMO with a plan, a file of signal programs, and a seed; gives {vehicle: (wished departure, arrival)} in
@@ -102,9 +126,8 @@ def teleports_of(path: str) -> int:
 
 
 def sumo_for(reading: Reading, mapping: Map, run: Run) -> InSumo:
-    """SUMO with the files of the import, but for those of trips, and the further files of --plans. Fault where SUMO is
-    not installed, where the map names no files or they are not those that were imported, or where the first of --plans
-    is another network."""
+    """SUMO with the files of the import, and the further files of --plans. Fault where SUMO is not installed, where the
+    map names no files or they are not those that were imported, or where the first of --plans is another network."""
     program = shutil.which("sumo")
     if program is None:
         raise Fault("--verify-sumo: SUMO is not installed here (Debian: apt install sumo)")
@@ -114,9 +137,10 @@ def sumo_for(reading: Reading, mapping: Map, run: Run) -> InSumo:
             f"--verify-sumo: {reading.run} was imported from {sources.net}, and --plans begins with {reading.plans[0]}"
         )
     known = {os.path.realpath(path) for path in sources.additional}
-    more = [path for path in reading.plans[1:] if os.path.realpath(path) not in known]
-    additional, routes = (list(map(os.path.abspath, paths)) for paths in (sources.additional + more, sources.routes))
-    return InSumo(program, Sources(os.path.abspath(sources.net), additional, routes), run.start(), reading.until)
+    more = [os.path.abspath(path) for path in reading.plans[1:] if os.path.realpath(path) not in known]
+    lists = (list(map(os.path.abspath, paths)) for paths in (sources.additional, sources.routes, sources.trips))
+    whole = Sources(os.path.abspath(sources.net), *lists)
+    return InSumo(program, whole, more, run.start(), reading.until)
 
 
 def verified(in_sumo: InSumo, town: Town, texts: Sequence[str], seeds: Sequence[int], jobs: int) -> Verified:
@@ -133,6 +157,7 @@ def verified(in_sumo: InSumo, town: Town, texts: Sequence[str], seeds: Sequence[
         return mean_trip(trips, departs, in_sumo.until), teleports
 
     with tempfile.TemporaryDirectory() as folder:
+        in_sumo = in_sumo.with_ways(town.mapping, f"{folder}/ways.rou.xml")
         paths = [f"{folder}/{name}.add.xml" for name in ("given", "found")]
         for path, text in zip(paths, texts, strict=True):
             Path(path).write_text(text, encoding="utf-8")

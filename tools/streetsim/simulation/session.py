@@ -45,7 +45,10 @@ class Session(Simulation):
         self.wishes: dict[str, tuple[int, ...]] = {}  # by name, the other plans of those that were not told
         self.pending: dict[int, tuple[int, tuple[int, ...]]] = {}  # by number: a link, and other links after its end
         self.entered = 0  # how many of the run's vehicles the program was told of
-        self.loaded: list[str] = []  # names of those that were told in the last step
+        # Names, of the steps of the last call of step: those that were told, that departed, that arrived.
+        self.loaded: list[str] = []
+        self.departed: list[str] = []
+        self.arrived: list[str] = []
         self.followed = False  # whether each step is looked at
         self.writer: Writer | None = None  # of SUMO's output files
         self.ways: Ways | None = None  # what router gives
@@ -68,6 +71,12 @@ class Session(Simulation):
 
     # Steps
 
+    def step(self, time: float = 0) -> None:
+        """As Simulation.step. Who is loaded, departs or arrives in its steps is known from then on, as in SUMO, and no
+        longer who did before."""
+        self.loaded, self.departed, self.arrived = [], [], []
+        super().step(time)
+
     def go_on(self, target: int) -> None:
         """Makes one step where each is looked at, or where a phase is set to end; else steps up to target, as many as
         one line may ask for."""
@@ -80,6 +89,7 @@ class Session(Simulation):
         self.view.clear()
         if self.followed:
             self.look()
+            self.note_changes()
             if self.writer is not None:
                 self.writer.note(self.clock, self.view)
             self.turn_off()
@@ -91,8 +101,15 @@ class Session(Simulation):
             self.look()
             if not self.followed:
                 self.view.departed = [car for car in self.view.departed if self.view.has_just_departed(car)]
+                self.note_changes()
         self.followed = True
         return self
+
+    def note_changes(self) -> None:
+        """Notes who departed and arrived by the last look."""
+        names = self.fleet.names
+        self.departed += [names[car] for car in self.view.departed]
+        self.arrived += [names[car] for car in self.view.arrived]
 
     def look(self) -> None:
         """Looks at all lanes, counts a second for vehicles that stand and for lost time, and adds up distances; once at
@@ -104,7 +121,8 @@ class Session(Simulation):
     def look_again(self) -> None:
         """Looks at all lanes after a state was loaded, when nothing is known of the step before; no second is counted.
         From now on each step is looked at."""
-        seen, self.loaded, self.followed = set(self.view.seen), [], True
+        seen, self.followed = set(self.view.seen), True
+        self.loaded, self.departed, self.arrived = [], [], []
         self.view.before = {}
         self.view.look()
         self.view.seen, self.view.departed = seen | set(self.view.places), []
@@ -140,7 +158,7 @@ class Session(Simulation):
                 command = {**command, "plan": list(plan), "lane": self.connections.departure_lane(plan)}
             enters.append(command)
             names.append(name)
-        self.loaded = names
+        self.loaded += names
         cars = self.send(map(line_of, enters))
         for name, command, car in zip(names, enters, cars, strict=True):
             self.fleet.note(name, car, command)

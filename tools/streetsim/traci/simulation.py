@@ -35,8 +35,8 @@ class Stage:
 
 
 class Simulation(Domain, SimulationCalls[Session]):
-    """As SUMO's traci.simulation: seconds, metres; counts and lists are of the last step. Who departed and arrived is
-    known from the first call on that looks at vehicles."""
+    """As SUMO's traci.simulation: seconds, metres; counts and lists are of the steps of the last simulationStep. Who
+    departed and arrived is known from the first call on that looks at vehicles."""
 
     kind, name = "Simulation", "simulation"
     variables = {
@@ -79,9 +79,8 @@ class Simulation(Domain, SimulationCalls[Session]):
         return self.now().options[option]
 
     def getLoadedIDList(self) -> tuple[str, ...]:
-        """The vehicles of the files of which the program was told for the last step, as they would depart in it, and
-        those that the script has added since; not those that it added before that step. Until vehicles are looked at,
-        those of several steps that were made at once."""
+        """The vehicles of the files that would depart in the steps of the last simulationStep, and those that the
+        script has added since; not those that it added before."""
         return tuple(self.now().loaded)
 
     def getLoadedNumber(self) -> int:
@@ -89,22 +88,21 @@ class Simulation(Domain, SimulationCalls[Session]):
         return len(self.now().loaded)
 
     def getDepartedIDList(self) -> tuple[str, ...]:
-        """The vehicles that departed in the last step."""
-        session = self.now().follow()
-        return tuple(session.fleet.names[car] for car in session.view.departed)
+        """The vehicles that departed in the steps of the last simulationStep; of steps before the first look, in the
+        last one alone."""
+        return tuple(self.now().follow().departed)
 
     def getDepartedNumber(self) -> int:
-        """How many vehicles departed in the last step."""
-        return len(self.now().follow().view.departed)
+        """How many vehicles getDepartedIDList names."""
+        return len(self.now().follow().departed)
 
     def getArrivedIDList(self) -> tuple[str, ...]:
-        """The vehicles that arrived in the last step."""
-        session = self.now().follow()
-        return tuple(session.fleet.names[car] for car in session.view.arrived)
+        """The vehicles that arrived in the steps of the last simulationStep, as far as these were looked at."""
+        return tuple(self.now().follow().arrived)
 
     def getArrivedNumber(self) -> int:
-        """How many vehicles arrived in the last step."""
-        return len(self.now().follow().view.arrived)
+        """How many vehicles getArrivedIDList names."""
+        return len(self.now().follow().arrived)
 
     def getPendingVehicles(self) -> tuple[str, ...]:
         """The vehicles that should have departed before now and wait for room."""
