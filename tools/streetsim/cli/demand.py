@@ -102,7 +102,7 @@ def main(arguments: Sequence[str]) -> int:
         town = read_town(words.net, words.additional, options_of(words), Report())
         basis = demanding.basis_of(town, asked, told)
         if not words.begin:
-            basis = replace(basis, town=demanding.with_begin(town, basis.slices.bounds[0]))
+            town.options = replace(town.options, begin=basis.slices.bounds[0])
         told("fitting")
         fitted = demanding.fit(basis, asked, basis.free_costs())
         making.tell_inputs(basis, fitted)

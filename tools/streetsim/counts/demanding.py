@@ -1,7 +1,7 @@
 """Makes a demand from what a planner has: inputs read and checked, candidate ways, and the fit."""
 from collections import Counter
 from collections.abc import Callable, Iterable, Mapping, Sequence
-from dataclasses import dataclass, replace
+from dataclasses import dataclass
 from itertools import pairwise
 from xml.etree.ElementTree import Element
 
@@ -329,10 +329,3 @@ def trips_of_fit(basis: Basis, asked: Asked, fitted: Fitted) -> list[Trip]:
     if not trips:
         raise Fault("nobody drives: the fit has no vehicle")
     return trips
-
-
-def with_begin(town: Town, begin: int) -> Town:
-    """The same town with runs that begin at a clock."""
-    made = Town(town.net, town.types, replace(town.options, begin=begin))
-    made.works = town.works
-    return made

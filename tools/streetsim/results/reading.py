@@ -145,13 +145,12 @@ def read_rows(runs: Runs, table: str) -> None:
             numbers = {name: float(row[name]) for name in MEASURES if row.get(name)}
             found[int(row["begin"]), int(row["end"])].setdefault(key, {})[seed] = numbers
     for (begin, end), rows in found.items():
-        made = {
-            key: Row(key, control, movement, means(seeds), seeds) for (key, control, movement), seeds in rows.items()
+        runs.rows[table, begin, end] = {
+            key: Row(key, control, movement, over_seeds(own), own) for (key, control, movement), own in rows.items()
         }
-        runs.rows[table, begin, end] = made
 
 
-def means(seeds: Mapping[int, Mapping[str, float]]) -> dict[str, float]:
+def over_seeds(seeds: Mapping[int, Mapping[str, float]]) -> dict[str, float]:
     """{measure: its mean over the seeds that have it}, of the greatest queue the greatest; seeds: {seed: {measure:
     value}}."""
     names = {name for values in seeds.values() for name in values}
