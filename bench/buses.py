@@ -1,7 +1,7 @@
 #!/usr/bin/python3
 """Buses that stop, and lights that wait for them, here and in SUMO; prints a table of each.
 
-Usage: bench/buses.py PROGRAM --work FOLDER --seeds FIRST-LAST [--table stops|priority]
+Usage: bench/buses.py PROGRAM --work FOLDER --seeds FIRST-LAST [--table stops|priority] [--lights KIND] [--bus TEXT]
 
 Stops: a street of two edges of 600 m, of one lane or two, a bus each 120 s that stands at a stop 345 m from an edge's \
 begin, and cars by chance for an hour. What stops add is the mean trip, of buses and of cars, less that of the same \
@@ -16,7 +16,7 @@ from collections import Counter
 from statistics import fmean
 
 import shared
-from buses_priority import priority_rows
+from buses_priority import KINDS, priority_rows
 
 # Lanes, the edge of the stop, cars an hour. Buses to the second edge enter on either lane here, and in SUMO by chance.
 STREETS = (
@@ -122,6 +122,8 @@ def main():
     parser.add_argument("--work", required=True, help="a folder for what is made")
     parser.add_argument("--seeds", default="1-3")
     parser.add_argument("--table", choices=["stops", "priority"], help="one of them alone")
+    parser.add_argument("--lights", choices=list(KINDS), help="of priority, one row alone")
+    parser.add_argument("--bus", default="", help="of priority, further attributes of the type of buses")
     args = parser.parse_args()
     work = shared.work_of(args)
     if args.table != "priority":

@@ -22,8 +22,8 @@ STOPS = {"east": "J2J3_0", "west": "J4J3_0"}  # lanes
 KINDS = {"zero": "fixed, all green at once", "wave": "fixed, a green wave eastward", "actuated": "actuated"}
 
 
-def make_corridor(folder, kind):
-    """The network of the example with lights of a kind, and its demand with buses."""
+def make_corridor(folder, kind, more=""):
+    """The network of the example with lights of a kind, and its demand with buses; more: attributes of their type."""
     words = ["netconvert", "-s", shared.CORRIDOR / "corridor.net.xml.gz", "-o", "x.net.xml"]
     if kind == "actuated":
         shared.run([*words[:-2], "--plain-output-prefix", "plain"], folder)
@@ -42,7 +42,7 @@ def make_corridor(folder, kind):
         for name, edges in BUSES.items()
     )
     demand = (shared.CORRIDOR / "corridor.rou.xml").read_text(encoding="utf-8")
-    bus = f'<vType id="bus" vClass="bus"/>{flows}</routes>'
+    bus = f'<vType id="bus" vClass="bus" {more}/>{flows}</routes>'
     (folder / "x.rou.xml").write_text(demand.replace("</routes>", bus), encoding="utf-8")
 
 
@@ -141,9 +141,11 @@ def priority_rows(args, work):
     print(" loss of cars: SUMO, here, s |")
     print(f"|{'---|' * 5}")
     for kind, told in KINDS.items():
+        if args.lights not in (None, kind):
+            continue
         folder = work / f"corridor-{kind}"
         folder.mkdir(exist_ok=True)
-        make_corridor(folder, kind)
+        make_corridor(folder, kind, args.bus)
         sides = {(side, priority): [] for side in ("sumo", "here") for priority in (False, True)}
         for seed in shared.numbers(args.seeds):
             for priority in (False, True):

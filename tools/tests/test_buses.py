@@ -11,6 +11,7 @@ from streetsim.base.report import Report
 from streetsim.buses.coordinated import Coordinated
 from streetsim.buses.fleet import Fleet
 from streetsim.buses.planned import planned
+from streetsim.buses.priority import LESS_GAIN
 from streetsim.buses.stopping import PATIENCE, Road, Stopping
 from streetsim.importing.convert import convert
 from streetsim.model.folder import read_folder
@@ -416,6 +417,23 @@ class Planned(unittest.TestCase):
         self.assertEqual([(row.phase, row.seconds) for row in light.ended], [(0, 20), (1, 3), (2, 5)])
 
 
+    def test_a_driven_light_ends_a_green_that_traffic_would_hold(self):
+        # Somebody is on each detector all the time. The bus is seen at 12 s and has passed at 20 s: then traffic holds
+        # its green to the most.
+        phases = [Phase("Gr", 5, 5, 50, (0,)), Phase("yr", 3, 3, 3), Phase("rG", 5, 5, 50, (1,)), Phase("ry", 3, 3, 3)]
+        light = Actuated(phases, (3.0, 3.0))
+        light.start(0)
+        calls = {12: (2,), 20: ()}
+        for clock in range(1, 66):
+            if clock in calls:
+                light.call(clock, calls[clock])
+            if light.due <= clock:
+                light.look(clock, lambda _: 0.0)
+        self.assertEqual([(row.phase, row.seconds, row.why) for row in light.ended], [
+            (0, 12, "bus"), (1, 3, "listed"), (2, 50, "most"),
+        ])
+
+
 class Priorities(Case):
     BUSES = '<vehicle id="v" type="bus" line="7" depart="{}"><route edges="n s"/></vehicle>'
 
@@ -443,6 +461,7 @@ class Priorities(Case):
         # s on.
         said, told = self.made(71, "--priority", "bus")
         self.assertIn("1 lights wait for 1 vehicles that are seen 15 s before", told)
+        self.assertNotIn(LESS_GAIN, told)
         self.assertEqual(self.phases()[:7], [
             *((0, 0, 30, "listed"), (30, 1, 5, "listed"), (35, 2, 30, "listed"), (65, 3, 5, "listed")),
             *((70, 0, 15, "bus"), (85, 1, 5, "listed"), (90, 2, 45, "most")),
@@ -486,6 +505,7 @@ class Priorities(Case):
         cars = '<flow id="c" begin="0" end="200" period="2"><route edges="w e"/></flow>'
         _, said = self.made(71, "--priority", "bus", cars=cars, program=CROSS[:begin] + light + CROSS[end:])
         self.assertIn("1 lights wait for 1 vehicles", said)
+        self.assertIn(f"{LESS_GAIN}: L\n", said)
         rows = self.phases()
         self.assertEqual([row for row in rows if row[3] == "bus"], [(75, 2, 5, "bus"), (75, 6, 5, "bus")])
         self.assertIn((85, 4), [row[:2] for row in rows])
