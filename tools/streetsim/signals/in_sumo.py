@@ -8,6 +8,7 @@ from dataclasses import dataclass, replace
 from itertools import count
 from pathlib import Path
 from statistics import fmean
+from typing import Self
 
 from streetsim.base.files import Fault, attribute, elements
 from streetsim.base.jobs import side_by_side
@@ -76,7 +77,7 @@ class InSumo:
         ]
         return [*words, "--tripinfo-output", trips, "--statistic-output", statistic, "--no-step-log", "--no-warnings"]
 
-    def with_ways(self, mapping: Map, path: str) -> "InSumo":
+    def with_ways(self, mapping: Map, path: str) -> Self:
         """The same, with a file of routes, which it writes to path, in place of the files of an import with --trips:
         its vehicles, on the ways that the import found; itself where the import had none. mapping: of the import."""
         sources = self.sources
