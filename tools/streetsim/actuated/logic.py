@@ -124,9 +124,8 @@ class Actuated:
         """The name of the phase that is shown; here always empty, a NEMA light has one."""
         return ""
 
-    def switch(self, _now: int) -> int:
-        """The clock at which it may go on, as scripts ask for it: when it is looked at next, as in SUMO. Changes
-        nothing."""
+    def next_switch(self, _now: int) -> int:
+        """The clock at which it may go on, as scripts ask for it: when it is looked at next, as in SUMO."""
         return self.due
 
     def go_to(self, index: int, now: int) -> None:

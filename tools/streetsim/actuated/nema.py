@@ -113,8 +113,8 @@ class Nema:
         """The numbers of both rings' phases, as 2+6."""
         return "+".join(str(one.phase.name) for one in self.active)
 
-    def switch(self, now: int) -> int:
-        """The clock at which it may go on, as scripts ask for it: the next second, as in SUMO. Changes nothing."""
+    def next_switch(self, now: int) -> int:
+        """The clock at which it may go on, as scripts ask for it: the next second, as in SUMO."""
         return now + 1
 
     def greens(self) -> tuple[tuple[int, bool], ...]:

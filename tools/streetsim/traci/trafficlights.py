@@ -63,7 +63,7 @@ class TrafficLight(Domain):
         """(the light, the index of its present phase, the seconds left of it by its program, or by what drives it)."""
         light, clock = self.now().control.light(name), self.now().clock
         if (driven := self.now().control.driven(name)) is not None:
-            return light, driven.logic.index(), float(driven.logic.switch(clock) - clock)
+            return light, driven.logic.index(), float(driven.logic.next_switch(clock) - clock)
         return light, *light.at(clock)
 
     def getRedYellowGreenState(self, name: str) -> str:
