@@ -11,7 +11,8 @@ from streetsim.model.runs import Line
 from streetsim.model.waiting import Foe, Gap, Pace, Waiting, waiting_of
 from streetsim.run.crowded import crowded, uses
 from streetsim.run.gaps import (
-    PATIENCE, Counts, be_patient, followings, gap_lines, held_parts, phases_of, red_seconds, slow_down, with_wishes,
+    MOST_SEEN, PATIENCE, Counts, be_patient, followings, gap_lines, phases_of, red_seconds, slow_down, standing,
+    stands_of,
 )
 from streetsim.run.passings import Passings
 from streetsim.sumo.conflicts import CROSSING, JOINING, foes
@@ -42,24 +43,25 @@ def passed(*sights):
 class When(unittest.TestCase):
     def test_between_two_polls(self):
         # On the next link at cell 4 it has been 4 / 2 s there and 2 s at the node.
-        self.assertEqual(passed((10, 0, 15, False), (20, 1, 4, False)), {(0, 0): [(16.0, 1)]})
+        self.assertEqual(passed((10, 0, 15, False), (20, 1, 4, False)), {(0, 0): [(16.0, 1, 10.0)]})
 
     def test_who_is_in_a_buffer_has_passed(self):
         # It was 5 cells before the stop line, so it came there 2.5 s later at the earliest.
-        self.assertEqual(passed((10, 0, 15, False), (13, 0, 20, True), (16, 1, 2, False)), {(0, 0): [(12.5, 1)]})
+        self.assertEqual(passed((10, 0, 15, False), (13, 0, 20, True), (16, 1, 2, False)), {(0, 0): [(12.5, 1, 10.0)]})
 
     def test_a_link_that_no_poll_sees(self):
-        self.assertEqual(passed((10, 0, 19, False), (30, 2, 4, False)), {(1, 0): [(26.0, 2)], (0, 0): [(14.0, 1)]})
+        lines = {(1, 0): [(26.0, 2, 26.0)], (0, 0): [(14.0, 1, 10.0)]}
+        self.assertEqual(passed((10, 0, 19, False), (30, 2, 4, False)), lines)
 
     def test_who_was_not_seen_before(self):
-        self.assertEqual(passed((20, 1, 4, False)), {(0, 0): [(16.0, 1)]})
+        self.assertEqual(passed((20, 1, 4, False)), {(0, 0): [(16.0, 1, 10.0)]})
 
     def test_who_was_seen_last_on_its_way_and_has_arrived(self):
         # It came to its last link 20 / 2 s before, and was 2 s at the node.
         passings = Passings(Links, [Line(0, "", {"plan": [0, 1, 2], "lane": 0, "depart": 0})], 0)
         passings.note(0, 20, 1, 0, 4)
         passings.arrived(0, 42)
-        self.assertEqual(dict(passings.found), {(0, 0): [(16.0, 1)], (1, 0): [(30.0, 2)]})
+        self.assertEqual(dict(passings.found), {(0, 0): [(16.0, 1, 10.0)], (1, 0): [(30.0, 2, 28.0)]})
 
     def test_a_link_that_is_not_on_the_way(self):
         passings = Passings(Links, [Line(0, "", {"plan": [0, 1], "depart": 0})], 0)
@@ -78,18 +80,18 @@ class Reds(unittest.TestCase):
         self.assertEqual([at for at, closed in enumerate(red) if closed], list(range(24, 31)))
         self.assertIsNone(red_seconds(waiting, {}, 0, 60))
 
-    def test_who_is_held_up_counts_as_it_wishes_to_pass(self):
-        # Of 10 in the first 300 s 4 pass, the others later; who is a little late is not held up.
-        wished = [30.0 * at for at in range(10)]
-        passing = [100.0, 150.0, 200.0, 250.0, 310.0, 350.0]
-        self.assertEqual(held_parts(passing, wished), {0})
-        self.assertEqual(with_wishes(passing, wished, {0}), [*wished, 310.0, 350.0])
-        self.assertEqual(held_parts([one + 40 for one in wished], wished), set())
-        self.assertEqual(held_parts([5.0], [1.0, 2.0, 3.0]), set())
-        self.assertEqual(with_wishes([5.0], [1.0, 2.0, 3.0], set()), [5.0])
+    def test_how_long_one_stands_as_the_first_of_its_lane(self):
+        """The first comes at 10 s and passes at 18; the second, due at 12, is the first 2 s later, at 20 s; the third
+        comes when nobody is there."""
+        passing = [(18.0, 1, 10.0), (25.0, 2, 12.0), (60.0, 1, 60.0)]
+        self.assertEqual(list(standing(passing[::-1])), [(18.0, 1, 8.0), (25.0, 2, 5.0), (60.0, 1, 0.0)])
+        found = stands_of({(0, 0): [*passing, (200.0, 1, 90.0)]}, {(0, 0, 1)})
+        self.assertEqual(found, {((0, 0, 1), 18.0): 5.0, ((0, 0, 1), 200.0): MOST_SEEN})
 
-    def test_held_up_by_others_who_give_way(self):
-        # Turn 3 gives way to turn 1, which gives way to turn 0 and of which one of twelve passes, at 290 s.
+    def test_who_stands_at_its_line_is_in_the_way_of_those_who_give_way_to_it(self):
+        """Turn 3 gives way to turn 1, which gives way to turn 0: of one that comes to its line at 40 s and passes at 60
+        it waits from 5.5 s before the 43rd on. One that need not give way is in nobody's way before it passes."""
+
         class Both(Links):
             links = [link(0, 1), link(0, 1), link(1, 2), link(0, 1)]
             turns = [MapTurn(at, 0, 2, 0, None, 0, False) for at in (0, 1, 3)]
@@ -98,34 +100,24 @@ class Reds(unittest.TestCase):
                 Waiting(1, ((3, 0, 2),), (Foe(1, 0, 2, Gap(5.5, 0.0, 3.5), False),)),
             ]
 
-        passing = {(0, 0): [(100.0, 2)], (1, 0): [(290.0, 2)]}
-        wished = {(0, 0): [(100.0, 2)], (1, 0): [(20.0 * at, 2) for at in range(12)]}
-
-        def seconds_red(turn, *more):
-            phases = [phase for _, line in gap_lines(Both, passing, 0, *more) for phase in line.command["phases"]]
+        def seconds_red(turn, passing):
+            phases = [phase for _, line in gap_lines(Both, passing, 0) for phase in line.command["phases"]]
             return sum(length for length, shown in phases if turn not in shown)
 
-        self.assertEqual(seconds_red((3, 0, 2)), 9)  # 5.5 before it, 1 behind it and 2 as it gives way too
-        self.assertGreaterEqual(seconds_red((3, 0, 2), wished), 11 * 6)  # the one at 0 s is before the begin
-        self.assertEqual(seconds_red((1, 0, 2), wished), seconds_red((1, 0, 2)))
+        first = {(0, 0): [(50.0, 2, 20.0)]}
+        self.assertEqual(seconds_red((3, 0, 2), {**first, (1, 0): [(60.0, 2, 60.0)]}), 7)
+        self.assertEqual(seconds_red((3, 0, 2), {**first, (1, 0): [(60.0, 2, 40.0)]}), 7 + 17)
+        self.assertEqual(seconds_red((1, 0, 2), first), 7)
 
     def test_who_starts_from_a_stand_is_out_of_the_way_later(self):
         gap = Gap(5.5, 0.0, 3.5).later(1.0)
         red = red_seconds(Waiting(1, ((2, 0, 1),), (foe(gap),)), {(0, 0, 1): [30.0]}, 0, 60)
         self.assertEqual([at for at, closed in enumerate(red) if closed], list(range(24, 32)))
 
-    def test_who_gives_way_too_is_out_of_the_way_later(self):
-        """4 s are free before one who passes at 50 s, and 1 s behind it; 3 s if it gives way too and is not held up."""
-        key = (0, 0, 1)
-        waiting = Waiting(1, ((2, 0, 1),), (foe(Gap(4.0, 0.0, 3.5)),))
-        for held, last in (({}, 50), ({key: set()}, 52), ({key: {0}}, 50), ({key: {1}}, 52)):
-            red = red_seconds(waiting, {key: [50.0]}, 0, 80, None, held)
-            self.assertEqual([at for at in range(80) if red[at]], list(range(46, last + 1)))
-
     def test_how_far_a_lane_is_used(self):
         """Green 10 s of each minute lets some 5 pass, so 40 in a quarter of an hour take half of its time and more."""
         red = bytearray(b"\1" * 50 + b"\0" * 10) * 15
-        passing = {(0, 0): [(22.0 * at, 1) for at in range(40)]}
+        passing = {(0, 0): [(22.0 * at, 1, 22.0 * at) for at in range(40)]}
         ((place, vehicles, share),) = uses([(Waiting(1, ((0, 0, 1),), ()), red)], passing, 0)
         self.assertEqual((place, vehicles), ((0, 0), 40))
         self.assertTrue(0.45 < share < 0.6, share)
@@ -215,7 +207,7 @@ class Lines(unittest.TestCase):
         class Yielding(Links):
             yields = [Waiting(1, ((0, 0, 1),), (Foe(1, 0, 2, Gap(4.0, 0.0, 0.0), False),))]
 
-        [(clock, line)] = gap_lines(Yielding, {(1, 0): [(130.0, 2)]}, 100)
+        [(clock, line)] = gap_lines(Yielding, {(1, 0): [(130.0, 2, 130.0)]}, 100)
         self.assertEqual(json.loads(json.dumps(line.command)), json.loads(line.text))
         self.assertEqual(clock, 100)
         phases = '[26,[[0,0,1]]],[5,[]],[29,[[0,0,1]]],[600,[[0,0,1]]]'

@@ -6,15 +6,16 @@ from streetsim.model.mapping import Map
 from streetsim.model.runs import Line
 from streetsim.run.gaps import gap_lines
 
-Passed = dict[tuple[str, int], list[tuple[float, str]]]  # by edge and lane, as SUMO names them: (second, next edge)
+# By edge and lane, as SUMO names them: (second, next edge, the second at which it would have come to the line).
+Passed = dict[tuple[str, int], list[tuple[float, str, float]]]
 
 
-def named(found: Mapping[tuple[int, int], Sequence[tuple[float, int]]], mapping: Map) -> Passed:
-    """{(edge, lane): [(second, next edge)]}: when vehicles passed which stop line, with names in place of the map's
-    numbers, as another import may number links otherwise. found: {(link, lane): [(second, next link)]}."""
+def named(found: Mapping[tuple[int, int], Sequence[tuple[float, int, float]]], mapping: Map) -> Passed:
+    """When vehicles passed which stop line, with names in place of the map's numbers, as another import may number
+    links otherwise. found: as Passings found it."""
     links = mapping.links
     return {
-        (links[link].edge, links[link].lanes[lane]): [(second, links[following].edge) for second, following in each]
+        (links[link].edge, links[link].lanes[lane]): [(at, links[following].edge, due) for at, following, due in each]
         for (link, lane), each in found.items()
     }
 
@@ -28,13 +29,13 @@ def waiting_lines(passed: Passed, mapping: Map, start: int) -> list[tuple[int, L
     turns: defaultdict[tuple[str, str], list[tuple[int, int, int]]] = defaultdict(list)
     for turn in mapping.turns:
         turns[mapping.links[turn.link].edge, mapping.links[turn.next].edge].append((turn.link, turn.lane, turn.next))
-    found: defaultdict[tuple[int, int], list[tuple[float, int]]] = defaultdict(list)
+    found: defaultdict[tuple[int, int], list[tuple[float, int, float]]] = defaultdict(list)
     for (edge, lane), each in passed.items():
         chosen = {}
-        for following in dict.fromkeys(following for _, following in each):
+        for following in dict.fromkeys(following for _, following, _ in each):
             of_way, place = turns.get((edge, following), ()), places.get((edge, lane))
             chosen[following] = next((way for way in of_way if way[:2] == place), of_way[0] if of_way else None)
-        for second, following in each:
+        for second, following, due in each:
             if way := chosen[following]:
-                found[way[:2]].append((second, way[2]))
+                found[way[:2]].append((second, way[2], due))
     return gap_lines(mapping, found, start)

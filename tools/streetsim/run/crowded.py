@@ -12,7 +12,7 @@ from streetsim.sumo.greens import passing_here
 PART = 900  # seconds, of which each is looked at alone
 LIMIT = 2  # cells a step of the links whose queues are reckoned with
 FREE = 2.0  # seconds that one takes of its lane who need not wait
-FULL = 0.5  # of a lane's time, from which on waits are other than in SUMO by more than a tenth, at lone crosses
+FULL = 0.4  # of a lane's time, from which on two in three trips are more than an eighth off SUMO's, at lone crosses
 LEAST = 15  # vehicles that pass a lane in a part, below which nobody is told of it
 
 Reds = Iterable[tuple[Waiting, Sequence[int]]]  # who gives way, and for each second whether they are red
@@ -37,7 +37,7 @@ def uses(reds: Reds, passed: Passed, start: int) -> Iterator[tuple[Place, int, f
         room.update(dict.fromkeys(one.turns, list(passing(red))))
     lanes: defaultdict[tuple[Place, int], Counter[int]] = defaultdict(Counter)
     for place in {(link, lane) for link, lane, _ in room} & passed.keys():
-        for second, following in passed[place]:
+        for second, following, _ in passed[place]:
             lanes[place, int(second - start) // PART][following] += 1
     for (place, part), counts in sorted(lanes.items()):
         taken = (taking(count, room.get((*place, following)), part) for following, count in counts.items())

@@ -1,6 +1,7 @@
 """Signals that are green in the gaps between vehicles that go first, where there is no light."""
+import math
 from bisect import bisect_left, bisect_right
-from collections import Counter, defaultdict
+from collections import defaultdict
 from collections.abc import Collection, Iterable, Iterator, Mapping, Sequence
 from itertools import accumulate, groupby
 
@@ -11,36 +12,34 @@ from streetsim.model.waiting import Foe, Pace, TurnKey, Waiting
 
 State = tuple[int, ...]  # for each group whether it is red
 Group = tuple[Sequence[TurnKey], Sequence[int]]  # turns that give way, and for each second whether they are red
-Passed = Mapping[Place, Sequence[tuple[float, int]]]  # {(link, lane): [(second, next link)]}
+# {(link, lane): [(second, next link, the second at which it would have come to the line were nobody in its way)]}
+Passed = Mapping[Place, Sequence[tuple[float, int, float]]]
 Times = Mapping[TurnKey, Sequence[float]]  # when vehicles pass, by turn
-Held = Mapping[TurnKey, Collection[float]]  # by turn that gives way: the parts of AROUND seconds in which it is held up
+Stands = Mapping[tuple[TurnKey, float], float]  # {(turn, second): how long the one that passes then stood at the line}
 AROUND = 300  # seconds before and after, in which those that go first are counted
 SHOWN, HIDDEN = 3, 2  # seconds in turn, where those that use a gap follow each other slowly
 # Seconds between two of them that may use one gap, and before and after them for what differs from run to run.
 CLOSE = 15
 PATIENCE = 150  # seconds without a gap; then one goes
 TAIL = 30  # seconds after the last vehicle
-# Share of those who wish to pass in AROUND seconds, and how many, from which on they are held up.
-HELD_UP, FEWER = 0.2, 5
-LATER = 2.0  # seconds later one is out of the way who gives way too and is not held up
+FOLLOWING = 2.0  # seconds behind another, after which one is the first of its lane
+# Seconds that one who gives way stands at the line before it is in the way of others, and for how many it is at most.
+UNSEEN, MOST_SEEN = 3.0, 30.0
 
 
-def gap_lines(mapping: Map, passed: Passed, start: int, wished: Passed | None = None) -> list[tuple[int, Line]]:
+def gap_lines(mapping: Map, passed: Passed, start: int) -> list[tuple[int, Line]]:
     """The signal lines, (clock, line), for nodes without a light where vehicles give way: green in the gaps between
-    those who go first. passed: when vehicles passed in a run, {(link, lane): [(second, next link)]}; wished: the same
-    of a run in which nobody gives way, None: not known."""
-    return lines_of(mapping, reds_of(mapping, passed, start, wished), start)
+    those who go first. passed: when vehicles passed in a run; start: the run's first clock."""
+    return lines_of(mapping, reds_of(mapping, passed, start), start)
 
 
-def reds_of(mapping: Map, passed: Passed, start: int, wished: Passed | None = None) -> list[tuple[Waiting, bytearray]]:
+def reds_of(mapping: Map, passed: Passed, start: int) -> list[tuple[Waiting, bytearray]]:
     """(one who gives way, a byte for each second from start, 1: red) for each Waiting of a map; those before whom
     nobody comes, and that have no pace, are left out. Arguments: as of gap_lines."""
-    end = int(max((second for each in passed.values() for second, _ in each), default=start)) + TAIL
+    end = int(max((second for each in passed.values() for second, *_ in each), default=start)) + TAIL
     times = by_turn(passed)
-    wishes = times if wished is None else by_turn(wished)
-    coming = coming_of(times, wishes, held_of(mapping.yields, times, wishes))
-    unstopped = held_of([one for one in mapping.yields if one.pace is None], times, wishes)
-    reds = ((one, red_seconds(one, times, start, end, coming, unstopped)) for one in mapping.yields)
+    stands = stands_of(passed, {turn for one in mapping.yields for turn in one.turns})
+    reds = ((one, red_seconds(one, times, start, end, stands)) for one in mapping.yields)
     return [(one, red) for one, red in reds if red is not None]
 
 
@@ -60,39 +59,29 @@ def by_turn(passed: Passed) -> dict[TurnKey, list[float]]:
     """When vehicles passed, by turn in place of lane, {(link, lane, next link): [second]}."""
     times: defaultdict[TurnKey, list[float]] = defaultdict(list)
     for (link, lane), each in passed.items():
-        for second, following in each:
+        for second, following, _ in each:
             times[link, lane, following].append(second)
     return times
 
 
-def held_of(yields: Iterable[Waiting], times: Times, wished: Times) -> Held:
-    """By turn that gives way the parts of AROUND seconds, by their numbers, in which it is held up. times: when
-    vehicles passed; wished: when they passed where nobody gave way."""
-    waits = {turn for one in yields for turn in one.turns}
-    return {turn: held_parts(times.get(turn, ()), wished.get(turn, ())) for turn in waits}
-
-
-def held_parts(passing: Sequence[float], wishing: Sequence[float]) -> set[float]:
-    """The parts of AROUND seconds, by their numbers, in which so many fewer pass than wish to that they count as held
-    up."""
-    passed, wished = (Counter(second // AROUND for second in seconds) for seconds in (passing, wishing))
-    return {part for part, count in wished.items() if count - passed[part] >= max(FEWER, HELD_UP * count)}
-
-
-def coming_of(times: Times, wished: Times, held: Held) -> Times:
-    """When those who go first come, by turn: as they passed (times). Turns that give way themselves count as they
-    passed in wished for the time in which they are held up: the gaps that they take change from round to round, and
-    others would take these for free."""
+def stands_of(passed: Passed, waits: Collection[TurnKey]) -> Stands:
+    """How long those who give way stood at their line in the way of others, by turn and second; who stood for UNSEEN
+    seconds or less is left out. waits: the turns that give way."""
+    stood = ((place, *one) for place, each in passed.items() for one in standing(each))
     return {
-        turn: with_wishes(seconds, wished.get(turn, ()), held[turn]) if turn in held else seconds
-        for turn, seconds in times.items()
+        ((*place, following), second): min(MOST_SEEN, seconds - UNSEEN)
+        for place, second, following, seconds in stood
+        if seconds > UNSEEN and (*place, following) in waits
     }
 
 
-def with_wishes(passing: Sequence[float], wishing: Sequence[float], held: Collection[float]) -> list[float]:
-    """When the vehicles of a turn pass, or, in the parts of AROUND seconds in which they are held up, wish to pass."""
-    as_they_pass = [second for second in passing if second // AROUND not in held]
-    return sorted([*as_they_pass, *(second for second in wishing if second // AROUND in held)])
+def standing(passing: Iterable[tuple[float, int, float]]) -> Iterator[tuple[float, int, float]]:
+    """(second, next link, how many seconds it stood) of each vehicle that passes the line of a lane: from when it came
+    there, or the one before it was FOLLOWING seconds gone. passing: as the values of Passed."""
+    free = -math.inf
+    for second, following, due in sorted(passing):
+        yield second, following, second - max(due, free)
+        free = second + FOLLOWING
 
 
 def node_lines(node: int, turns: Sequence[TurnKey], groups: Sequence[Group], start: int) -> Iterator[tuple[int, Line]]:
@@ -132,14 +121,13 @@ def phases_of(reds: Sequence[Sequence[int]]) -> list[tuple[int, State]]:
 
 
 def red_seconds(
-    waiting: Waiting, times: Times, start: int, end: int, coming: Times | None = None, held: Held | None = None
+    waiting: Waiting, times: Times, start: int, end: int, stands: Stands | None = None
 ) -> bytearray | None:
     """For the turns of one Waiting a byte for each second from start to end, 1 where they are red as somebody comes who
     goes first, or to keep their pace; None where nobody comes and they have no pace. times: when vehicles pass, by
-    turn; coming: when those who go first come, None: when they pass; held: when those are held up who give way too
-    without a stop, by turn, None: there are none."""
-    coming, held = times if coming is None else coming, held or {}
-    comes = [(second, foe) for foe in waiting.foes for second in coming.get((foe.link, foe.lane, foe.next), ())]
+    turn; stands: how long those stood at the line who give way too, and so were in the way before they passed, None:
+    nobody did."""
+    comes = [(second, foe) for foe in waiting.foes for second in times.get((foe.link, foe.lane, foe.next), ())]
     comes.sort(key=lambda one: one[0])
     if not comes and waiting.pace is None:
         return None
@@ -147,10 +135,10 @@ def red_seconds(
     for second, foe in comes:
         if not foe.gap.seconds:  # all stop, and go in turn
             continue
-        after = foe.gap.after + seconds_later(foe, second, held)
-        length = foe.gap.before(*counts.around(second, foe)) + after + owed
+        stood = stands.get(((foe.link, foe.lane, foe.next), second), 0.0) if stands else 0.0
+        length = foe.gap.before(*counts.around(second, foe)) + stood + foe.gap.after + owed
         owed = length % 1
-        last = round(second + after) - start
+        last = round(second + foe.gap.after) - start
         close(red, last - int(length), last)
     if any(foe.slow for _, foe in comes):
         for sooner, later in followings(sorted(second for turn in waiting.turns for second in times.get(turn, ()))):
@@ -159,14 +147,6 @@ def red_seconds(
         keep_pace(red, waiting.pace, counts.every, near_passings(waiting, times, start, len(red)), start)
     be_patient(red)
     return red
-
-
-def seconds_later(foe: Foe, second: float, held: Held) -> float:
-    """How many seconds later than its gap says a foe is out of the way that passes at a second: LATER where it gives
-    way itself, as the gap that it takes is of the round before; 0 where it does not, or is held up, as it then counts
-    when it wishes to pass. held: as of red_seconds."""
-    turn = foe.link, foe.lane, foe.next
-    return LATER if turn in held and second // AROUND not in held[turn] else 0.0
 
 
 def near_passings(waiting: Waiting, times: Times, start: int, length: int) -> bytearray:

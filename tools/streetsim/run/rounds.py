@@ -57,7 +57,7 @@ class Round(Recorder):
         self.passings = Passings(mapping, run.enters, run.load.command.get("dawdle", 0))
 
     def record(self) -> Passed:  # type: ignore[override]  # in place of tables
-        """Makes the round; gives when vehicles passed, {(link, lane): [(second, next link)]}."""
+        """Makes the round; gives when vehicles passed."""
         self.begin(self.asking())
         clock = self.start
         while clock < self.settings.until and not self.is_over():
@@ -116,13 +116,13 @@ def gaps_of(
         lights=settings.lights,
         buses=settings.buses,
     )
-    made, yielding, wished = run, Yielding(rounds, every=EVERY), None
+    made, yielding = run, Yielding(rounds, every=EVERY)
     for _ in range(rounds):
         with start() as sim:
             passed = Round(sim, made, mapping, asked, places, tell).record()
-        reds = reds_of(mapping, passed, run.start(), wished)
+        reds = reds_of(mapping, passed, run.start())
         lines = lines_of(mapping, reds, run.start())
-        wished, made = wished or passed, with_lines(run, lines)
+        made = with_lines(run, lines)
     yielding.lines, yielding.junctions = len(lines), len({line.command["node"] for _, line in lines})
     yielding.crowded = crowded(mapping, reds, passed, run.start())
     return lines, yielding
