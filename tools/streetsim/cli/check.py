@@ -120,7 +120,8 @@ def refuse_elsewhere(target: str, seal: Seal) -> None:
 
 
 def made_again(words: argparse.Namespace, seal: Seal, place: str) -> str:
-    """The page, of sealed files that were unpacked into the folder `place`; runs are written there too."""
+    """The page, of sealed files that were unpacked into the folder `place`; runs are written there too. Fault where
+    they give none."""
     plans = seal.content["plans"]
     folders = [f"{place}/out-{at}" for at in range(len(plans))]
     for plan, folder in zip(plans, folders, strict=True):

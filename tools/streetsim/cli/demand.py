@@ -88,7 +88,8 @@ def add_fit(made: argparse.ArgumentParser) -> None:
 
 def main(arguments: Sequence[str]) -> int:
     """Runs streetsim-demand: makes the demand, writes its files and prints how well it fits; gives its status, as
-    `making.tell` says."""
+    `making.tell` says. Fault for words that do not fit, files that cannot be read or written, and inputs from which no
+    demand can be made."""
     words = parser().parse_args(arguments)
     asked, outputs = asked_of(words), Outputs(words.output, words.out, words.run, words.map)
     check_words(words)

@@ -184,7 +184,8 @@ def words_of(arguments: list[str]) -> tuple[argparse.Namespace, dict[str, str]]:
 
 def main(arguments: list[str]) -> int:
     """Runs streetsim-import: writes the run, its map and the table of --warnings, and tells on standard error what is
-    other than in SUMO; gives its status: 1 where --strict is given and vehicles were skipped, else 0."""
+    other than in SUMO; gives its status: 1 where --strict is given and vehicles were skipped, else 0. Fault where a
+    file cannot be read or written, or has what cannot be imported."""
     words, told = words_of(arguments)
     words.additional, words.routes, words.trips = map(files_of, (words.additional, words.routes, words.trips))
     sources = Sources(words.net, words.additional, words.routes, words.trips)

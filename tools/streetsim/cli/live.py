@@ -61,7 +61,8 @@ def parser() -> Parser:
 
 def engines_of(words: argparse.Namespace, lines: list[bytes], joining: Joining) -> list[Engine]:
     """Two engines of a served page: of the traffic as it is, whose session may be kept, and as it would be without the
-    user's changes. lines: of the run; joining: the page's run, which may be imported anew."""
+    user's changes. lines: of the run; joining: the page's run, which may be imported anew. Fault where there is no
+    program, or the kept session cannot go on."""
     if not words.keep:
         program = program_of(words.program)
         if joining.driven:

@@ -96,7 +96,7 @@ def main(arguments: list[str]) -> int:
 
 
 def drawn(pyplot: Pyplot, words: argparse.Namespace) -> Figure:
-    """The picture that the words ask for, drawn but not saved."""
+    """The picture that the words ask for, drawn but not saved. Fault where that cannot be read or drawn."""
     if words.kind == "map" and words.what != "density":
         return maps.draw(pyplot, words.folder, words.what, words.begin)
     if words.kind == "fundamental" and words.ring:

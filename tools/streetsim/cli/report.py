@@ -130,8 +130,8 @@ def files_beside(words: argparse.Namespace) -> dict[str, str]:
 
 
 def text_again(arguments: list[str], seal: Seal) -> str:
-    """The text of a page by the words that made it, with its seal; for the runs' programs it names those of the
-    seal."""
+    """The text of a page by the words that made it, with its seal; for the runs' programs it names those of the seal.
+    Fault where they give none."""
     words = parser().parse_args(arguments)
     refuse(words)
     plans = read_plans(words)
@@ -163,7 +163,8 @@ def refuse(words: argparse.Namespace) -> None:
 
 
 def read_plans(words: argparse.Namespace) -> list[Runs]:
-    """The runs of each plan, one or two, with their names and those of --names put into their maps."""
+    """The runs of each plan, one or two, with their names and those of --names put into their maps. Fault where one
+    cannot be read."""
     plans = [read_runs(path) for path in words.runs]
     for runs, path in zip(plans, words.runs, strict=True):
         if words.names:
@@ -177,7 +178,7 @@ def read_plans(words: argparse.Namespace) -> list[Runs]:
 
 def wishes_of(plans: Sequence[Runs], words: argparse.Namespace, seal: Seal | None) -> Wishes:
     """What the words ask of a page, with the sections and pictures that they add to its appendix. seal: none where the
-    page is not sealed."""
+    page is not sealed. Fault where one of them cannot be made."""
     pictures = []
     if words.corridor:
         pictures.append(Section("corridor", "Corridor", "".join(corridor(runs, words) for runs in plans)))
@@ -191,7 +192,8 @@ def wishes_of(plans: Sequence[Runs], words: argparse.Namespace, seal: Seal | Non
 
 
 def counts_told(runs: Runs, words: argparse.Namespace) -> str:
-    """How the first seed of a plan meets the counts of --counts, as HTML."""
+    """How the first seed of a plan meets the counts of --counts, as HTML. Fault where they cannot be read, or the run
+    does not have a place or period of theirs."""
     counts = read_counts(files_of(words.counts), words.attribute)
     return counts_section(runs.name, judged(counts, passed_in(runs.first, counts)), runs.first.mapping)
 
@@ -232,7 +234,8 @@ def interval_of(all_runs: Sequence[Runs], words: argparse.Namespace) -> tuple[in
 
 
 def corridor(runs: Runs, words: argparse.Namespace) -> str:
-    """The corridor's picture of a plan's first seed, as HTML, in both directions where edges lead back."""
+    """The corridor's picture of a plan's first seed, as HTML, in both directions where edges lead back. Fault where the
+    map has no such edge, or the run no polls."""
     from streetsim.cli.plot import main as plot
 
     folder = runs.first
@@ -251,7 +254,8 @@ def corridor(runs: Runs, words: argparse.Namespace) -> str:
 
 
 def drawn_sum(folder: Folder, words: argparse.Namespace, back: bool) -> str:
-    """The SHA-256 of the data that a corridor's picture is drawn from; back: whether it shows the way back too."""
+    """The SHA-256 of the data that a corridor's picture is drawn from; back: whether it shows the way back too. Fault
+    where the map has no such edge, or the run no polls."""
     edges = listed(words.corridor)
     ways = [edges, *([way_back(folder, edges)] if back else [])]
     times = words.first, words.last

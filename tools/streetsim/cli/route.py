@@ -145,7 +145,8 @@ def shares_of(text: str) -> list[float]:
 
 def main(arguments: Sequence[str]) -> int:
     """Runs streetsim-route: searches, writes the routes and tables, and prints what was found; gives the greatest
-    status that `tell` gives for one of the shares of drivers who know."""
+    status that `tell` gives for one of the shares of drivers who know. Fault for words that do not fit, files that
+    cannot be read or written, and trips without a way."""
     words = parser().parse_args(arguments)
     check_words(words)
     with Slow(f"reading {words.net}"):

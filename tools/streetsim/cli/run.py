@@ -161,7 +161,7 @@ def add_outputs(made: argparse.ArgumentParser) -> None:
 
 
 def main(arguments: list[str]) -> int:
-    """Runs streetsim-run, as `running.run_by` says; gives status 0."""
+    """Runs streetsim-run, as `running.run_by` says; gives status 0. Fault where run_by raises one."""
     made = parser()
     words = made.parse_args(arguments)
     from streetsim.cli.running import run_by

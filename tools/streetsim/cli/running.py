@@ -85,7 +85,8 @@ def refuse_unused(words: argparse.Namespace, run: Run, mapping: Map) -> None:
 
 
 def write_inputs(words: argparse.Namespace, folder: str, run: Run, mapping: Map) -> None:
-    """Writes into a run's folder what it is made again by, and with junction tables what its lights show."""
+    """Writes into a run's folder what it is made again by, and with junction tables what its lights show. Fault where
+    it cannot be written."""
     write_kept(folder, run)
     if words.junctions is not None:
         write_lights(folder, mapping, words.map)
@@ -155,7 +156,8 @@ def report(figures: Figures, name: str) -> None:
 
 def run_seeds(words: argparse.Namespace, making: Making, run: Run, mapping: Map, settings: Settings) -> int:
     """Makes a run for each seed of --seeds, side by side, each into a folder of its own below --out; prints and writes
-    (seeds.csv) each mean trip, and prints their mean and its 95 % interval. Gives status 0."""
+    (seeds.csv) each mean trip, and prints their mean and its 95 % interval. Gives status 0. Fault where seeds are none,
+    a run fails, or a file cannot be written."""
     seeds, making = seeds_of(words.seeds, "--seeds"), replace(making, jobs=1)
     shown = UnderWay(settings.until, len(seeds))
     with whole_folder(words.out, NAME, AT_WISH) as folder:

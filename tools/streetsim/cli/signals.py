@@ -133,7 +133,8 @@ def add_machines(made: argparse.ArgumentParser) -> None:
 
 def main(arguments: list[str]) -> int:
     """Runs streetsim-signals: searches, writes the plan (or the bounds) and tables, and prints what was found; gives
-    the status, as `tell` says."""
+    the status, as `tell` says. Fault for words that do not fit, files that cannot be read or written, and runs that
+    fail."""
     words = parser().parse_args(arguments)
     changed, cycles = changes_of(words)
     check = check_seeds(words)

@@ -86,14 +86,15 @@ def main(arguments: list[str]) -> int:
 
 def write_made(words: argparse.Namespace, given: list[str], folder: str) -> None:
     """Writes by what the study is made again: its file, as a path from the folder of --out, its SHA-256, and the words
-    that change numbers (given). folder: where the file is written until it is whole."""
+    that change numbers (given). folder: where the file is written until it is whole. Fault where it cannot be
+    written."""
     path = os.path.relpath(os.path.realpath(words.study), os.path.realpath(words.out))
     with whole_file(f"{folder}/{MADE}") as file:
         json.dump({"study": path, "sum": sum_of(words.study), "words": given}, file)
 
 
 def run_all(words: argparse.Namespace, study: Study) -> dict[str, list[Outcome]]:
-    """Runs each variant with each seed; gives {variant: outcomes in the order of the seeds}."""
+    """Runs each variant with each seed; gives {variant: outcomes in the order of the seeds}. Fault where one fails."""
     sessions = [variant.session for variant in study.variants.values()]
     total = len(study.variants) * len(study.seeds)
     meanwhile = Meanwhile("runs", total)

@@ -1,4 +1,5 @@
-"""The ways that a demand may take: the shortest by time between entries, exits and zones, several for a pair."""
+"""The ways that a demand may take: the shortest by time between entries, exits and zones, several for a pair. What
+reckons with NumPy and SciPy raises a Fault where these are missing (science.needed)."""
 import random
 from collections import Counter, defaultdict
 from collections.abc import Iterable, Iterator, Mapping, Sequence

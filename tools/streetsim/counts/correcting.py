@@ -1,5 +1,5 @@
 """The fit in the simulation: runs of a demand, each corrected by what the one before showed, until one fits or no run
-is left."""
+is left. What reckons with NumPy and SciPy raises a Fault where these are missing (science.needed)."""
 from collections.abc import Iterator, Sequence
 from dataclasses import dataclass, field
 

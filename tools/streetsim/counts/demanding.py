@@ -1,4 +1,5 @@
-"""Makes a demand from what a planner has: inputs read and checked, candidate ways, and the fit."""
+"""Makes a demand from what a planner has: inputs read and checked, candidate ways, and the fit. What reckons with NumPy
+and SciPy raises a Fault where these are missing (science.needed)."""
 from collections import Counter
 from collections.abc import Callable, Iterable, Mapping, Sequence
 from dataclasses import dataclass

@@ -1,5 +1,5 @@
 """Finds the vehicles of each way and slice (period of departure) that fit counts best: sparse least squares with
-bounds."""
+bounds. What reckons with NumPy and SciPy raises a Fault where these are missing (science.needed)."""
 from collections.abc import Sequence
 from dataclasses import dataclass
 

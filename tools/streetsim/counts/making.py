@@ -77,7 +77,8 @@ def tried(
 
 
 def made_of(basis: Basis, asked: Asked, fitted: Fitted, tried: list[Attempt]) -> Made:
-    """The demand of the run that fits best, or of the fit on paper where nothing was run."""
+    """The demand of the run that fits best, or of the fit on paper where nothing was run. Fault where that has no
+    vehicle."""
     if tried:
         best = correcting.best_of(tried)
         return Made(basis, best.fitted, tried, best.judged, best.trips)

@@ -1,4 +1,5 @@
-"""When vehicles of a way pass the places that were counted: the matrix by which a demand is fitted to counts."""
+"""When vehicles of a way pass the places that were counted: the matrix by which a demand is fitted to counts. What
+reckons with NumPy and SciPy raises a Fault where these are missing (science.needed)."""
 from bisect import bisect_left
 from collections.abc import Iterable, Iterator, Sequence
 from dataclasses import dataclass

@@ -13,8 +13,8 @@ GOOD_COLOUR, BAD_COLOUR = "#225588", "#c04000"
 
 
 def draw(folder: str, fit: Judged, links: Sequence[MapLink], what: str) -> None:
-    """Draws fit.png and differences.png into a folder; without matplotlib none, which is said on standard error. what:
-    of the axes, how vehicles passed ("passed in the run")."""
+    """Draws fit.png and differences.png into a folder; without matplotlib none, which is said on standard error. Fault
+    where one cannot be written. what: of the axes, how vehicles passed ("passed in the run")."""
     pyplot = drawing.drawing_if_there()
     if pyplot is None:
         return

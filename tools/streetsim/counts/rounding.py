@@ -1,4 +1,5 @@
-"""Makes the vehicles of a fit whole, so that their sums stay those of the fit."""
+"""Makes the vehicles of a fit whole, so that their sums stay those of the fit. What reckons with NumPy and SciPy raises
+a Fault where these are missing (science.needed)."""
 
 from streetsim.counts.fitting import deviations
 from streetsim.counts.science import Array, Sparse, needed

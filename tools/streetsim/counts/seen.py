@@ -61,7 +61,7 @@ def edge_rows(folder: Folder) -> dict[Key, list[tuple[int, int, float]]]:
 
 def movement_rows(folder: Folder) -> dict[Key, list[tuple[int, int, float]]]:
     """By (edge, next edge): (begin, end, vehicles) of each interval of movements.csv; empty where the run has no
-    junction tables."""
+    junction tables. Fault where their file cannot be read."""
     path = f"{folder.path}/movements.csv"
     found: defaultdict[Key, list[tuple[int, int, float]]] = defaultdict(list)
     if not os.path.exists(path):
@@ -124,7 +124,8 @@ class Traces:
         self.sums = [0.0] * len(counts)
 
     def passed(self) -> list[float]:
-        """The vehicles that passed in each count's period, by all polls; to be called once, as it adds up."""
+        """The vehicles that passed in each count's period, by all polls; to be called once, as it adds up. Fault where
+        the polls cannot be read."""
         last: dict[int, Last] = {}
         unseen = set(range(len(self.driven)))
         for poll in self.folder.polls():
@@ -204,7 +205,7 @@ class Traces:
 
 def driven_in(folder: Folder) -> list[Driven]:
     """The vehicles of the run file, where it is found (in the folder, above it or in the current folder) and is the one
-    of this run; empty otherwise."""
+    of this run; empty otherwise. Fault where it, or trips.csv, cannot be read."""
     name, trips = str(folder.made.get("run", "")), folder.trips()
     above = os.path.dirname(os.path.abspath(folder.path))
     places = (f"{folder.path}/{KEPT}", f"{above}/{KEPT}", os.path.join(above, name), name)

@@ -60,7 +60,8 @@ def pair_rows(basis: Basis, fitted: Fitted) -> Iterator[tuple[object, ...]]:
 
 
 def write_candidates(path: str, ways: Sequence[Way], graph: Graph) -> None:
-    """Writes candidate ways as routes, with numbers as ids, as SUMO's routeSampler takes them."""
+    """Writes candidate ways as routes, with numbers as ids, as SUMO's routeSampler takes them. Fault where it cannot be
+    written."""
     with whole_file(path) as file:
         file.write("<routes>\n")
         for at, way in enumerate(ways):
@@ -84,7 +85,7 @@ def run_rows(tried: Sequence[Attempt]) -> Iterator[tuple[object, ...]]:
 
 
 def write_setting(folder: str, setting: Json) -> None:
-    """Writes setting.json of a demand to a folder."""
+    """Writes setting.json of a demand to a folder. Fault where it cannot be written."""
     with whole_file(f"{folder}/{NAME}") as file:
         json.dump(setting, file, indent=1)
         file.write("\n")

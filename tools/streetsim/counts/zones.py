@@ -26,7 +26,7 @@ def read_zones(paths: Iterable[FilePath]) -> dict[str, Zone]:
 
 def of_table(path: FilePath) -> Iterator[Zone]:
     """The zones of a CSV table with zone,edges: the edges with blanks between; trips begin and end on each with equal
-    weight."""
+    weight. Fault where rows_of raises one."""
     for row in rows_of(path, ("zone", "edges")):
         weights = dict.fromkeys(row.get("edges", name_of).split(), 1.0)
         yield Zone(row.get("zone", name_of), weights, weights, row.where)

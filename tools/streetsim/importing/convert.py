@@ -21,7 +21,7 @@ def read_and_converted(sources: Sources, options: Options, report: Report, told:
     """What `convert` makes of the sources. told: the options of SUMO's configuration, empty where none was given. The
     routes that a configuration names may be trips without ways: then all get ways, and the sources change to say so
     (routes empty, trips in their place), and the report begins anew. Unrouted where trips without ways come from
-    elsewhere."""
+    elsewhere; Fault where `convert` raises one."""
     tell_options(told, report)
     try:
         return convert(sources.net, sources.additional, sources.routes, options, report, sources.trips)
@@ -65,7 +65,8 @@ def convert(
     """(the network, its lights with their nodes, the commands of the run, the names of its vehicles), of files of SUMO;
     additional, routes, trips: paths. trips: files whose vehicles get ways; where there are some, those of `routes` are
     read with them. Unrouted where there are none and a vehicle has no route. What is left out or otherwise than in SUMO
-    is said in the report."""
+    is said in the report. Fault where a file cannot be read or is not as SUMO has it, where an option names an edge or
+    lane that is not there, and where a vehicle has no way."""
     net = read_net(net_path, options.classes, report)
     types = Types(options.seed, report)
     demand = None if trips else Demand(net, types, options.seed, report)

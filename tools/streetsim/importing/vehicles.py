@@ -20,7 +20,8 @@ NO_WAY = "no way from where the trip begins to where it ends"
 def vehicles_with_ways(
     net: SumoNet, types: Types, paths: Iterable[str], options: Options, report: Report
 ) -> list[Vehicle]:
-    """The vehicles of files of trips, flows and routes, by departure, as trips_with_ways has them."""
+    """The vehicles of files of trips, flows and routes, by departure, as trips_with_ways has them; Fault where it
+    raises one."""
     graph = graph_of_net(net)
     return [
         Vehicle(trip.name, trip.depart, graph.names(trip.path), trip.type, trip.route, trip.stops, trip.line)

@@ -76,7 +76,8 @@ class Tables:
         return {edge for edge, queue, metres in rows if fills(float(queue), float(metres))}
 
     def write(self, folder: str, names: Names) -> None:
-        """Writes movements.csv, approaches.csv and junctions.csv into a folder; names: for the columns of names."""
+        """Writes movements.csv, approaches.csv and junctions.csv into a folder; names: for the columns of names. Fault
+        where one cannot be written."""
         write_named(f"{folder}/movements.csv", MOVEMENTS, self.movements, names)
         write_named(f"{folder}/approaches.csv", APPROACHES, self.approaches, names)
         write_named(f"{folder}/junctions.csv", JUNCTIONS, self.junctions, names)

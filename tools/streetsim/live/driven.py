@@ -29,7 +29,7 @@ class DrivenEngine(Engine):
 
     def begin(self, anew: bool = False) -> list[bytes]:
         """Starts the run and its lights from nothing; gives the replies to the run's own lines. anew has no effect
-        here."""
+        here. Fault where the program cannot be started, or what joined cannot be driven."""
         replies = super().begin(anew)
         run, mapping, _ = self.made()
         lights = driven_lights(run, mapping)

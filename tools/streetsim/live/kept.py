@@ -145,7 +145,8 @@ class KeptEngine(Engine):
             raise Fault(f"{self.file}: it leads to another state than the page")
 
     def known(self) -> dict[str, Any]:
-        """What a page that begins must know of the session: {"changes": its changes, "clock": the clock so far}."""
+        """What a page that begins must know of the session: {"changes": its changes, "clock": the clock so far}. Fault
+        where the kept file cannot be read."""
         with self.lock:
             commands = map(json.loads, lines_of_file(self.file))
             steps = sum(one["steps"] for one in commands if one["cmd"] == "advance")

@@ -205,7 +205,7 @@ def of_lengths(clock: int, run: Run, mapping: Map) -> Iterator[str]:
 
 def write_doubts(folder: str, found: Sequence[str]) -> None:
     """Writes to a folder why a study or a search is not to be trusted (found, empty where it is), in a setting.json as
-    that of a run."""
+    that of a run. Fault where it cannot be written."""
     with whole_file(f"{folder}/{NAME}") as file:
         json.dump({"not_trusted": list(found)}, file, separators=(",", ":"))
 

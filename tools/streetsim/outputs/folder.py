@@ -145,7 +145,7 @@ def lit_lines(sent: Iterable[tuple[int, Line]], mapping: Map) -> Iterator[tuple[
 
 def write_tables(made: Recorded, trips: Sequence[Entry]) -> None:
     """Writes the tables of a run to its folder; those of phases, stops and works where there were any. trips: rows of
-    trips.csv."""
+    trips.csv. Fault where one cannot be written."""
     folder, records, mapping = made.folder, made.records, made.mapping
     names = Names(mapping)
     write_named(f"{folder}/counts.csv", tables.COUNTS, rows.counts(records, mapping), names)
@@ -169,7 +169,7 @@ def write_tables(made: Recorded, trips: Sequence[Entry]) -> None:
 
 def write_sumo_outputs(made: Recorded, kinds: Iterable[str], trips: Iterable[Entry]) -> None:
     """Writes SUMO's output files of some kinds to a new folder sumo in the run's, by a second run that looks at all
-    lanes in every second; trips: rows of trips.csv."""
+    lanes in every second; trips: rows of trips.csv. Fault where one cannot be written, or the run fails."""
     os.mkdir(f"{made.folder}/sumo")
     paths = {kind: f"{made.folder}/sumo/{kind}.xml" for kind in kinds}
     start, dawdle = made.run.start(), made.run.load.command["dawdle"] / 1000
@@ -182,7 +182,7 @@ def write_sumo_outputs(made: Recorded, kinds: Iterable[str], trips: Iterable[Ent
 
 def count_further(made: Recorded) -> None:
     """Counts the lanes that were left over, as a run has too few detectors for all, by further runs of the same
-    commands and seed; adds to the records."""
+    commands and seed; adds to the records. Fault where one of them fails."""
     first, settings = made.records, made.settings
 
     def repeat(lanes: Sequence[Place], _tell: object) -> Records:
@@ -225,7 +225,7 @@ def write_setting(
 ) -> None:
     """Writes setting.json: what a run was made of. given: the run without the signals by which its vehicles give way;
     doubts: why it is not to be trusted, empty where it is; more: further entries of how it is made again, as the
-    SHA-256 of the program."""
+    SHA-256 of the program. Fault where it cannot be written."""
     command, settings = given.load.command, made.settings
     of = {"run": os.path.basename(given.path), "seed": command.get("seed", 0), "start": given.start()}
     of.update(until=settings.until, rescue=settings.rescue, vehicles=len(given.enters), **more)

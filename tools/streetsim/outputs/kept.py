@@ -13,7 +13,8 @@ from streetsim.sumo.timings import timings_of_files
 
 
 def write_kept(folder: str, run: Run) -> None:
-    """Writes run.jsonl.gz, the lines of a run with those of its works, to a folder."""
+    """Writes run.jsonl.gz, the lines of a run with those of its works, to a folder. Fault where it cannot be
+    written."""
     with whole_file(f"{folder}/{KEPT}") as file:
         file.writelines(line + "\n" for line in texts_of(run))
 
@@ -27,7 +28,7 @@ def by_which(run: Run, words: Sequence[str], again: Sequence[str]) -> Json:
 def write_lights(folder: str, mapping: Map, map_path: FilePath) -> None:
     """Writes lights.json, the programs of the lights by the files that were imported, to a folder; map_path: from which
     these are found. Writes nothing, and says nothing, where these are gone, changed or cannot be read, or there is no
-    light."""
+    light. Fault where it cannot be written."""
     if not mapping.sources or not mapping.signals:
         return
     beside = os.path.dirname(os.path.realpath(map_path))

@@ -66,7 +66,8 @@ def draw_corridor(pyplot: Pyplot, folder: Folder, corridor: Corridor) -> Figure:
 
 
 def draw_way(axes: Axes, folder: Folder, way: Corridor) -> None:
-    """Draws the vehicles along one direction of a path, with its red signals, and the names of junctions beside it."""
+    """Draws the vehicles along one direction of a path, with its red signals, and the names of junctions beside it.
+    Fault where the map has no such edge, or the run no polls."""
     from matplotlib.collections import LineCollection, PolyCollection
 
     edges, first, last = way.edges, way.first, way.last
@@ -97,7 +98,8 @@ def draw_way(axes: Axes, folder: Folder, way: Corridor) -> None:
 
 def draw_ring(pyplot: Pyplot, program: str | None, dawdles: Sequence[int], limit: int) -> Figure:
     """Flow over density in a ring of one lane, measured by the program, for one to six chances of dawdling, of 1,000
-    (further ones are left out); program: its path, None: as Client finds it; limit: cells a step."""
+    (further ones are left out); program: its path, None: as Client finds it; limit: cells a step. Fault where it cannot
+    be started."""
     figure, axes = fundamental(pyplot, f"One lane in a ring, limit {limit * limits.CELL_KMH} km/h")
     for dawdle, marker in zip(dawdles, MARKERS):
         points = [ring.measure(program, count, limit, dawdle) for count in RING]

@@ -35,7 +35,8 @@ class Seen:
 
 
 def seen_in(runs: Runs) -> list[Seen]:
-    """The works of a plan, in the order of works.csv; empty where it had none."""
+    """The works of a plan, in the order of works.csv; empty where it had none. Fault where works.csv has other
+    columns."""
     found: dict[Place, Seen] = {}
     for folder in runs.folders.values():
         rows = rows_of(folder)
@@ -49,7 +50,7 @@ def seen_in(runs: Runs) -> list[Seen]:
 
 
 def rows_of(folder: Folder) -> list[dict[str, str]]:
-    """The rows of a run's works.csv; empty where it has none."""
+    """The rows of a run's works.csv; empty where it has none. Fault where it has other columns."""
     return folder.works() if os.path.exists(f"{folder.path}/{tables.WORKS_FILE}") else []
 
 

@@ -32,7 +32,8 @@ def stretches(folder: Folder, edges: Iterable[str]) -> tuple[dict[int, tuple[flo
 
 def trajectories(folder: Folder, edges: Iterable[str], first: int, last: int) -> list[Piece]:
     """Pieces of the ways of vehicles' fronts along a path of edges, each from one poll to the next, from a first to a
-    last second, in metres from the path's begin; a vehicle that went back is left out for that piece."""
+    last second, in metres from the path's begin; a vehicle that went back is left out for that piece. Fault where the
+    map has no such edge, or the folder no polls."""
     placed, _ = stretches(folder, edges)
     pieces: list[Piece] = []
     before: dict[int, tuple[int, float, int, float]] = {}
@@ -63,7 +64,8 @@ def bands(pieces: Iterable[Piece]) -> Iterator[tuple[Spot, Spot, Spot, Spot]]:
 
 def reds(folder: Folder, edges: Iterable[str], first: int, last: int) -> list[tuple[float, int, int]]:
     """When the signals along a path of edges are red for going on along it, from a first to a last second: (metres from
-    the path's begin, second in which it begins, second at which it has ended) of each red."""
+    the path's begin, second in which it begins, second at which it has ended) of each red. Fault where the map has no
+    such edge."""
     placed, _ = stretches(folder, edges)
     links = folder.links_along(edges)
     found = []
@@ -115,7 +117,7 @@ def way_back(folder: Folder, edges: Sequence[str]) -> list[str]:
 
 def junctions_along(folder: Folder, edges: Sequence[str]) -> list[tuple[float, str]]:
     """(metres from the path's begin, name) of each junction within a path of edges; of a path of one edge the junction
-    at its end."""
+    at its end. Fault where the map has no such edge."""
     placed, _ = stretches(folder, edges)
     firsts = [links[0] for links in folder.links_along(edges)]
     names = Names(folder.mapping)
@@ -136,7 +138,7 @@ def crossed(names: Names, junction: str, edges: Iterable[str]) -> str:
 def green_band(folder: Folder, edges: Sequence[str], first: int) -> tuple[int, int] | None:
     """(width of the green band, cycle) in seconds: the width is how many seconds of a cycle in a row let a vehicle that
     passes the first signal pass all others too at its free speed. Plans are those at the clock `first`; none where
-    there is no signal or no common cycle."""
+    there is no signal or no common cycle. Fault where the map has no such edge."""
     lines = stop_lines(folder, edges)
     plans = {node: command for clock, command in folder.signals if clock <= first for node in [command["node"]]}
     stops = [(after, plans[node], here, following) for after, node, here, following in lines if node in plans]
@@ -160,7 +162,7 @@ def green_band(folder: Folder, edges: Sequence[str], first: int) -> tuple[int, i
 
 def stop_lines(folder: Folder, edges: Sequence[str]) -> list[tuple[float, int, list[int], list[int]]]:
     """(seconds at free speed from the path's begin, node, links, next links) of each end of an edge within a path, with
-    a signal or without, in its order."""
+    a signal or without, in its order. Fault where the map has no such edge."""
     links, after, found = folder.links_along(edges), 0.0, []
     for here, following in zip(links, links[1:]):
         link = folder.mapping.links[here[0]]
@@ -200,7 +202,8 @@ def longest_queues(folder: Folder, most: int) -> tuple[list[tuple[str, dict[int,
 
 def flows(folder: Folder, edges: Sequence[str]) -> list[tuple[float, float]]:
     """(vehicles a kilometre and lane, vehicles an hour and lane) of each row of counts.csv over a whole period with
-    traffic; the first from the occupancy, as if each cell had 7.5 m. edges: those wanted, all where it is empty."""
+    traffic; the first from the occupancy, as if each cell had 7.5 m. edges: those wanted, all where it is empty. Fault
+    where counts.csv is missing."""
     return [
         (float(row["occupancy_percent"]) / 100 / limits.CELL_METRES * 1000, float(row["vehicles_per_hour"]))
         for row in folder.counts()

@@ -124,7 +124,7 @@ def check_works(texts: Sequence[str], signs: Sequence[str], trips: Sequence[Trip
 
 def closing_of(asked: Shutting, graph: Graph, before: Search, judged: Judged) -> Closing:
     """Works as a router sees them; before and judged are the search and the runs without works, from which free times
-    come."""
+    come. Fault where works have another form, or the map has no such lane or metres."""
     mapping = judged.loaded.mapping
     works = [works_of(text, mapping) for text in asked.close]
     shut: dict[int | Way, Sequence[Times]] = {}

@@ -19,7 +19,7 @@ NEAR = 250.0  # metres around what differs, at least
 
 def draw(folder: str, before: Diverted, one: Diverted) -> None:
     """Draws gap.png, and with works flows.png, into a folder; where matplotlib is not installed it draws nothing and
-    says so. one: the search with works, or before itself."""
+    says so. Fault where one cannot be written. one: the search with works, or before itself."""
     pyplot = drawing_if_there()
     if pyplot is None:
         return

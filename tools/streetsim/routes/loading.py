@@ -77,7 +77,8 @@ class Town:
 
     def with_works(self, trips: Sequence[Trip], run: Run, mapping: Map) -> tuple[Run, Map, list[str]]:
         """(run, its map, texts on those who lose their only lane) with the town's works, imported anew where lanes must
-        be joint or led from beside."""
+        be joint or led from beside. Fault where works have another form or the map has no such lane, and where
+        `imported` raises one."""
         works = [works_of(text, mapping) for text in self.works]
         led = lanes_to_lead(works, mapping) if self.lost == "lead" else []
         if (names := lanes_to_join(works, mapping)) or led:
@@ -85,7 +86,8 @@ class Town:
         return closed(run, mapping, works, self.lost, searched=True)
 
     def told_of_lost(self, trips: Sequence[Trip]) -> list[str]:
-        """The texts on those of some trips who lose their only lane by the town's works; empty where nobody does."""
+        """The texts on those of some trips who lose their only lane by the town's works; empty where nobody does. Fault
+        where with_works raises one."""
         return self.with_works(trips, *self.imported(trips, ()))[2]
 
 

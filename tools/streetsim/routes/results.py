@@ -32,7 +32,8 @@ def write_results(
     folder: str, town: Town, trips: Sequence[Trip], iterations: Sequence[Iteration], judged: Judged, setting: dict
 ) -> None:
     """Writes iterations.csv, check.csv, movements.csv, trips.csv and setting.json of a search into a folder. setting:
-    what setting.json has beside `figures`, as job.setting_of gives it; its "slice" is the seconds of a slice."""
+    what setting.json has beside `figures`, as job.setting_of gives it; its "slice" is the seconds of a slice. Fault
+    where one cannot be written."""
     write_table(f"{folder}/iterations.csv", ITERATIONS, iteration_rows(iterations))
     write_table(f"{folder}/check.csv", CHECK, check_rows(judged))
     write_table(f"{folder}/movements.csv", MOVEMENTS, movement_rows(town, judged, setting["slice"]))

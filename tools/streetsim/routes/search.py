@@ -147,7 +147,7 @@ class Search:
 
     def improve(self, asked: Asked) -> None:
         """Searches until asked.iterations are done, the gap is well below asked.gap (OWN_SEED of it) or told gives
-        True; keeps each iteration, and the best one, whose ways the trips then have."""
+        True; keeps each iteration, and the best one, whose ways the trips then have. Fault where a run fails."""
         share = asked.share
         steps: list[Step] = [Step(1.0, [])]
         for number in range(asked.iterations + 1):

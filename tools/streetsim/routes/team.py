@@ -50,7 +50,8 @@ class Team:
 
 @contextlib.contextmanager
 def team(ground: Ground, jobs: int, cluster: str | None) -> Iterator[Team]:
-    """A team of so many processes of this machine (jobs), or of the workers of a cluster (HOST:PORT, or None)."""
+    """A team of so many processes of this machine (jobs), or of the workers of a cluster (HOST:PORT, or None). Fault
+    where the cluster cannot be reached."""
     with machines(jobs, cluster, [ground]) as workers:
         yield Team(workers, CLUSTER_PARTS if cluster else jobs)
 

@@ -44,7 +44,7 @@ class Desk:
 
     def begin(self, asking: Asking) -> None:
         """Sends the load and the lines that are due before the first step, and places the detectors of lanes and of
-        lights. asking: what the run asks, which its records keep."""
+        lights. asking: what the run asks, which its records keep. Fault where a line or a detector is refused."""
         self.records.asking, self.measured = asking, set(asking.measured)
         self.samples = Samples(self.start, self.settings.period, asking.samples)
         self.send([self.run.load, *self.run.first])
@@ -70,7 +70,8 @@ class Desk:
     def send_timed(self, clock: int) -> None:
         """Sends the run's timed lines that are due at a clock or before, each after those that merging needs ahead of
         it. A light for which one of them is a signal line is driven by detectors no more, until it changes, now or
-        later, by time of day to a program that they drive; what this one shows is sent then."""
+        later, by time of day to a program that they drive; what this one shows is sent then. Fault where a line is
+        refused."""
         due: list[Line] = []
         while self.sent < len(self.run.timed) and self.run.timed[self.sent][0] <= clock:
             line = self.run.timed[self.sent][1]
@@ -82,12 +83,13 @@ class Desk:
         self.send_at(clock, due + list(map(own_line, self.driver.switch(clock))))
 
     def send_at(self, clock: int, lines: list[Line]) -> None:
-        """Sends lines at a clock, and keeps them for the runs that repeat this one."""
+        """Sends lines at a clock, and keeps them for the runs that repeat this one. Fault where one is refused."""
         self.send(lines)
         self.records.sent += [(clock, line) for line in lines]
 
     def look_at_works(self, clock: int) -> None:
-        """Looks at the works that are due at a clock, and sends the lines that have vehicles merge."""
+        """Looks at the works that are due at a clock, and sends the lines that have vehicles merge. Fault where one is
+        refused."""
         self.send_at(clock, list(map(own_line, self.works.look(clock, self.lanes, self.is_bound))))
 
     def is_bound(self, car: int, link: int) -> bool:
@@ -103,7 +105,7 @@ class Desk:
         """Advances the run from clock to target, or to the first clock before it at which something is due (a line, the
         end of a period, a sample, works, a bus or a light), not past the run's end, and 10,000 steps at most; gives
         that clock. Vehicles that depart until then are sent first; there works, buses and lights are looked at, and
-        what follows is sent."""
+        what follows is sent. Fault where a line is refused."""
         at = clock - self.start
         period = (at // self.settings.period + 1) * self.settings.period + self.start
         sample = self.samples.after(clock)
@@ -126,7 +128,8 @@ class Desk:
         return target
 
     def enter(self, last: int) -> None:
-        """Sends the run's enter lines that are not sent yet, up to the place last in run.enters, that one left out."""
+        """Sends the run's enter lines that are not sent yet, up to the place last in run.enters, that one left out.
+        Fault where one is refused."""
         self.send(self.run.enters[self.entered : last])
         self.entered = last
 
@@ -196,14 +199,15 @@ class Desk:
         self.send_at(self.start, list(map(own_line, self.driver.begin(self.start))))
 
     def read_meters(self, clock: int) -> None:
-        """Reads the detectors whose oldest rows the program would drop after this clock; at the last clock all of
-        them."""
+        """Reads the detectors whose oldest rows the program would drop after this clock; at the last clock all of them.
+        Fault where one cannot be read."""
         for numbers, _, rows in self.meters_due:
             if clock == self.settings.until or (clock - self.start) % rows == 0:
                 self.read_rows(numbers)
 
     def read_rows(self, numbers: Sequence[int]) -> None:
-        """Reads detectors, by their numbers, and keeps their rows, each by the clock at which it begins."""
+        """Reads detectors, by their numbers, and keeps their rows, each by the clock at which it begins. Fault where
+        one cannot be read."""
         for number, reply in zip(numbers, self.noted(numbers), strict=True):
             kept, key, _ = self.meters[number]
             kept.setdefault(key, {}).update({row.start: row for row in (*reply.rows, reply.now) if row.steps})

@@ -62,7 +62,7 @@ class Recorder(Desk):
         self.fleet = Fleet(settings.buses, run, mapping)
 
     def record(self) -> Records:
-        """Makes the whole run; gives its records."""
+        """Makes the whole run; gives its records. Fault where a line or a detector is refused."""
         asking = self.asking()
         self.begin(asking)
         clock = self.start
@@ -107,7 +107,7 @@ class Recorder(Desk):
 
     def look(self, clock: int) -> None:
         """Does all that is due at a clock: polls, samples, a census, rescues, the reading of detectors; a run without a
-        last second ends here, or has its end put off."""
+        last second ends here, or has its end put off. Fault where a detector cannot be read."""
         asking, minute = self.records.asking, clock % MINUTE == 0
         if self.settings.open_end and (minute or clock == self.settings.until):
             self.take_census(clock)
@@ -224,7 +224,8 @@ class Recorder(Desk):
         )
 
     def found_ends(self) -> list[Vehicle | None]:
-        """The last reply on each vehicle of the file; None for vehicles that the program was never told of."""
+        """The last reply on each vehicle of the file; None for vehicles that the program was never told of. Fault where
+        one cannot be asked for."""
         return [*self.vehicles(range(self.entered)), *[None] * (len(self.run.enters) - self.entered)]
 
 
@@ -233,7 +234,7 @@ class Repeater(Desk):
 
     def record(self, first: Records, asking: Asking, tell: Callable[[int], object]) -> Records:
         """Repeats a run; gives the records of the lanes that asking measures. first: the records of the run that is
-        repeated; tell: gets the clock. Fault where it comes to another last census."""
+        repeated; tell: gets the clock. Fault where it comes to another last census, or a line is refused."""
         self.begin(asking)
         clock, rescued = self.start, list(reversed(first.rescued))
         while clock < self.settings.until:

@@ -57,7 +57,7 @@ class Round(Recorder):
         self.passings = Passings(mapping, run.enters, run.load.command.get("dawdle", 0))
 
     def record(self) -> Passed:  # type: ignore[override]  # in place of tables
-        """Makes the round; gives when vehicles passed."""
+        """Makes the round; gives when vehicles passed. Fault where a line is refused."""
         self.begin(self.asking())
         clock = self.start
         while clock < self.settings.until and not self.is_over():

@@ -21,7 +21,8 @@ class Watcher(Desk):
 
     def look(self, rescued: Sequence[Rescue], clocks: Iterable[int], lanes: Sequence[Place]) -> Iterator[Frame]:
         """What stands on lanes at each clock, a frame each, as `frame` gives it. rescued: (clock, car, enter command)
-        of the run that is repeated; clocks: rising, after the run's start, and not after its end."""
+        of the run that is repeated; clocks: rising, after the run's start, and not after its end. Fault where a line is
+        refused."""
         self.begin(Asking(0, [], 0))
         self.owners: list[int] = []  # the vehicle of the file by car number
         left, clock = list(reversed(rescued)), self.start
@@ -67,7 +68,7 @@ def windows(clocks: Sequence[int], lanes: Sequence[Place]) -> list[Sequence[int]
 def watch(made: Recorded, clocks: Sequence[int], lanes: Sequence[Place]) -> Iterator[Frame]:
     """The frames of the clocks, in order, with what stands on lanes; made, clocks: a run, and clocks as Watcher.look
     takes them. Further runs make them side by side; each writes what it sees to a file, which is removed when it is
-    read."""
+    read. Fault where one fails, or its file cannot be written."""
 
     def look(part: tuple[int, Sequence[int]], _tell: object) -> str:
         """Makes the further run of one part, (its place, clocks); gives the path of the file with its frames."""

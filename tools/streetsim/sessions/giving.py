@@ -85,7 +85,8 @@ def seconds_at_works(session: Session, signals: bytes, seed: int) -> float:
 
 
 def outcome_giving_way(session: Session, signals: bytes, seed: int) -> Outcome:
-    """What a run with a seed and some signals (lines in bytes) gave, after its rounds; a task of a worker."""
+    """What a run with a seed and some signals (lines in bytes) gave, after its rounds; a task of a worker. Fault where
+    a run fails."""
     if session.giving is None:
         return outcome(session, signals, seed)
     lines, yielding = gaps(session, signals, seed)

@@ -40,7 +40,7 @@ class Counted(Recorder):
         super().__init__(sim, run, mapping, settings, None, lambda *_: None)
 
     def record(self) -> Records:
-        """Makes the whole run; gives its records."""
+        """Makes the whole run; gives its records. Fault where a line is refused."""
         self.begin(Asking(0, [], 0))
         clock = self.start
         while clock < self.settings.until:

@@ -105,7 +105,7 @@ def kept_with(kept: Json, bounds: Bounds) -> Json:
 
 def with_bounds(lights: Lights, mapping: Map, bounded: Mapping[str, Bounds]) -> Lights:
     """The lights with other bounds, by name; lights without a name there stay. Their detectors lie where SUMO puts them
-    for the new gap."""
+    for the new gap. Listed (a Fault) where one cannot be driven with its gap, from 32 s on."""
     kept = in_force(mapping.programs)
     driven = (
         driven_of(kept_with(kept[one.name], bounded[one.name]), mapping) if one.name in bounded else one
@@ -115,7 +115,8 @@ def with_bounds(lights: Lights, mapping: Map, bounded: Mapping[str, Bounds]) -> 
 
 
 def bounded_outcome(session: Session, bounded: Bounded, seed: int) -> Outcome:
-    """What a run under some bounds gave with a seed; a task of a worker. session.giving must not be None."""
+    """What a run under some bounds gave with a seed; a task of a worker. session.giving must not be None. Fault where
+    it fails."""
     giving = session.giving
     assert giving is not None
     lights = with_bounds(giving.lights, giving.mapping, bounded)

@@ -113,7 +113,7 @@ def light_rows(town: Town, plan: Plan) -> Iterator[Entry]:
 
 def draw(target: Target, town: Town, plan: Plan, path: str) -> None:
     """Runs a plan and draws the ways of the vehicles along the target's corridor, which must not be None, with the
-    signals, as a picture at path."""
+    signals, as a picture at path. Fault where the run fails, or the picture cannot be written."""
     run, shown = replace(town.run, first=town.first_lines(plan)), target.corridor
     assert shown is not None
     settings = Settings(until=min(shown.last + 1, target.until), every=1, rescue=0, edges=tuple(shown.edges))

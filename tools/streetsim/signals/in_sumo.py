@@ -79,7 +79,8 @@ class InSumo:
 
     def with_ways(self, mapping: Map, path: str) -> Self:
         """The same, with a file of routes, which it writes to path, in place of the files of an import with --trips:
-        its vehicles, on the ways that the import found; itself where the import had none. mapping: of the import."""
+        its vehicles, on the ways that the import found; itself where the import had none. mapping: of the import. Fault
+        where a file cannot be read or written, or a trip has no way."""
         sources = self.sources
         if not sources.trips:
             return self

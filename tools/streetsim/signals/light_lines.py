@@ -59,7 +59,7 @@ class LightLines:
     def of(self, plan: Mapping[str, Timing], lights: Mapping[str, Light]) -> bytes:
         """The signal lines of a plan as bytes, one for each node of each of its lights; lights: by name. Notes in
         self.permissive the lights at which turns must find gaps in a green, and in self.report where one needs more
-        phases than there may be."""
+        phases than there may be. Fault where a program does not fit its light."""
         lines = []
         for name, timing in plan.items():
             key = name, timing.durations
@@ -72,7 +72,8 @@ class LightLines:
 
     def phases(self, name: str, node: int, timing: Timing, light: Light) -> bytes:
         """The phases of a light at one of its nodes, as the JSON of a signal line's "phases". Puts the program into
-        self.net, and the light into self.permissive where some must find gaps in its greens."""
+        self.net, and the light into self.permissive where some must find gaps in its greens. Fault where the program
+        does not fit the light."""
         program = Program(0.0, list(zip(timing.durations, light.states, strict=True)), "static")
         self.net.programs[name] = program
         junction, permissive = self.mapping.nodes[node][0], self.mapping.options["permissive"]

@@ -101,7 +101,7 @@ def is_on(value: str) -> bool:
 
 def tell(said: str, options: Options) -> None:
     """Writes what the import said, and which options have no effect, to standard error (unless --no-warnings) and to
-    the files of --log, --message-log and --error-log."""
+    the files of --log, --message-log and --error-log. Fault where one cannot be written."""
     said = "".join(f"warning: {text}\n" for text in warnings_of(options)) + said
     if not is_on(options.get("no-warnings", "false")):
         sys.stderr.write(said)

@@ -33,7 +33,8 @@ class Session(Simulation):
         self, folder: Path, facts: Facts, options: Mapping[str, str], rounds: int = 0, program: str | None = None
     ) -> None:
         """folder: has run.jsonl and map.json; facts: of SUMO's files; options: of SUMO's command line; rounds: of the
-        run, made before, by which vehicles of the file give way without a light; program: None: the usual one."""
+        run, made before, by which vehicles of the file give way without a light; program: None: the usual one. Fault
+        where the run or the map cannot be read, or the program not started."""
         run, mapping, merging = read_run(folder / "run.jsonl"), read_map(folder / "map.json"), options.get("merge")
         self.driven = options.get("lights", "actuated") != "listed"
         super().__init__(run, mapping, rounds, program, merging=merging != "none")
@@ -79,7 +80,7 @@ class Session(Simulation):
 
     def go_on(self, target: int) -> None:
         """Makes one step where each is looked at, or where a phase is set to end; else steps up to target, as many as
-        one line may ask for."""
+        one line may ask for. TraCIException where one of the file is due and a script has added one of its name."""
         alone = self.followed or self.control.timers
         target = self.clock + 1 if alone else min(target, self.clock + limits.STEPS)
         self.control.show_due()

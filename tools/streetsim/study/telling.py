@@ -15,7 +15,7 @@ from streetsim.works.watched import in_runs
 
 def draw(study: Study, rows: Sequence[Difference], path: str) -> None:
     """Draws the differences to the base with their intervals to a picture at path; nothing without matplotlib (which is
-    said) or with the base alone."""
+    said) or with the base alone. Fault where it cannot be written."""
     shown = [row for row in rows if row[0] != study.base]
     pyplot = drawing_if_there()
     if pyplot is None or not shown:

@@ -175,7 +175,7 @@ class Demand:
     def riding(self, path: FilePath, element: Element, depart: float) -> tuple[tuple[Stop, ...], str]:
         """(the stops of a vehicle that departs at a second, its line of public transport or an empty text). Stops of a
         route that it names are left out here; those of a flow are written for a departure at the flow's begin, and are
-        moved."""
+        moved. Fault where a stop is not as `stops_in` needs it."""
         begin = optional(path, element, "begin", at_least_zero(seconds), 0.0) if element.tag == "flow" else depart
         inner = element.find("route")
         own = stops_in(path, inner, self.net) if inner is not None and element.get("route") is None else ()
@@ -200,7 +200,8 @@ class Demand:
             self.report.ignored[f"{name} of {element.tag}s"] += 1
 
     def read_vehicle(self, path: FilePath, element: Element) -> None:
-        """Adds a vehicle; one whose depart is a word instead of a time is reported as skipped."""
+        """Adds a vehicle; one whose depart is a word instead of a time is reported as skipped. Fault where an attribute
+        is missing or no such number, and where its route or stops are."""
         text = attribute(path, element, "depart")
         if text in ("triggered", "containerTriggered", "now", "split", "begin"):
             self.report.skipped[f"depart={text!r} is no time"] += 1
@@ -209,7 +210,8 @@ class Demand:
             self.add(path, element, [(attribute(path, element, "id", filled), depart)])
 
     def read_flow(self, path: FilePath, element: Element) -> None:
-        """Adds the vehicles of a flow, called NAME.NUMBER from 0 on, at the seconds of flows.departs."""
+        """Adds the vehicles of a flow, called NAME.NUMBER from 0 on, at the seconds of flows.departs. Fault where an
+        attribute is missing or no such number, or its edges or rates are none that can be driven."""
         name = attribute(path, element, "id", filled)
         self.add(
             path, element, [(f"{name}.{at}", depart) for at, depart in enumerate(departs(path, element, self.draws))]

@@ -50,8 +50,9 @@ def read_detector(path: FilePath, element: Element, report: Report) -> SumoDetec
 
 def area_metres(path: FilePath, element: Element, report: Report) -> tuple[float, float | None]:
     """The (begin, end) metres of a lane area, as SumoDetector has them: by its pos, endPos and length, of which SUMO
-    needs two; without endPos and length it ends with the lane (end None). One that these numbers alone show to
-    reach beyond its lane is reported here; others are reported by cells, which knows the lane's length."""
+    needs two; without endPos and length it ends with the lane (end None). One that these numbers alone show to reach
+    beyond its lane is reported here; others are reported by cells, which knows the lane's length. Fault where one of
+    them is no number, or too few are told."""
     end = optional(path, element, "endPos", number, None)
     length = optional(path, element, "length", at_least_zero(number), 0.0)
     if not length:

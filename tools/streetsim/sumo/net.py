@@ -223,7 +223,7 @@ def street_of(element: Element) -> str:
 
 def read_location(path: FilePath, element: Element, net: SumoNet, _classes: Collection[str]) -> None:
     """Keeps in net.location where the network lies: {"projection": as SUMO writes it, "!": none, "offset": (x, y) that
-    was added to its metres}."""
+    was added to its metres}. Fault where the offset is no two numbers."""
     offset = attribute(path, element, "netOffset", plane_point) if element.get("netOffset") else (0.0, 0.0)
     net.location = {"offset": offset, "projection": element.get("projParameter", "!")}
 
@@ -236,7 +236,7 @@ def plane_point(text: str) -> Point:
 
 def read_junction(path: FilePath, element: Element, net: SumoNet, _classes: Collection[str]) -> None:
     """Adds a junction: its point, type, name, and for each of its requests those that it gives way to and those that it
-    meets; junctions inside others are passed over."""
+    meets; junctions inside others are passed over. Fault where an attribute is missing, or no such number."""
     if element.get("type") != "internal":
         name = attribute(path, element, "id")
         net.junctions[name] = attribute(path, element, "x", number), attribute(path, element, "y", number)
@@ -306,13 +306,13 @@ def has_lane(edge: Edge, index: int) -> bool:
 
 
 def read_roundabout(path: FilePath, element: Element, net: SumoNet, _classes: Collection[str]) -> None:
-    """Notes the edges of a roundabout in net.roundabouts."""
+    """Notes the edges of a roundabout in net.roundabouts. Fault where they are not told."""
     net.roundabouts.update(attribute(path, element, "edges").split())
 
 
 def read_program(path: FilePath, element: Element, net: SumoNet, _classes: Collection[str]) -> None:
     """Sets a light's program in net.programs; a later one replaces the one before, which `earlier` keeps. One without
-    phases gives the present program another offset alone."""
+    phases gives the present program another offset alone. Fault where an attribute is missing, or no such number."""
     phases = [
         (attribute(path, phase, "duration", at_least_zero(seconds)), attribute(path, phase, "state"))
         for phase in element.iter("phase")
@@ -339,12 +339,14 @@ def read_program(path: FilePath, element: Element, net: SumoNet, _classes: Colle
 
 
 def next_of(path: FilePath, phase: Element) -> tuple[int, ...]:
-    """The places of the phases that a phase names as its next; empty: the one after it."""
+    """The places of the phases that a phase names as its next; empty: the one after it. Fault where it names no
+    numbers."""
     return tuple(attribute(path, phase, "next", numbers)) if phase.get("next") else ()
 
 
 def timing_of(path: FilePath, phase: Element) -> tuple[str, float, float, float]:
-    """(name, extension, yellow, red in seconds) of a phase of a NEMA light; 0 s for what is not written."""
+    """(name, extension, yellow, red in seconds) of a phase of a NEMA light; 0 s for what is not written. Fault where
+    one is no number from 0 on."""
     extension, yellow, red = (
         attribute(path, phase, name, at_least_zero(seconds)) if phase.get(name) else 0.0
         for name in ("vehext", "yellow", "red")
@@ -371,7 +373,8 @@ def actuated(net: SumoNet, lights: Iterable[str]) -> list[str]:
 
 
 def bound_of(path: FilePath, phase: Element, name: str) -> float | None:
-    """The seconds of an attribute of a phase, minDur or maxDur by name; None where it is not written."""
+    """The seconds of an attribute of a phase, minDur or maxDur by name; None where it is not written. Fault where it is
+    no number from 0 on."""
     return attribute(path, phase, name, at_least_zero(seconds)) if phase.get(name) else None
 
 

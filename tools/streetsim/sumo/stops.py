@@ -91,7 +91,7 @@ def read_bus_stop(path: FilePath, element: Element, net: SumoNet) -> None:
 
 
 def metres_of(path: FilePath, element: Element, name: str) -> float | None:
-    """An attribute of an element as a number of metres; None where it is not written."""
+    """An attribute of an element as a number of metres; None where it is not written. Fault where it is no number."""
     return optional(path, element, name, number, None)
 
 
