@@ -35,11 +35,12 @@ class SignalEnv:
     `traci.start` takes them.
 
     An action is the number of a green phase. Where it differs from the present one, and that was green for `least`
-    seconds, yellow is shown for `yellow` seconds first. A step has `every` seconds; after `seconds` of the run its
-    time is over. An observation of a light: for each green phase 1 if it is shown, else 0; then 1 if the light may be
+    seconds, yellow is shown for `yellow` seconds first. A step has `every` seconds; after `seconds` of the run its time
+    is over. An observation of a light: for each green phase 1 if it is shown, else 0; then 1 if the light may be
     changed, else 0; then for each lane before it the share (0 to 1) of its room that vehicles take, and for each the
     share that standing vehicles take. A reward is by how much the time that the vehicles before the light have waited
-    has fallen since the last reward, in hundreds of seconds.
+    has fallen since the last reward, in hundreds of seconds. Calls that need the run's present state raise ValueError
+    where none is under way: before the first reset, or after close.
     """
 
     def __init__(

@@ -94,7 +94,8 @@ class Controller:
         yield from self.begins(since) if now - since < limits.PHASE_STEPS else map(lasting, self.shows)
 
     def leaves(self, now: int) -> None:
-        """Takes this program out of force; it goes on unseen."""
+        """Takes this program out of force at the clock `now`; it goes on unseen. Nothing where it is out of force
+        already."""
         if self.in_force:
             self.in_force, self.spans[-1][1] = False, now
 

@@ -54,8 +54,8 @@ class Meanwhile(TerminalLine):
     """A line that says how much of some work is done, and how many minutes are left."""
 
     def __init__(self, what: str, total: int, stream: IO[str] | None = None) -> None:
-        """what: the parts of the work in the plural, as the line says it ("12 of 40 plans"); total: how many there
-        are."""
+        """what: the parts of the work in the plural, as the line says it ("12 of 40 plans"); total: how many there are.
+        stream: of the line, None: standard error."""
         super().__init__(stream)
         self.what, self.total = what, total
 
@@ -81,7 +81,8 @@ class UnderWay(TerminalLine):
     arrived, steps a second. It is not taken away in the end."""
 
     def __init__(self, until: int, runs: int = 1, stream: IO[str] | None = None) -> None:
-        """until: the clock at which each run ends; runs: how many there are."""
+        """until: the clock at which each run ends; runs: how many there are. stream: of the line, None: standard
+        error."""
         super().__init__(stream)
         self.until = until
         self.clocks, self.ways, self.arrived = [0] * runs, [0] * runs, [0] * runs
@@ -112,7 +113,7 @@ class Slow(TerminalLine):
     taken away in the end."""
 
     def __init__(self, text: str, stream: IO[str] | None = None, wait: float = 2.0) -> None:
-        """text: what the tool does; wait: seconds before the line comes."""
+        """text: what the tool does; wait: seconds before the line comes. stream: of the line, None: standard error."""
         super().__init__(stream)
         self.text, self.wait = text, wait
         self.ended = threading.Event()

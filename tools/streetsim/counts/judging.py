@@ -117,7 +117,8 @@ class Judged:
 
     @property
     def apart(self) -> float:
-        """The greatest difference of an hour's total from what was counted, as a share."""
+        """The greatest difference of an hour's total from what was counted, as a share; ValueError where there is no
+        hour."""
         return max(abs(one.difference) for one in self.hours)
 
     def lines(self) -> Iterator[str]:

@@ -87,7 +87,8 @@ def clock(second: int) -> str:
 
 
 def canvas(pyplot: Pyplot, shapes: Sequence[Shape]) -> tuple[Figure, Axes, dict[str, str | float]]:
-    """(picture of all streets in grey, its axes, settings by which a bar of colours lies beside or below it)."""
+    """(picture of all streets in grey, its axes, settings by which a bar of colours lies beside or below it). shapes:
+    of the streets, one at least."""
     from matplotlib.collections import LineCollection
 
     width, height = (max(places) - min(places) for places in zip(*(point for shape in shapes for point in shape)))

@@ -137,7 +137,7 @@ def phases_table(timing: Timing) -> str:
 
 def greens_table(timing: Timing, names: Names, before: Timing | None) -> str:
     """A table of the seconds of green, yellow and red of each movement, as HTML; before: of the plan before, whose
-    greens stand beside."""
+    greens stand beside; None: there is none."""
     rows, first = [], {(one.edge, one.to): one for one in before.movements} if before else {}
     for one in timing.movements:
         signs = timing.signs(one)

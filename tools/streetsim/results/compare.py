@@ -123,8 +123,8 @@ def compare_edges(
     network: int,
 ) -> Iterator[str]:
     """Lines on how close counts and times on edges are, for the edges and periods that both have; here: of the run,
-    there: of SUMO, whose edgeData leaves out an edge with nobody on it. period: seconds; network: how many edges the
-    run's network has."""
+    {(begin, end, edge): (vehicles, seconds on it by all, None: not known)}; there: the same of SUMO, whose edgeData
+    leaves out an edge with nobody on it. period: seconds; network: how many edges the run's network has."""
     periods = {key[:2] for key in here} & {key[:2] for key in there}
     edges = {key[2] for key in there} & {key[2] for key in here}
     if not periods or not edges:

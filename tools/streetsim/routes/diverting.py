@@ -78,7 +78,7 @@ class Diverted:
 
 def placed(path: str, share: float | None, many: bool) -> str:
     """The path of an output for a share: where there are many shares, "-SHARE" stands before the first dot of its name;
-    else the path as it is."""
+    else the path as it is. share: None only where there are not many."""
     if not many:
         return path
     folder, name = os.path.split(path)

@@ -134,7 +134,7 @@ def setting_of(job: Job, one: Diverted, before: Diverted) -> dict:
 
 def tell(job: Job, one: Diverted, before: Diverted) -> int:
     """Prints what was found, and warnings to standard error; gives the exit status: 0 where the gap that was asked for
-    is reached, else 1. before: the result without works, or one itself."""
+    is reached, by the search without works too, else 1. before: the result without works, or one itself."""
     label = f"{one.label}: " * (one.share is not None)
     if is_still(one.search) and one.judged.gap > job.asked.gap:
         print(

@@ -57,6 +57,6 @@ def team(ground: Ground, jobs: int, cluster: str | None) -> Iterator[Team]:
 
 
 def search_part(ground: Ground, wishes: Sequence[Wish], costs: Costs, shut: Shut | None) -> list[Found]:
-    """What the router finds for wishes; a task of a worker."""
+    """What the router finds for wishes; a task of a worker. shut: when edges and movements are closed, None: never."""
     router = Router(ground.graph, costs, shut)
     return [router.found(wish) for wish in wishes]

@@ -100,8 +100,8 @@ class WaysRound:
         }
 
     def search(self, wishes: Sequence[Wish], costs: Costs, shut: Mapping) -> list[Found]:
-        """The best way of each wish, over all parallel links of the edges where it begins and ends; its path is empty
-        where there is none. The seconds of own ways are not reckoned: FAR."""
+        """The best way of each wish, in their order, over all parallel links of the edges where it begins and ends; its
+        path is empty where there is none. The seconds of own ways are not reckoned: FAR."""
         router, best = Router(self.graph, costs, shut), {wish.trip: Found(wish.trip, (), FAR, FAR) for wish in wishes}
         for last, wish in sorted((last, wish) for wish in wishes for last in self.beside(wish.target)):
             for first in self.beside(wish.origin):

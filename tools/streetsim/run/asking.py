@@ -55,7 +55,8 @@ def repeated(settings: Settings, lanes: Sequence[Place]) -> Asking:
 
 
 def samples_of(settings: Settings) -> int:
-    """How many times in a period lanes are sampled; 0 where a period is a second."""
+    """How many times in a period lanes are sampled; SAMPLES, or for a short one every other second; 0 where a period is
+    a second."""
     return min(SAMPLES, settings.period // 2)
 
 

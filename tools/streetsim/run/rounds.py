@@ -96,7 +96,8 @@ def giving_way(
     run: Run, mapping: Map, settings: Settings, rounds: int, start: Start, tell: Tell
 ) -> tuple[Run, Yielding]:
     """(the run with signal lines by which its vehicles give way without a light, found in so many rounds; at how many
-    junctions, by how many lines). start: starts the program; tell: gets the clock and the last census."""
+    junctions, by how many lines). start: starts the program; tell: gets the clock and the last census. Fault where a
+    round fails."""
     lines, yielding = gaps_of(run, mapping, settings, rounds, start, tell)
     return with_lines(run, lines), yielding
 
@@ -105,7 +106,8 @@ def gaps_of(
     run: Run, mapping: Map, settings: Settings, rounds: int, start: Start, tell: Tell
 ) -> tuple[list[tuple[int, Line]], Yielding]:
     """(the signal lines, (clock, line), by which the vehicles of a run give way without a light; at how many junctions,
-    by how many lines); no lines where rounds is 0 or nobody in the map gives way. start, tell: as of giving_way."""
+    by how many lines); no lines where rounds is 0 or nobody in the map gives way. start, tell: as of giving_way. Fault
+    where a round fails."""
     if not rounds or not mapping.yields:
         return [], Yielding()
     places = places_of(mapping)
@@ -133,7 +135,7 @@ def giving_way_to_scripts(
 ) -> tuple[Run, Yielding]:
     """(the run of a script with signal lines by which the vehicles of its file give way without a light; at how many
     junctions, by how many lines). As its end is not known, rounds end when all have arrived, or an hour after the last
-    departure; nobody is rescued. program: None: the usual one; workers: its threads."""
+    departure; nobody is rescued. program: None: the usual one; workers: its threads. Fault where a round fails."""
     settings = Settings(script_end(run), rescue=0, lights=lights)
     return giving_way(run, mapping, settings, rounds, partial(serving, program, run.path, workers), lambda *_: None)
 

@@ -68,7 +68,8 @@ def area_metres(path: FilePath, element: Element, report: Report) -> tuple[float
 
 
 def tell_beyond(name: str | None, lane: str | None, report: Report) -> None:
-    """Reports that a lane area goes on, in SUMO, on another lane, and here does not."""
+    """Reports that a lane area goes on, in SUMO, on another lane, and here does not. name, lane: of the lane area, as
+    its element writes them."""
     told = f"detector {name} reaches beyond {lane}, and sees what is on that lane alone"
     kind = "detectors reach beyond their lane, and see what is on that lane alone"
     report.warn(told, [name or ""], kind=kind)
