@@ -216,7 +216,8 @@ class Fleet:
         return Road(2, link.limit, link.cells, (leads[0], leads[1]))
 
     def seconds(self, bus: Bus, at: int, cell: int) -> int:
-        """The fewest seconds, from a cell of the link at a place of its plan, until a bus is to be looked at."""
+        """The fewest seconds, from a cell of the link at a place of its plan, until a bus is to be looked at. It must
+        have a stop or a light to come."""
         found = []
         if bus.visits:
             visit = bus.visits[0]

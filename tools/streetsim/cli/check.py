@@ -47,7 +47,8 @@ def parser() -> Parser:
 
 def main(arguments: list[str]) -> int:
     """Runs streetsim-check: makes the runs again and prints one line; gives its status: 0 where each number is that of
-    a run, else 1. Fault for words that do not fit, and for a target that does not keep what made it."""
+    a run, else 1. Fault for words that do not fit, and for a target that does not keep what made it, or by which it
+    cannot be made again."""
     words = parser().parse_args(arguments)
     words.program = program.find_program(words.program)
     study = os.path.exists(f"{words.target}/{MADE}")
@@ -60,7 +61,7 @@ def main(arguments: list[str]) -> int:
 
 def check_page(words: argparse.Namespace) -> int:
     """Checks a sealed page, and prints the result; gives the status as `main` does. Fault where it cannot be read, is
-    not sealed, or its seal was changed."""
+    not sealed, its seal was changed, or it cannot be made again."""
     with reading(words.target), open_text(words.target) as file:
         text = file.read()
     seal = seal_of(words.target, text)
@@ -141,7 +142,7 @@ def made_again(words: argparse.Namespace, seal: Seal, place: str) -> str:
 
 def check_folder(words: argparse.Namespace, study: bool) -> int:
     """Checks a folder of a run, or of a study, and prints the result; gives the status as `main` does. Fault where the
-    folder does not keep what made it."""
+    folder does not keep what made it, or cannot be made again."""
     counts = Compared()
     with tempfile.TemporaryDirectory() as place, Slow(f"running again what made {words.target}"):
         with contextlib.redirect_stdout(io.StringIO()), contextlib.redirect_stderr(io.StringIO()):

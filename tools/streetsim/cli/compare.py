@@ -47,7 +47,8 @@ def parser() -> argparse.ArgumentParser:
 
 def main(arguments: list[str]) -> int:
     """Runs streetsim-compare: prints the comparison, and writes the folder of --out where it is given; gives its
-    status, as `with_sumo` or `with_counts` says. Fault for words that do not fit to each other."""
+    status, as `with_sumo` or `with_counts` says. Fault for words that do not fit to each other, and where a file cannot
+    be read or written."""
     words = parser().parse_args(arguments)
     sumo, counts = files_of(words.sumo), files_of(words.counts)
     if not sumo and not counts:
@@ -62,7 +63,8 @@ def main(arguments: list[str]) -> int:
 
 def with_sumo(path: str, files: list[str]) -> int:
     """Compares the trips of a folder with SUMO's tripinfo, and edges where a second file, edgeData, is given; prints
-    it. Status 1 where the trips, or the edges, have nothing in common, else 0. Fault for more than two files."""
+    it. Status 1 where the trips, or the edges, have nothing in common, else 0. Fault for more than two files, and where
+    one cannot be read."""
     if len(files) > 2:
         raise Fault("--sumo takes tripinfo.xml and at most one edgedata.xml")
     with Slow(f"reading {path}") as shown:

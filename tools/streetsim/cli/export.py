@@ -28,7 +28,7 @@ def parser() -> Parser:
 
 def main(arguments: list[str]) -> int:
     """Runs streetsim-export: writes the file, and prints what is in it; gives status 0. Fault for a folder of no run,
-    for a name with another ending, and where ogr2ogr or a projection is lacking."""
+    for a name with another ending, where ogr2ogr or a projection is lacking, and where the file cannot be written."""
     words = parser().parse_args(arguments)
     ending = os.path.splitext(words.output)[1].lower()
     if ending not in (".geojson", ".gpkg"):

@@ -104,7 +104,8 @@ def serve(bridge: Bridge, opens: bool) -> None:
 
 def main(arguments: list[str]) -> int:
     """Runs streetsim-live: serves the page until Ctrl-C, or writes it to the file of -o; gives status 0. Fault for
-    words that do not fit to each other, and where the port cannot be had."""
+    words that do not fit to each other, where a file cannot be read or written or there is no program, and where the
+    port cannot be had."""
     words = parser().parse_args(arguments)
     if words.keep and words.output:
         raise Fault("--keep is of a page that is served, and -o writes one file")

@@ -31,7 +31,7 @@ def parser() -> Parser:
 
 def main(arguments: list[str]) -> int:
     """Runs streetsim-play: writes the page, and prints how large it is; gives status 0. Fault for more than two runs,
-    where nothing was polled, or where the page would be too large."""
+    where a file cannot be read or written, where nothing was polled, or where the page would be too large."""
     words = parser().parse_args(arguments)
     if len(words.folders) > 2:
         raise Fault("a page plays one run, or two side by side")

@@ -80,8 +80,8 @@ def dawdles(text: str) -> list[int]:
 
 
 def main(arguments: list[str]) -> int:
-    """Runs streetsim-plot: draws and writes the picture; gives status 0. Fault for words that do not fit to each
-    other."""
+    """Runs streetsim-plot: draws and writes the picture; gives status 0. Fault for words that do not fit to each other,
+    and where a file cannot be read or the picture not be drawn or written."""
     words = parser().parse_args(arguments)
     if words.folder is None and not words.ring:
         raise Fault("fundamental needs a folder or --ring")

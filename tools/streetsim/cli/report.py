@@ -99,7 +99,8 @@ def parser() -> Parser:
 
 def main(arguments: list[str]) -> int:
     """Runs streetsim-report: writes the page, what is sealed beside it and the table of --csv, and prints how large the
-    page is; gives status 0. Fault for words that do not fit to each other."""
+    page is; gives status 0. Fault for words that do not fit to each other, and where a file cannot be read or
+    written."""
     made = parser()
     words = made.parse_args(arguments)
     given = given_words(made, words, ELSEWHERE)

@@ -41,7 +41,8 @@ AT_WISH = (
 def run_by(words: argparse.Namespace, given: Sequence[str], again: Sequence[str]) -> int:
     """Makes the run, or the runs of --seeds, that the words ask for, writes the folder of --out, prints what it gave,
     and gives status 0. given: the words that change its numbers, for the setting; again: those by which it is made
-    again of the lines that its folder keeps. Fault for words that do not fit to the run."""
+    again of the lines that its folder keeps. Fault for words that do not fit to the run, where a file cannot be read or
+    written, and where a run fails."""
     run, mapping = read_with_map(words.run, words.map)
     settings = settings_of(words, run)
     refuse_unknown(words, settings, mapping)

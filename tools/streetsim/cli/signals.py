@@ -168,7 +168,7 @@ def bounds_found(
 ) -> int:
     """Finds bounds of actuated and NEMA lights, and the best plan of seconds to compare them with; writes and prints
     both, and gives the exit status of write_found_bounds. changed, cycles: as `changes_of` gives them. Fault where
-    --edges is given."""
+    --edges is given, and where a run fails."""
     if words.edges:
         raise Fault("--edges draws plans of seconds, and --bounds finds none")
     ground, check = ground_of(reading, town), check_seeds(words)
@@ -221,8 +221,8 @@ def check_seeds(words: argparse.Namespace) -> range:
 
 
 def reading_of(words: argparse.Namespace, changed: Sequence[str]) -> Reading:
-    """What is to be read of a town; Fault where an output has no place or is an input. The reserve is 0 where offsets
-    alone are changed and no bounds are to be found."""
+    """What is to be read of a town; Fault where an output has no place or is an input, and where there is no program.
+    The reserve is 0 where offsets alone are changed and no bounds are to be found."""
     plans = files_of(words.plans)
     refuse_places(words.out, {"-o": words.output}, [words.run, words.map, *plans])
     return Reading(
@@ -269,7 +269,7 @@ def corridor_of(words: argparse.Namespace, town: Town) -> Corridor | None:
 def search_seeds(words: argparse.Namespace, runner: Runner, tried: Sequence[int]) -> Sequence[int]:
     """The seeds of the search: those of --seeds, else the first of `tried`, as many as the spread of runs of the given
     plan asks for. Makes these runs, with the seeds `tried`, in both cases; prints which seeds, and why. Fault where
-    --budget is below them."""
+    --budget is below them, and where a run fails."""
     means = list(runner.means([runner.town.plan], tried))
     needed = seeds_for(means)
     seeds = seeds_of(words.seeds, "--seeds") if words.seeds else tried[:needed]
@@ -284,7 +284,7 @@ def searched(
     words: argparse.Namespace, runner: Runner, changed: Sequence[str], cycles: range, seeds: Sequence[int]
 ) -> tuple[Search, bool]:
     """Searches for a plan; gives (search when it has ended, whether the user ended it by Ctrl-C). changed, cycles: as
-    `changes_of` gives them; seeds: of the search."""
+    `changes_of` gives them; seeds: of the search. Fault where a run fails."""
     town = runner.town
     streets = streets_of(town.run, town.mapping, town.lights)
     def values(plans: Sequence[Plan]) -> Generator[float, None, None]:

@@ -59,7 +59,7 @@ def percent(text: str) -> float:
 
 def main(arguments: list[str]) -> int:
     """Runs streetsim-study: makes the runs, writes the folder of --out, and prints the differences; gives status 0.
-    Fault where --out is no folder."""
+    Fault where --out is no folder, the study cannot be read, a run fails, or a file cannot be written."""
     made = parser()
     words = made.parse_args(arguments)
     refuse_places(words.out, {}, ())

@@ -78,7 +78,7 @@ class KeptEngine(Engine):
 
     def begin(self, anew: bool = False) -> list[bytes]:
         """Begins the session where it was left, or (anew) one from nothing in FILE.new, which settle then puts in its
-        place; gives the replies to the run's own lines. Fault where the file cannot be read."""
+        place; gives the replies to the run's own lines. Fault where the file cannot be read, or there is no program."""
         with self.lock:
             self.stop()
             self.making.unlink(missing_ok=True)
