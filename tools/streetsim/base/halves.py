@@ -56,7 +56,7 @@ def new_file(path: str) -> str:
 
 def hold_new(make: Callable[[], str]) -> tuple[str, int]:
     """(path of what `make` makes, descriptor by which a lock on it is held, for the caller to close). Made anew where
-    another tool has just removed it, as it was not locked yet."""
+    another tool has just removed it, as it was not locked yet. OSError where it cannot be opened."""
     while True:
         path = make()
         with contextlib.suppress(FileNotFoundError):

@@ -1,4 +1,5 @@
-"""Reads matrices between zones: CSV, SUMO's O and V formats, and its tazRelation files."""
+"""Reads matrices between zones: CSV, SUMO's O and V formats, and its tazRelation files. All that reads raises Fault,
+with file and line or element, where a value is absent or cannot be read."""
 from collections.abc import Iterable, Iterator, Mapping
 from dataclasses import replace
 

@@ -1,4 +1,5 @@
-"""Reads flows without an end, and turn ratios by which they go on, as SUMO's jtrrouter takes them."""
+"""Reads flows without an end, and turn ratios by which they go on, as SUMO's jtrrouter takes them. All that reads
+raises Fault, with file and line or element, where a value is absent or cannot be read."""
 import random
 from collections.abc import Iterable
 

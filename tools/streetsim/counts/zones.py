@@ -1,4 +1,5 @@
-"""Reads zones as lists of edges: CSV, and SUMO's TAZ."""
+"""Reads zones as lists of edges: CSV, and SUMO's TAZ. All that reads raises Fault, with file and element, where an
+attribute is absent or cannot be read."""
 from collections.abc import Iterable, Iterator
 
 from streetsim.base.files import Fault, FilePath

@@ -21,7 +21,7 @@ class Team:
 
     def search(self, wishes: Sequence[Wish], costs: Costs, shut: Shut | None = None) -> list[Found]:
         """What the router finds for wishes, in the order of trips; shut: (first, last) seconds by edge or movement,
-        None: nothing is shut."""
+        None: nothing is shut. Fault where a worker is lost."""
         parts = parts_of(wishes, self.parts)
         tasks = [(f"part {at} of a search", search_part, 0, part, costs, shut) for at, part in enumerate(parts, 1)]
         return sorted((found for part in self.workers.ordered(tasks) for found in part), key=lambda found: found.trip)
@@ -30,7 +30,8 @@ class Team:
         self, cases: Sequence[Loaded], expected: Costs, seeds: Sequence[int], passed: Sequence[Passed | None]
     ) -> list[list[Outcome]]:
         """What runs of some cases with each seed show, by case and then by seed. expected: as of watched; passed: for
-        each seed, when those who go first passed in the run before; None where nobody waits for them."""
+        each seed, when those who go first passed in the run before; None where nobody waits for them. Fault where a run
+        fails or a worker is lost."""
         pairs = list(zip(seeds, passed, strict=True))
         tasks = [
             (f"the run with seed {seed}", watched, 0, loaded.run, loaded.mapping, expected, seed, before)
@@ -41,7 +42,7 @@ class Team:
 
     def checks(self, loaded: Loaded, expected: Costs, seeds: Sequence[int]) -> list[Outcome]:
         """The outcomes of runs with each seed, each of which first finds its own gaps for those who give way without a
-        light. expected: as of watched."""
+        light. expected: as of watched. Fault where a run fails or a worker is lost."""
         tasks = [
             (f"the run with seed {seed}", checked, 0, loaded.run, loaded.mapping, expected, seed) for seed in seeds
         ]

@@ -165,17 +165,18 @@ class Runner:
     def means(self, plans: Iterable[Plan], seeds: Sequence[int]) -> Iterator[float]:
         """For each plan with each seed, in this order, the mean trip in seconds by the session of the search, with
         merging before works; where vehicles give way without a light, by the gaps that were found under the given plan:
-        workers then have the sessions of sessions_of."""
+        workers then have the sessions of sessions_of. Fault where a run fails or a worker is lost."""
         for seconds in self.ordered(seconds_at_works, plans, seeds, self.town.giving, CAREFUL):
             yield seconds / self.cars
 
     def outcomes(self, plan: Plan, seeds: Sequence[int]) -> list[Outcome]:
-        """For each seed, what a plan gives by the session of the report, with gaps found under this plan."""
+        """For each seed, what a plan gives by the session of the report, with gaps found under this plan. Fault where a
+        run fails or a worker is lost."""
         return list(self.ordered(outcome_giving_way, [plan], seeds))
 
     def gaps(self, seeds: Sequence[int]) -> list[Any]:
         """For each seed (signal lines, (clock, line), by which vehicles without a light give way under the given plan;
-        at how many junctions and by how many lines)."""
+        at how many junctions and by how many lines). Fault where a run fails or a worker is lost."""
         return list(self.ordered(gaps, [self.town.plan], seeds))
 
     def ordered(

@@ -1,4 +1,5 @@
-"""Reads SUMO's additional files: signal programs, vehicle types, detectors, bus stops, demand."""
+"""Reads SUMO's additional files: signal programs, vehicle types, detectors, bus stops, demand. All that reads raises
+Fault, with file and element, where an attribute is absent or cannot be read."""
 from collections import defaultdict
 from xml.etree.ElementTree import Element
 

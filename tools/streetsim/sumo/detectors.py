@@ -1,4 +1,5 @@
-"""SUMO's induction loops (e1) and lane areas (e2) of additional files, placed on the cells of an import."""
+"""SUMO's induction loops (e1) and lane areas (e2) of additional files, placed on the cells of an import. All that reads
+raises Fault, with file and element, where an attribute is absent or cannot be read."""
 from collections.abc import Container, Iterable
 from dataclasses import dataclass
 from xml.etree.ElementTree import Element

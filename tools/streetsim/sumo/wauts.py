@@ -1,4 +1,5 @@
-"""Programs of lights that change by the time of day, as SUMO's WAUT has them: read, and as lines of a run with "at"."""
+"""Programs of lights that change by the time of day, as SUMO's WAUT has them: read, and as lines of a run with "at".
+All that reads raises Fault, with file and element, where an attribute is absent or cannot be read."""
 from collections import defaultdict
 from collections.abc import Iterator, Mapping, Sequence
 from dataclasses import replace

@@ -1,5 +1,5 @@
 """Trips of SUMO's files: where each begins and ends, when, and the way that it has; and files of routes written of
-them."""
+them. All that reads raises Fault, with file and element, where an attribute is absent or cannot be read."""
 from collections.abc import Iterable, Iterator, Sequence
 from dataclasses import dataclass
 from itertools import pairwise
