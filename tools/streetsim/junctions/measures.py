@@ -80,8 +80,9 @@ def together(parts: Iterable[Losses]) -> Losses:
 
 
 def stop_loss(approach: Approach, target: str) -> float:
-    """Seconds that a vehicle which stops on an approach loses beyond what is seen; target: the next edge. 0 for those
-    that turn at a light: the import has put it into the green, of which it leaves out seconds."""
+    """Seconds that a vehicle which stops on an approach loses beyond what is seen; target: the next edge, of one of the
+    approach's movements. 0 for those that turn at a light: the import has put it into the green, of which it leaves out
+    seconds."""
     if approach.control == SIGNALS and approach.movements[target] != "T":
         return 0.0
     return STOP_LOSS[0] if len(approach.lanes) == 1 else STOP_LOSS[1]

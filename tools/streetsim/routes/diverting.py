@@ -105,9 +105,10 @@ def give_ways(trips: Sequence[Trip], before: Trips, graph: Graph, where: str) ->
 
 
 def check_works(texts: Sequence[str], signs: Sequence[str], trips: Sequence[Trip], town: Town, until: int) -> None:
-    """Refuses by a Fault, before anything runs, works (texts, as --close takes them) that name no lane of the network,
-    end by the start or begin at until (a clock in seconds) or later, signs on unknown edges, and trips that begin on an
-    edge while it is closed. Which trips end on a closed edge is known only after the runs without works."""
+    """Refuses by a Fault, before anything runs, works (texts, as --close takes them) that have another form or name no
+    lane or metres of the network, end by the start or begin at until (a clock in seconds) or later, signs on unknown
+    edges, and trips that begin on an edge while it is closed. Which trips end on a closed edge is known only after the
+    runs without works."""
     mapping = map_without_routes(town.net, town.options)
     works = [works_of(text, mapping) for text in texts]
     if over := [one.text for one in works if one.last <= town.options.begin]:

@@ -89,7 +89,8 @@ def of_rings(light: DrivenRings) -> Bounds:
 
 def kept_with(kept: Json, bounds: Bounds) -> Json:
     """What a map keeps of a program, with other bounds: of an actuated light one max-gap in place of all that it had,
-    those of single lanes too; of a NEMA light the extension (vehext) of each green. The one given stays as it is."""
+    those of single lanes too; of a NEMA light the extension (vehext) of each green. The one given stays as it is.
+    bounds: of greens that the program has."""
     phases, timing = ([list(one) for one in kept.get(key, ())] for key in ("phases", "timing"))
     names = [digits(text) for text, *_ in timing]
     for at, (phase, least, most) in enumerate(bounds.greens):

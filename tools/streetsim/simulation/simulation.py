@@ -159,7 +159,8 @@ class Simulation:
         return self.enter(name, links, lane, depart, self.fleet.sizes[name], driven)
 
     def plan(self, name: str) -> Sequence[int]:
-        """The numbers of the links of a vehicle's plan, those that it has driven among them."""
+        """The numbers of the links of a vehicle's plan, those that it has driven among them. KeyError for an unknown
+        one."""
         return self.fleet.plans[name]
 
     def expected(self) -> int:

@@ -63,7 +63,7 @@ def closed_together(here: Sequence[Closure]) -> dict[frozenset[int], list[tuple[
 
 
 def coming(run: Run, mapping: Map, links: Sequence[int], first: int, last: int) -> int:
-    """How many vehicles would come to the first of some links between the seconds first and last, if nobody were in
+    """How many vehicles would come to the first of some links from the second first to before last, if nobody were in
     their way, with all these links one after the other in their plan."""
     free_flow, plans, count = FreeFlow(mapping, run.load.command.get("dawdle", 0) / 1000), 0, len(links)
     for line in run.enters:

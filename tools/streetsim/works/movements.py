@@ -101,7 +101,7 @@ def in_common(times: Iterable[Sequence[Times]]) -> Iterator[Times]:
 
 
 def coming_on(way: Way, run: Run, mapping: Map, first: int, last: int) -> int:
-    """How many vehicles would come to the movement's edge between the seconds first and last, and go on to its next
+    """How many vehicles would come to the movement's edge from the second first to before last, and go on to its next
     edge, if nobody were in their way."""
     pairs = product(*(mapping.links_of[edge] for edge in way))
     return sum(coming(run, mapping, pair, first, last) for pair in pairs)
