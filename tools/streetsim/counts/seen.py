@@ -52,7 +52,7 @@ def check_places(folder: Folder, counts: Sequence[Count]) -> None:
 
 
 def edge_rows(folder: Folder) -> dict[Key, list[tuple[int, int, float]]]:
-    """By (edge,): (begin, end, vehicles that left it) of each period of edges.csv."""
+    """By (edge,): (begin, end, vehicles that left it) of each period of edges.csv. Fault where it cannot be read."""
     found: defaultdict[Key, list[tuple[int, int, float]]] = defaultdict(list)
     for row in folder.edges():
         found[(row["edge"],)].append((int(row["begin"]), int(row["end"]), float(row["left"])))

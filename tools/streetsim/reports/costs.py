@@ -59,7 +59,7 @@ Means = dict[int, tuple[int, float, float]]  # by seed: trips that arrived, thei
 def means_by_class(runs: Runs) -> dict[str, Means]:
     """{vehicle class, as SUMO names it: {seed: (trips that arrived, their mean seconds, their mean delay)}} of a plan's
     runs; a trip begins with the wished departure, and its delay is what it took longer than alone on its way, without
-    seconds at stops. Classes of which nobody arrived are left out."""
+    seconds at stops. Classes of which nobody arrived are left out. Fault where trips.csv cannot be read."""
     found: defaultdict[str, Means] = defaultdict(dict)
     for seed, folder in runs.folders.items():
         trips: defaultdict[str, list[tuple[int, float]]] = defaultdict(list)
@@ -73,7 +73,7 @@ def means_by_class(runs: Runs) -> dict[str, Means]:
 
 
 def durations(folder: Folder) -> dict[str, int]:
-    """The seconds of each trip that arrived, by the vehicle's name."""
+    """The seconds of each trip that arrived, by the vehicle's name. Fault where trips.csv cannot be read."""
     return {row["id"]: int(row["duration"]) for row in folder.trips() if row["duration"]}
 
 

@@ -69,8 +69,8 @@ def map_of(folder: Folder) -> Json:
 
 
 def kept_lines(runs: Runs) -> bytes:
-    """The lines of a plan's run as bytes, unpacked, of its folder or the one above; Fault where neither keeps them, or
-    other ones than its setting says."""
+    """The lines of a plan's run as bytes, unpacked, of its folder or the one above; Fault where neither keeps them,
+    they cannot be read, or are others than its setting says."""
     folder = runs.first
     places = [f"{folder.path}/{KEPT}", f"{os.path.dirname(os.path.normpath(folder.path))}/{KEPT}"]
     path = next(filter(os.path.exists, places), None)

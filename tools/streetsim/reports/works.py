@@ -56,7 +56,7 @@ def rows_of(folder: Folder) -> list[dict[str, str]]:
 
 def note_queues(folder: Folder, places: Sequence[Seen]) -> None:
     """Adds to `queues` of each place of works the metres of the queue before it at each poll of a run while they last;
-    0 where none is listed."""
+    0 where none is listed. Fault where queues.csv cannot be read."""
     rows = (row for row in folder.queues() if row["before"] == tables.BEFORE_WORKS)
     queues = {(row["edge"], row["lane"], int(row["time"])): float(row["metres"]) for row in rows}
     for seen in places:
@@ -180,7 +180,8 @@ def other_ways(plans: Sequence[Runs], shown: tuple[int, int]) -> str:
 
 def flow_changes(plans: Sequence[Runs], shown: tuple[int, int]) -> dict[str, Difference]:
     """By edge the change of vehicles an hour from the first of two plans to the second, in the interval (begin, end)
-    that is shown, paired by seed; edges that one plan has no counts of are left out."""
+    that is shown, paired by seed; edges that one plan has no counts of are left out. Fault where edges.csv cannot be
+    read."""
     sides = []
     for runs in plans:
         flows: defaultdict[str, dict[int, float]] = defaultdict(dict)

@@ -44,14 +44,14 @@ def read_edgedata(path: str) -> dict[EdgeKey, int]:
 
 def trips_of(folder: Folder) -> dict[str, Trip]:
     """A run's trips in the form of `read_tripinfo`, {vehicle: (wished departure, arrival)} in seconds; those that did
-    not arrive are left out."""
+    not arrive are left out. Fault where trips.csv cannot be read."""
     return {row["id"]: (float(row["depart"]), float(row["arrival"])) for row in folder.trips() if row["arrival"]}
 
 
 def edges_of(folder: Folder) -> dict[EdgeKey, tuple[int, float | None]]:
     """A run's edges in the form of `read_edges`, {(begin, end, edge): (vehicles that left it or arrived on it, seconds
     of all vehicles on it)}: those of which all lanes have counts, in whole periods. The seconds are none where the
-    density is not known."""
+    density is not known. Fault where edges.csv cannot be read."""
     edges = {}
     for row in folder.edges():
         if int(row["end"]) - int(row["begin"]) == folder.period:

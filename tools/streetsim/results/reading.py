@@ -64,7 +64,8 @@ class Runs:
         return Names(self.first.mapping)
 
     def mean_trips(self) -> dict[int, float]:
-        """{seed: mean trip in seconds of those who arrived}; seeds in which nobody did are left out."""
+        """{seed: mean trip in seconds of those who arrived}; seeds in which nobody did are left out. Fault where
+        trips.csv cannot be read."""
         found = {}
         for seed, folder in self.folders.items():
             durations = [float(row["duration"]) for row in folder.trips() if row["duration"]]

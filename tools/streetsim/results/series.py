@@ -190,7 +190,8 @@ def densities(folder: Folder) -> list[float]:
 
 def longest_queues(folder: Folder, most: int) -> tuple[list[tuple[str, dict[int, float]]], int]:
     """The lanes with the longest queues at stop lines, the longest first and `most` of them at most: (lane's id after
-    its street's name, {clock: metres}); and how many lanes have queues at all."""
+    its street's name, {clock: metres}); and how many lanes have queues at all. Fault where queues.csv cannot be
+    read."""
     by_lane: defaultdict[str, dict[int, float]] = defaultdict(dict)
     names = Names(folder.mapping)
     for row in (row for row in folder.queues() if row["before"] == tables.STOP_LINE):
@@ -250,7 +251,8 @@ def middle(cells: int) -> tuple[int, int]:
 
 
 def arrival_curves(folder: Folder) -> tuple[list[int], list[int]]:
-    """(clocks of wished departures up to the run's end, clocks of arrivals), each sorted."""
+    """(clocks of wished departures up to the run's end, clocks of arrivals), each sorted. Fault where trips.csv cannot
+    be read."""
     trips, end = folder.trips(), folder.made.get("until", inf)
     departs = sorted(depart for row in trips if (depart := int(row["depart"])) <= end)
     return departs, sorted(int(row["arrival"]) for row in trips if row["arrival"])

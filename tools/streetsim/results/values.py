@@ -25,7 +25,8 @@ class Values:
 
 
 def intervals_of(runs: Runs) -> list[tuple[int, int]]:
-    """The (begin, end) of the junction tables, in seconds, rising; of the rows of edges.csv where there are none."""
+    """The (begin, end) of the junction tables, in seconds, rising; of the rows of edges.csv where there are none. Fault
+    where that cannot be read."""
     return runs.intervals() or sorted({(int(row["begin"]), int(row["end"])) for row in runs.first.edges()})
 
 
@@ -69,8 +70,8 @@ def mean_of(several: list[Traffic]) -> Traffic:
 
 
 def values_of(runs: Runs, begin: int, end: int) -> dict[str, Values]:
-    """{edge: what is known of it from `begin` to `end`, in seconds}, for each edge of the map, as means over the
-    seeds."""
+    """{edge: what is known of it from `begin` to `end`, in seconds}, for each edge of the map, as means over the seeds.
+    Fault where edges.csv cannot be read."""
     seen = defaultdict(list)
     for folder in runs.folders.values():
         for edge, one in traffic_of(folder.edges(), begin, end).items():

@@ -58,7 +58,7 @@ def places_of(folder: Folder) -> list[Place]:
 
 def place_of(folder: Folder, rows: Sequence[dict[str, str]], seen: Counter[int]) -> Place:
     """The works of one place, of its rows of works.csv, without who stands there. seen: how many vehicles polls saw, by
-    link."""
+    link. Fault where queues.csv cannot be read."""
     edge, lane = rows[0]["edge"], rows[0]["lane"]
     begin, end = float(rows[0]["from_m"]), float(rows[0]["to_m"])
     lengths = {
