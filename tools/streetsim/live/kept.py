@@ -71,7 +71,7 @@ class KeptEngine(Engine):
             time.sleep(0.05)
 
     def known_file(self) -> None:
-        """Fault where the file does not begin with the run's own lines, as far as it goes."""
+        """Fault where the file does not begin with the run's own lines, as far as it goes, or cannot be read."""
         for number, (line, own) in enumerate(zip(lines_of_file(self.file), self.lines), 1):
             if line != own:
                 raise Fault(f"{self.file}: line {number} is not of this run: it has another session")

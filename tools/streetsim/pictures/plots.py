@@ -165,7 +165,7 @@ def draw_queues(pyplot: Pyplot, folder: Folder) -> Figure:
 
 def draw_arrivals(pyplot: Pyplot, folder: Folder, tripinfo: str | None) -> Figure:
     """Wished departures and arrivals over time, and below them a difference: the arrivals less SUMO's, where a tripinfo
-    (its path) is given, else the departures less the arrivals. Fault where the tripinfo cannot be read."""
+    (its path) is given, else the departures less the arrivals. Fault where trips.csv or the tripinfo cannot be read."""
     departs, arrivals = series.arrival_curves(folder)
     figure, (axes, below) = pyplot.subplots(2, figsize=(8, 6.5), sharex=True, height_ratios=(3, 1))
     curves: list[tuple[Sequence[float], str, str, str]]

@@ -82,7 +82,7 @@ def link_of(folder: Folder, edge: str, lane: int) -> int:
 
 def way_to(folder: Folder, link: int, begin: float, seen: Counter[int]) -> list[Stretch]:
     """The way to works, from them on against the traffic: the link on which they lie, `begin` metres from its begin,
-    and of the links before each the one on which most vehicles were seen, until none leads there."""
+    and of the links before each the one on which most vehicles were seen, until no further one leads there."""
     links, way = folder.mapping.links, [Stretch(link, begin - folder.mapping.links[link].metres, begin)]
     known = {link}
     while True:

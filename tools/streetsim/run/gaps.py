@@ -65,8 +65,8 @@ def by_turn(passed: Passed) -> dict[TurnKey, list[float]]:
 
 
 def stands_of(passed: Passed, waits: Collection[TurnKey]) -> Stands:
-    """How long those who give way stood at their line in the way of others, by turn and second; who stood for UNSEEN
-    seconds or less is left out. waits: the turns that give way."""
+    """For how many seconds those who give way stood at their line in the way of others, by turn and second: those
+    beyond UNSEEN, MOST_SEEN at most; who stood for UNSEEN or less is left out. waits: the turns that give way."""
     stood = ((place, *one) for place, each in passed.items() for one in standing(each))
     return {
         ((*place, following), second): min(MOST_SEEN, seconds - UNSEEN)

@@ -1,4 +1,5 @@
-"""When the vehicles of a SUMO flow depart."""
+"""When the vehicles of a SUMO flow depart. All that reads raises Fault, with file and element, where an attribute is
+absent or cannot be read."""
 import math
 from collections.abc import Iterable, Iterator
 from itertools import count, islice, takewhile
