@@ -161,7 +161,8 @@ def options_of(words: argparse.Namespace) -> Options:
 
 def words_of(arguments: list[str]) -> tuple[argparse.Namespace, dict[str, str]]:
     """The words of a command, where no word is given completed by the configuration (-c) that they name; and the
-    options of that configuration, empty where they name none. Fault where no network is named."""
+    options of that configuration, empty where they name none. Fault where no network is named, or the configuration
+    cannot be read."""
     made = parser()
     words = made.parse_args(arguments)
     if not words.configuration:

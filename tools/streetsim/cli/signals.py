@@ -287,6 +287,7 @@ def searched(
     `changes_of` gives them; seeds: of the search. Fault where a run fails."""
     town = runner.town
     streets = streets_of(town.run, town.mapping, town.lights)
+
     def values(plans: Sequence[Plan]) -> Generator[float, None, None]:
         """The mean trip, in seconds, of each plan over the seeds of the search, in the plans' order."""
         means = runner.means(plans, seeds)

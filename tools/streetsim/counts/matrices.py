@@ -83,7 +83,8 @@ class Words:
         return f"{self.path}: line {self.line}"
 
     def following(self) -> list[str]:
-        """The words of the next line; empty at the end of the file."""
+        """The words of the next line; blank lines, and those that begin with *, are left out. Empty at the end of the
+        file."""
         for self.line, text in self.lines:
             if text.strip() and not text.lstrip().startswith("*"):
                 return text.split()

@@ -33,7 +33,7 @@ class Joining:
     def giving_way(self, run: Run, mapping: Map, told: list[str]) -> tuple[Run, Map, list[str]]:
         """(the run with signal lines by which vehicles give way without a light, its map, the texts to tell); told: the
         texts so far. With no rounds all is as given; where the rounds find nobody who has to give way, the map's yields
-        are empty."""
+        are empty. Fault where the rounds cannot be made."""
         if not self.rounds or not mapping.yields:
             return run, mapping, told
         lights = driven_lights(run, mapping) if self.driven else LISTED

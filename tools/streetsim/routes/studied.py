@@ -41,7 +41,7 @@ def routed(run: Run, mapping: Map, map_path: str, wished: Wished, where: str) ->
     """The run and its map with ways that a search of ten iterations, printed on standard error, finds for the vehicles
     of its import, round the works of the variant where it has any; and the texts that speak against these ways.
     map_path: of the map's file; where: the variant, named in what is told. Fault where a file of the import is gone or
-    has changed, or a trip has no way."""
+    has changed, a trip has no way, or a run fails."""
     sources = sources_of(mapping.sources, map_path, run.path)
     options = options_again(mapping, joint=wished.joint)
     town = read_town(sources.net, sources.additional, options, Report())
