@@ -239,7 +239,8 @@ class Stretch(Part, StretchCalls[Scenario]):
     """Calls on lanes and edges; each asks the program anew. KeyError for an unknown name."""
 
     def places(self, name: str) -> list[tuple[int, int]]:
-        """All (link, lane) of a lane or an edge, by its name; each kind of stretch gives its own."""
+        """All (link, lane) of a lane or an edge, by its name; each kind of stretch gives its own (NotImplementedError
+        here)."""
         raise NotImplementedError
 
     def entries(self, name: str) -> list[Sequence[int]]:

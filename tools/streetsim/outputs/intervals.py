@@ -125,16 +125,17 @@ class Detectors(XmlFile):
 
     def empty(self, one: Detector, before: Sums) -> Sums:
         """The sums with which an interval begins; before: those of the interval that has ended, none where this is the
-        first."""
+        first. Each class below gives its own; NotImplementedError here."""
         raise NotImplementedError
 
     def note(self, one: Detector, sums: Sums, second: Second, here: Sequence[tuple[int, At]]) -> None:
         """Adds a second to the sums of a detector; here: (car, place) of the vehicles on its lane in it, and of those
-        in the junction behind that."""
+        in the junction behind that. Each class below gives its own; NotImplementedError here."""
         raise NotImplementedError
 
     def row(self, one: Detector, sums: Sums, seconds: int) -> str:
-        """The attributes of an interval; seconds: its length."""
+        """The attributes of an interval; seconds: its length. Each class below gives its own; NotImplementedError
+        here."""
         raise NotImplementedError
 
     def step(self, second: Second) -> None:

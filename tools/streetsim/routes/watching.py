@@ -94,7 +94,7 @@ class Watcher(Recorder):
         return Asking(EVERY if self.first else MINUTE, [], 0)
 
     def record(self) -> Records:
-        """Makes the whole run; gives its records."""
+        """Makes the whole run; gives its records. Fault where a line is refused."""
         records = super().record()
         if self.first:
             for owner, end in enumerate(records.ends):
@@ -103,7 +103,8 @@ class Watcher(Recorder):
         return records
 
     def look(self, clock: int) -> None:
-        """Asks what is due at a clock; ends the run where all vehicles have ended."""
+        """Asks what is due at a clock; ends the run where all vehicles have ended. Fault where a question is
+        refused."""
         if self.first:
             self.polled = self.places if clock % MINUTE == 0 else self.first
         super().look(clock)

@@ -94,7 +94,7 @@ class Recorder(Desk):
 
     def enter(self, last: int) -> None:
         """Sends the run's enter lines up to the place last, that one left out, and notes the car number of each
-        vehicle."""
+        vehicle. Fault where one is refused."""
         for owner in range(self.entered, last):
             self.cars[owner] = len(self.owners)
             self.owners.append(owner)

@@ -36,13 +36,14 @@ class Watcher(Desk):
                     self.repeat(*left.pop()[1:])
 
     def enter(self, last: int) -> None:
-        """Sends the run's enter lines up to the place last, that one left out, and notes whose cars they are."""
+        """Sends the run's enter lines up to the place last, that one left out, and notes whose cars they are. Fault
+        where one is refused."""
         self.owners += range(self.entered, last)
         super().enter(last)
 
     def frame(self, clock: int, lanes: Iterable[Place]) -> Frame:
         """What stands on some lanes at a clock, as in a folder's polls: {"clock", "lanes": [[link, lane, cells, buffer,
-        []]]}, vehicles by their numbers in the file; closed stretches are left out."""
+        []]]}, vehicles by their numbers in the file; closed stretches are left out. Fault where a poll is refused."""
         shown = []
         for (link, lane), reply in self.lanes(lanes).items():
             cells = [(self.owners[car], *rest) for car, *rest in reply.cells]

@@ -30,7 +30,7 @@ class Calls(Generic[Simulated]):
         raise NotHere(f"{called} is not here: {self.advice(called)}")
 
     def advice(self, called: str) -> str:
-        """What to do instead of a call that is not here."""
+        """What to do instead of a call that is not here. Each class below gives its own; NotImplementedError here."""
         raise NotImplementedError
 
     def check(self, name: str, names: Container[str]) -> None:
@@ -54,7 +54,8 @@ class VehicleCalls(Calls[Simulated]):
     place."""
 
     def place(self, name: str) -> Place | None:
-        """Where a vehicle is; None before it departs and after its end."""
+        """Where a vehicle is; None before it departs and after its end. Each class below gives its own;
+        NotImplementedError here."""
         raise NotImplementedError
 
     def place_on_lane(self, name: str) -> Place | None:
@@ -126,11 +127,13 @@ class PlaceCalls(Calls[Simulated]):
     """Calls on a place on the road, by the vehicles that are there."""
 
     def cars(self, name: str) -> list[int]:
-        """The numbers, in the program, of the vehicles there, from the stop line."""
+        """The numbers, in the program, of the vehicles there, from the stop line. Each class below gives its own;
+        NotImplementedError here."""
         raise NotImplementedError
 
     def speeds(self, name: str) -> list[float]:
-        """Metres a second of each vehicle there that is on cells, not in a junction."""
+        """Metres a second of each vehicle there that is on cells, not in a junction. Each class below gives its own;
+        NotImplementedError here."""
         raise NotImplementedError
 
     def speed_of_nobody(self, _name: str) -> float:

@@ -11,7 +11,7 @@ class Remembering(Client):
     state: a run repeats exactly."""
 
     def __init__(self, program: str | None = None, workers: int = 1) -> None:
-        """program: None: the usual one; workers: its threads."""
+        """program: None: the usual one; workers: its threads. Fault where there is no program."""
         super().__init__(program, workers)
         self.words = program, workers
         self.changes: list[bytes] = []
@@ -24,7 +24,7 @@ class Remembering(Client):
 
     def repeat(self, changes: Sequence[bytes]) -> None:
         """Starts the program anew and sends some lines, which changed something in an earlier one; they are then its
-        own."""
+        own. Fault where there is no program any more."""
         self.close()
         super().__init__(*self.words)
         self.changes = list(changes)

@@ -13,7 +13,8 @@ class Writer(Outputs):
 
     def __init__(self, paths: dict, mapping: Map, dawdle: float, period: int, start: int) -> None:
         """paths: of the files, by kind, as `output_paths` of opening gives them; dawdle: the chance, 0 to 1, to go on
-        by a cell less; period: seconds of the rows of edgeData; start: the first clock."""
+        by a cell less; period: seconds of the rows of edgeData; start: the first clock. Fault where one cannot be
+        written."""
         super().__init__(paths, mapping, dawdle, period, start)
         self.first: dict[int, int] = {}  # the first number of a vehicle that entered anew
 

@@ -46,7 +46,7 @@ class LitNode:
     found: Mapping[int, Movement] = field(default_factory=dict)  # by request: who gives way there
 
     def states(self) -> list[str]:
-        """The light's state, SUMO's letters, in each second of its cycle."""
+        """The light's state, SUMO's letters, in each second of its cycle. Fault where each_second raises one."""
         return each_second(self.light, self.program)
 
     def told(self, states: Sequence[str]) -> Told:

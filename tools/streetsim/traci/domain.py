@@ -126,7 +126,8 @@ class Placed(Domain):
     vehicles: Domain  # that are looked for; the package sets it
 
     def outline(self, name: str) -> Line:
-        """The line from which distances to the object are measured: points (x, y), in metres, or its one point."""
+        """The line from which distances to the object are measured: points (x, y), in metres, or its one point. Each
+        class below gives its own; NotImplementedError here."""
         raise NotImplementedError
 
     def subscribeContext(

@@ -47,7 +47,8 @@ class Stretches(Places, StretchCalls[Session]):
     variables = {**Places.variables, tc.LAST_STEP_VEHICLE_HALTING_NUMBER: "getLastStepHaltingNumber"}
 
     def metres(self, name: str) -> float:
-        """The metres of road that vehicles can cover there; each kind of stretch gives its own."""
+        """The metres of road that vehicles can cover there; each kind of stretch gives its own (NotImplementedError
+        here)."""
         raise NotImplementedError
 
     def getLastStepOccupancy(self, name: str) -> float:
