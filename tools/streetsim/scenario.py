@@ -316,7 +316,8 @@ class TrafficLight(Part):
     def setProgramLogic(self, name: str, phases: Iterable[tuple[float, str]], offset: float = 0) -> list[str]:
         """Sets a light's cycle from the next step on: phases of (seconds, state), and SUMO's offset in seconds, as a
         tlLogic has them; detectors drive it no more. Of permissive greens the usual share is shown, as flows are not
-        known here. Gives warnings, empty where there are none. Does nothing for an unknown light."""
+        known here. Gives warnings, empty where there are none. Does nothing for an unknown light; Fault
+        (streetsim.files) where a state is shorter than the light's signals, or the cycle no second long or too long."""
         self.scenario.driving.driver.release(name)
         return self.scenario.show_program(name, [(seconds, state) for seconds, state in phases], offset)
 

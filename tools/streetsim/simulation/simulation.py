@@ -129,7 +129,7 @@ class Simulation:
     def show_program(self, light: str, phases: Sequence[tuple[float, str]], offset: float) -> list[str]:
         """Shows a cycle of (seconds, state) at a light from the next step on; lines of the file for the light are no
         longer sent. Where detectors drive it, it is to be released before (driving.driver.release). offset: as in a
-        tlLogic, seconds. Gives warnings."""
+        tlLogic, seconds. Gives warnings. Fault as of Shown.program."""
         commands, told = self.shown.program(light, phases, offset, self.clock)
         self.show(commands)
         return told
