@@ -72,7 +72,8 @@ class Report:
 
     def rows(self) -> list[list[str]]:
         """All that is said, but for the notes, as rows of `COLUMNS`: weight, what, the ids that it is of (with blanks
-        between), what to do."""
+        between), what to do. First the vehicles that are left out, then the warnings as by_weight has them, last what
+        has no effect."""
         found = [
             [HEAVY, f"{count} vehicles are left out: {why}", "", ""] for why, count in sorted(self.skipped.items())
         ]

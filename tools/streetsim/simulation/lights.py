@@ -145,8 +145,9 @@ class Control:
         self.timers = [timer for timer in self.timers if timer[1] != name]
 
     def end_phase(self, name: str, clock: int) -> None:
-        """Shows the present phase until a clock, and then the next one; a light that detectors drive stays driven.
-        TraCIException for a NEMA light that they drive."""
+        """Shows the present phase until a clock, with permissive greens as full greens, and then the next one; a light
+        that detectors drive stays driven, and its greens as they are. TraCIException for a NEMA light that they
+        drive."""
         light = self.light(name)
         if (driven := self.driven(name)) is not None:
             actuated_of(name, driven).end_at(max(clock, self.simulation.clock + 1))

@@ -132,8 +132,9 @@ class TrafficLight(Domain):
         self.now().control.go_to(name, index)
 
     def setPhaseDuration(self, name: str, seconds: float) -> None:
-        """Has the present phase end so many seconds from now (rounded); the next ones last as in the program.
-        TraCIException below 0, or where a program of type NEMA drives the light."""
+        """Has the present phase end so many seconds from now (rounded); the next ones last as in the program. Until it
+        ends who has g drives as with G, but at a light that detectors drive. TraCIException below 0, or where a program
+        of type NEMA drives the light."""
         control = self.now().control
         control.light(name)
         if not seconds >= 0:

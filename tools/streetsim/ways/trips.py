@@ -145,8 +145,10 @@ def read_trips(
     paths: Iterable[str], net: SumoNet, graph: Graph, types: Types, options: Options, report: Report
 ) -> Trips:
     """The trips of files (their paths), in order of departure, and the types that these files tell, which `types` gets
-    too. Those that cannot drive are left out and reported by reason; Fault where a file cannot be read or is wrong, or
-    no trip is left."""
+    too. Left out and reported are those that reason_against gives a reason for, with options.begin, and those that
+    depart at options.end or later; not those whose routes lack a connection: connected does that. Fault where a file
+    cannot be read or is wrong, or no trip is left. graph: of the net; options: also the seed of draws of flows and
+    routes."""
     demand = TripDemand(net, types, options.seed, report)
     for path in paths:
         demand.read(path)
