@@ -15,7 +15,7 @@ from streetsim.works.movements import closed_ends, closures_at, lost_ways
 from streetsim.works.sites import shut_links
 
 
-Times = tuple[float, float]  # first and last second
+Times = tuple[float, float]  # from the first second to before the last
 
 
 @dataclass(frozen=True, slots=True)
@@ -30,9 +30,9 @@ class Shutting:
 
 @dataclass(frozen=True, slots=True)
 class Closing:
-    """Works as the router sees them. shut: (first, last) seconds by edge, and by movement where these are barred;
-    signs: edges on which those who do not know of the works are told of them; free: seconds of each movement without
-    traffic."""
+    """Works as the router sees them. shut: (first, last) seconds, from first to before last, by edge, and by movement
+    where these are barred; signs: edges on which those who do not know of the works are told of them; free: seconds of
+    each movement without traffic."""
 
     shut: Shut
     signs: frozenset[int]
@@ -43,9 +43,9 @@ class Closing:
 def shut_edges(
     works: Iterable[Works], graph: Graph, mapping: Map, dawdle: float
 ) -> dict[int, list[tuple[float, float]]]:
-    """{number of an edge in the graph: the (first, last) seconds in which it is not to be entered}: while all its lanes
-    are closed, and so shortly before that one would not come past the works; edges that keep an open lane are left out.
-    dawdle: the chance, 0 to 1, to go on by a cell less."""
+    """{number of an edge in the graph: the (first, last) seconds, from first to before last, in which it is not to be
+    entered}: while all its lanes are closed, and so shortly before that one would not come past the works; edges that
+    keep an open lane are left out. dawdle: the chance, 0 to 1, to go on by a cell less."""
     driving, links = FreeFlow(mapping, dawdle).driving, shut_links(sites_of(works, mapping), mapping)
     found = {}
     for edge in dict.fromkeys(mapping.links[link].edge for link in links):
@@ -59,14 +59,15 @@ def shut_edges(
 
 
 def barred_ways(works: Iterable[Works], graph: Graph, mapping: Map) -> dict[tuple[int, int], list[Times]]:
-    """{(edge, next edge), by numbers in the graph: the (first, last) seconds in which works have closed the only lanes
-    of this movement}; edges that are closed on all lanes are left out."""
+    """{(edge, next edge), by numbers in the graph: the (first, last) seconds, from first to before last, in which works
+    have closed the only lanes of this movement}; edges that are closed on all lanes are left out."""
     lost = lost_ways(closed_ends(closures_at(sites_of(works, mapping)), mapping), mapping)
     return {(graph.number[edge], graph.number[after]): list(times) for (edge, after), times in lost.items()}
 
 
 def common(one: Iterable[Times], other: Collection[Times]) -> list[Times]:
-    """The (first, last) seconds that are in both lists; an empty list where they share nothing."""
+    """The (first, last) seconds, from first to before last, that are in both lists; an empty list where they share
+    nothing."""
     both = [(max(first, begin), min(last, end)) for first, last in one for begin, end in other]
     return [(first, last) for first, last in both if first < last]
 

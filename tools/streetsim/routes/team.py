@@ -20,8 +20,8 @@ class Team:
         self.workers, self.parts = workers, parts
 
     def search(self, wishes: Sequence[Wish], costs: Costs, shut: Shut | None = None) -> list[Found]:
-        """What the router finds for wishes, in the order of trips; shut: (first, last) seconds by edge or movement,
-        None: nothing is shut. Fault where a worker is lost."""
+        """What the router finds for wishes, in the order of trips; shut: (first, last) seconds, from first to before
+        last, by edge or movement, None: nothing is shut. Fault where a worker is lost."""
         parts = parts_of(wishes, self.parts)
         tasks = [(f"part {at} of a search", search_part, 0, part, costs, shut) for at, part in enumerate(parts, 1)]
         return sorted((found for part in self.workers.ordered(tasks) for found in part), key=lambda found: found.trip)

@@ -132,7 +132,8 @@ class PlaceCalls(Calls[Simulated]):
         raise NotImplementedError
 
     def speeds(self, name: str) -> list[float]:
-        """Metres a second of each vehicle there that is on cells, not in a junction. Each class below gives its own;
+        """Metres a second of each vehicle of `cars` that is on cells, not in a junction, in their order; of an
+        induction loop of all that it saw in the last step, wherever they are now. Each class below gives its own;
         NotImplementedError here."""
         raise NotImplementedError
 
@@ -151,7 +152,7 @@ class PlaceCalls(Calls[Simulated]):
         return len(self.cars(name))
 
     def getLastStepMeanSpeed(self, name: str) -> float:
-        """The mean speed, metres a second, of the vehicles there that are on cells; speed_of_nobody where there are
+        """The mean speed, metres a second, of the vehicles that `speeds` tells of; speed_of_nobody where there are
         none."""
         speeds = self.speeds(name)
         return sum(speeds) / len(speeds) if speeds else self.speed_of_nobody(name)

@@ -160,14 +160,16 @@ def finding_gaps(movement: Movement, start: int, factor: float) -> float:
 
 
 def queue_seconds(foe: Movement, factor: float) -> int:
-    """The seconds of the cycle, as bits, in which a foe's queue leaves that has waited for a green, where its traffic
-    is factor times the usual."""
+    """The seconds of the cycle, as bits, that a foe's queue needs to leave which has waited for a green, where its
+    traffic is factor times the usual; as of leaving_seconds, so they may go on beyond the green."""
     return leaving_seconds(foe, foe.passing * factor * foe.headway / 3600)
 
 
 def leaving_seconds(foe: Movement, rate: float) -> int:
-    """The seconds of the cycle, as bits, in which a foe's queue leaves; rate: the share (0 to 1) of the time that it
-    needs to pass."""
+    """The seconds of the cycle, as bits, from the begin of each of a foe's greens, that its queue needs to leave: who
+    has come in the red before, and who comes meanwhile. They may go on beyond the green (foe.green). 0 where
+    foe.passing is 0. rate: the seconds that the vehicles which come in a second need to pass, from 0 on; above 0.99 it
+    counts as 0.99."""
     seconds, rate = 0, min(rate, 0.99)
     for start, red in foe.begins if foe.passing else ():
         length = round(LOST + red * rate / (1 - rate))

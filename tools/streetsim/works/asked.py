@@ -22,7 +22,7 @@ class Works:
     begin: int  # metres
     end: int
     first: int  # second
-    last: int
+    last: int  # second in which they are over
     # Whether they begin on the part of the edge before, whose lane they close to its end: so one cell stays open here,
     # for who has left that lane when they begin.
     goes_on: bool = False

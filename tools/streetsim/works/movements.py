@@ -24,7 +24,7 @@ LOST = ("lead", "wait", "bar")  # what those do who lose their lane
 
 Turn = tuple[int, int, int]  # link, lane, next link
 Way = tuple[str, str]  # an edge and the next
-Times = tuple[int, int]  # first and last second
+Times = tuple[int, int]  # from the first second to before the last
 
 
 @dataclass(slots=True, frozen=True)
@@ -60,8 +60,9 @@ def closures_at(sites: Iterable[Site]) -> list[Closure]:
 
 
 def closed_ends(closures: Iterable[Closure], mapping: Map) -> dict[Place, list[Times]]:
-    """By lane, (link, lane), the (first, last) seconds in which it is closed so near to its end that nobody can come
-    back to it behind the works."""
+    """By lane, (link, lane), the (first, last) seconds, from first to before last, in which it is closed so near to its
+    end that nobody can come back to it behind the works: a pair for each closure, in their order, which may overlap.
+    Lanes without any are left out."""
     found: defaultdict[Place, list[Times]] = defaultdict(list)
     for one in closures:
         if mapping.links[one.link].cells - 1 - one.last < BEHIND:
@@ -80,8 +81,8 @@ def lanes_of(mapping: Map, added: bool) -> dict[Way, set[Place]]:
 
 
 def lost_ways(ended: Mapping[Place, Sequence[Times]], mapping: Map) -> dict[Way, list[Times]]:
-    """By movement the (first, last) seconds in which all its lanes are closed at their end; ended: as closed_ends gives
-    it. Edges that are closed on all lanes are left out."""
+    """By movement the (first, last) seconds, from first to before last, in which all its lanes are closed at their end;
+    ended: as closed_ends gives it. Edges that are closed on all lanes are left out."""
     found = {}
     for way, lanes in lanes_of(mapping, False).items():
         links = mapping.links_of[way[0]]
@@ -93,7 +94,7 @@ def lost_ways(ended: Mapping[Place, Sequence[Times]], mapping: Map) -> dict[Way,
 
 
 def in_common(times: Iterable[Sequence[Times]]) -> Iterator[Times]:
-    """The (first, last) seconds that lie in one of the times of each list."""
+    """The (first, last) seconds, from first to before last, that lie in one of the times of each list."""
     for together in product(*times):
         first, last = max(first for first, _ in together), min(last for _, last in together)
         if first < last:

@@ -109,8 +109,8 @@ def line_of(name: str, site: Site) -> Line:
 
 
 def shut_links(sites: list[Site], mapping: Map) -> dict[int, list[tuple[int, int]]]:
-    """The (first, last) seconds in which all lanes of a link are closed at one place, by link; links that are not
-    closed on all lanes are left out."""
+    """The (first, last) seconds, from first to before last, in which all lanes of a link are closed at one place, by
+    link; links that are not closed on all lanes are left out."""
     on_lane = defaultdict(list)
     for site in sites:
         on_lane[site.link, site.lane].append(site)
