@@ -37,7 +37,8 @@ class Phase:
 
     @property
     def is_extended(self) -> bool:
-        """Whether detectors decide how long it lasts."""
+        """Whether it may last longer than its least: it is green, and its most is above that. Its detectors decide, and
+        buses that call; with no detectors, and no bus, it ends at its least."""
         return self.is_green and self.least < self.most
 
     @property

@@ -48,8 +48,8 @@ def naming_nothing(words: Sequence[str]) -> str | None:
 
 
 def within(least: int, most: int) -> Callable[[str], int]:
-    """A conversion for argparse that takes whole numbers from least to most, both included; ArgumentTypeError
-    otherwise."""
+    """A conversion for argparse that takes whole numbers from least to most, both included, written in digits alone;
+    ArgumentTypeError otherwise. least: 0 or more, as no sign is taken."""
 
     def number(text: str) -> int:
         """The number that a text writes; ArgumentTypeError where it is no whole number of the range."""

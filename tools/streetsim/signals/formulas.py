@@ -174,8 +174,9 @@ def at_cycle(
     lights: Mapping[str, Light], plan: Plan, cycle: int | None, loads: Mapping[str, Sequence[float]] | None = None
 ) -> Plan:
     """The plan at a cycle in seconds (None: each light keeps its own): greens in proportion to the loads of their
-    phases (None: to the given greens). A light whose bounds do not allow the loads is scaled by its given greens; one
-    that cannot have the cycle keeps its timing."""
+    phases (None: to the given greens); offsets keep their part of the cycle. A light whose bounds do not allow the
+    loads is scaled by its given greens; one that cannot have the cycle keeps its timing. loads: by light, of each of
+    its phases, vehicles an hour and lane as Streets has them; less than 1 counts as 1, so they must be no shares."""
     made = {}
     for name, timing in plan.items():
         shares = [max(1.0, load) for load in loads[name]] if loads else None
