@@ -30,7 +30,8 @@ def half_folder(inside: str | os.PathLike[str]) -> Iterator[str]:
 @contextlib.contextmanager
 def half_file(path: str) -> Iterator[str]:
     """The path of a new hidden file to write beside `path`; it is removed when the block ends, unless it was renamed.
-    First those that killed tools left there are removed."""
+    First those that killed tools left there are removed. A second one of a process for the same path begins only when
+    the first has ended, so one within the other never does."""
     folder, name = os.path.split(path)
     stem, dot, end = name.partition(".")
     remove_left(os.path.join(glob.escape(folder), f".{glob.escape(stem)}.*.half{glob.escape(dot + end)}"))
@@ -55,8 +56,10 @@ def new_file(path: str) -> str:
 
 
 def hold_new(make: Callable[[], str]) -> tuple[str, int]:
-    """(path of what `make` makes, descriptor by which a lock on it is held, for the caller to close). Made anew where
-    another tool has just removed it, as it was not locked yet. OSError where it cannot be opened."""
+    """(path of the file or folder that `make` makes, descriptor by which a lock on it is held, for the caller to
+    close); no lock is held where its file system has none. Made anew where another tool has just removed it, as it was
+    not locked yet; and, without a pause or an end, as long as another descriptor has the lock, of this process too.
+    OSError where it cannot be opened."""
     while True:
         path = make()
         with contextlib.suppress(FileNotFoundError):

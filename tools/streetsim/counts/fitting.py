@@ -39,7 +39,9 @@ def deviations(counted: Array, error: float) -> Array:
 
 def solved(problem: Problem) -> Array:
     """The vehicles of each column, 0 at least, as an array, for which the sum of squares is least: of what the counts
-    differ by over their deviations, and of what the vehicles differ by from those expected over the root of these."""
+    differ by over their deviations (above 0), and of what the vehicles differ by from those expected over the root of
+    these. Fewer than LEAST that are expected count as LEAST, so that no column is ruled out. After STEPS steps what is
+    found until then is given, and nothing is said."""
     numpy, scipy = needed()
     root = numpy.sqrt(numpy.maximum(problem.expected, LEAST))
     scaled = scipy.sparse.diags(1 / problem.deviation) @ problem.passing @ scipy.sparse.diags(root)

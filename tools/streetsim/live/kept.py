@@ -26,8 +26,10 @@ class KeptEngine(Engine):
     program that keeps nothing; when all lines of the file are done, the program that keeps goes on from there."""
 
     def __init__(self, program: str, lines: list[bytes], file: Path, start: int) -> None:
-        """lines: the run's own, each with its LF; file: of the session, made where it is not there; start: the run's
-        first clock. Fault where the file is one of another run, in use, or cannot be read."""
+        """lines: the run's own, each with its LF; file: of the session, which begin has made where it is not there;
+        start: the run's first clock. Opens FILE.page, which stays locked until close, deletes FILE.new, and waits up to
+        PATIENCE seconds for a program that still has the file. Fault where the file is one of another run, another
+        bridge has it, or a program after that wait, and where it or FILE.page cannot be read or written."""
         super().__init__(program, lines)
         self.file, self.start = file, start
         self.making, self.beside = Path(f"{file}.new"), Path(f"{file}.page")

@@ -22,7 +22,7 @@ SLOWER = 0.9  # by which the share of those who change falls from iteration to i
 TRUST = 1.3  # where the gap is above so many times the least, routes are taken back
 LEAST_SHARE = 0.01
 OWN_SEED = 0.5  # a search ends at this part of the gap asked for, since by its own seeds the gap is too good
-STILL = 5  # iterations without a smaller gap, of which is warned
+STILL = 5  # iterations since the best one, of which is warned
 
 
 @dataclass(frozen=True, slots=True)
@@ -241,7 +241,8 @@ class Search:
 
 
 def is_still(search: Search) -> bool:
-    """Whether the gap has not fallen for STILL iterations or more."""
+    """Whether the best iteration is STILL or more before the last one. The best is not by the gap alone: more trips
+    arrive in it, or as many with a smaller gap (Best); of equal ones it is the last. False before any iteration."""
     return bool(search.iterations) and search.iterations[-1].number - search.best.number >= STILL
 
 

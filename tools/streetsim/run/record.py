@@ -179,8 +179,10 @@ class Recorder(Desk):
         return [reply for reply in replies if isinstance(reply, Vehicle)]
 
     def rescue(self, clock: int, lanes: Mapping[Place, Lane]) -> None:
-        """Takes out each vehicle that has stood at a stop line, or first in a buffer, for settings.rescue seconds, and
-        enters it anew on the rest of its plan; one on its last link stays. lanes: the replies of all lanes."""
+        """Takes out each vehicle that stands at a stop line, or is first in a buffer, for settings.rescue seconds, more
+        than 0, and enters it anew on the rest of its plan; one on its last link stays. The seconds count, at a stop
+        line, from the first of the calls in a row that showed it there; in a buffer from the clock from which it may go
+        on, those behind others among them. lanes: the replies of all lanes."""
         standing_now: dict[tuple[int, int], int] = {}
         for (link, _), reply in lanes.items():
             if reply.buffer:

@@ -145,7 +145,8 @@ class Simulation(Domain, SimulationCalls[Session]):
 
     def convertRoad(self, x: float, y: float, isGeo: bool = False, vClass: str = "ignoring") -> tuple[str, float, int]:
         """(edge, metres from its begin, index of the lane) of the place on any lane that is nearest to a point (x, y)
-        in metres. NotHere for degrees (isGeo); vClass has no effect."""
+        in metres. The metres are along the lane's shape, and not brought to its length where that is another one, as
+        those of convert2D are. NotHere for degrees (isGeo); vClass has no effect."""
         if isGeo:
             raise NotHere("simulation.convertRoad: degrees are not here")
         session = self.now()
