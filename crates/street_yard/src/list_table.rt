@@ -2,9 +2,10 @@
 //!
 //! A lane has three lists with three numbers in a row: its cells, its buffer, and those who wait. So the remainder of a list's
 //! number by 3 tells of which kind it is.
-ghost use Rattle.std.specs.Prelude.{◌≡◌, ◌^◌, ◌<◌, length, map, replicate, IfOk, slice_index_or, slice_set};
+ghost use Rattle.std.specs.Prelude.{◌≡◌, ◌^◌, ◌<◌, ◌≤◌, ◌/◌, length, map, replicate, IfOk, slice_index_or, slice_set};
 
 use crate::hot::Neighbour;
+use crate::names::ListKind;
 use std::alloc::{AllocError, Global};
 use std::marker::Model;
 
@@ -47,7 +48,7 @@ impl Model for ListTable {
 }
 
 impl ListTable {
-    ghost use Rattle.street_yard.specs.Prelude.{no_row, thirds};
+    ghost use Rattle.street_yard.specs.Prelude.{no_row, thirds, class_of, has_keys, IsFirst};
 
     /// The table of so many lists, none of which has a key.
     ///
@@ -95,6 +96,21 @@ impl ListTable {
         ensures { result ≡ (slice_index_or self.now list no_row).count }
     {
         self.rests[list].count
+    }
+
+    /// The first lane, from `lane` on, whose list of this kind has a key; the count of lanes where none has.
+    pub(crate) fn next_filled(&self, kind: ListKind, lane: usize) -> usize
+        requires { lane ≤ length self.now / 3 }
+        ensures { IsFirst (has_keys self.now (class_of kind)) lane (length self.now / 3) result }
+    {
+        let class = kind.class();
+        let lanes = self.rests.len() / 3;
+        for next in lane..lanes {
+            if self.count(3 * next + class) != 0 {
+                return next;
+            }
+        }
+        lanes
     }
 
     /// How many keys are on lists 0, 3, 6 .. together, on lists 1, 4, 7 .., and on lists 2, 5, 8 ..
