@@ -1,7 +1,7 @@
 use Rattle.std.proofs.Common.{subst}
 use Rattle.street_yard.specs.Prelude.{class_of, IsWhole}
 use Rattle.street_yard.proofs.Fields.{IsWhole-seen}
-use Rattle.street_yard.proofs.Filled.{class-few, next-seen, lanes-within}
+use Rattle.street_yard.proofs.NextFilled.{class-few, next-seen, lanes-within}
 use Rattle.street_yard.proofs.yard.Yard.next_filled.Goals as goal
 
 pub next_filled-requires : goal.next_filled-requires
