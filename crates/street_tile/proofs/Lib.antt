@@ -1,4 +1,5 @@
 pub mod SameLanes
+mod Gaps
 pub mod Each
 pub mod Rows
 pub mod Crossings
