@@ -7,8 +7,10 @@ pub mod OwnLanes
 mod Pairs
 mod TileChanges
 mod TileMotion
+mod DrivenLanes
 mod TileReleases
 mod HeldMouths
+mod ShownLanes
 mod Slots
 pub mod LaneOwners
 pub mod PublishedView
