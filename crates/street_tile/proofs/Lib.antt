@@ -8,6 +8,7 @@ mod Pairs
 mod TileChanges
 mod TileMotion
 mod DrivenLanes
+mod DepartedLanes
 mod TileReleases
 mod HeldMouths
 mod ShownLanes
