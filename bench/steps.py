@@ -6,7 +6,8 @@ Usage: bench/steps.py PROGRAM [--workers N,N..] [--beside OTHER] [--only WORD] [
 Sessions: a ring of 100 one-lane links of 1,000 cells, filled to a density; \
 a grid of 32 by 32 nodes with signals and two-lane
 links of 100 cells, on which vehicles drive through 20 links; \
-4,096 two-lane links of 1,000,000 cells with 10,000 vehicles.
+4,096 two-lane links of 1,000,000 cells with 10,000 vehicles; \
+a star of 200 two-lane links of 100 cells into one node and 200 out of it, with 10,000 vehicles.
 OTHER is another program for the same lines and the option --calls. \
 All take turns, advance by advance, and their replies must
 be the same, byte for byte. Times are those of the clock on the wall, so that workers on threads count; \
@@ -107,6 +108,30 @@ def sparse(vehicles):
     return lines + [line(cmd="advance", steps=200)], [200] * 10
 
 
+def star(vehicles, arms=200):
+    """Links from as many nodes as arms to one node, and back to each: vehicles drive in and out."""
+    draws, inward = random.Random(1), range(arms)
+    ends = [[at, 1 + at, 0] for at in inward] + [[arms + at, 0, 1 + at] for at in inward]
+    onward = {at: [arms + (at + ahead) % arms for ahead in (1, 7, 50)] for at in inward}
+    onward |= {arms + at: [at] for at in inward}
+    turns = [[at, lane, then, lane] for at, after in onward.items() for then in after for lane in (0, 1)]
+    lines = [
+        load(
+            [[at, 1, 4] for at in range(arms + 1)],
+            [[*link, 2, 100, 5] for link in ends],
+            turns,
+            zone=20,
+            change=800,
+        )
+    ]
+    for _ in range(vehicles):
+        plan = [draws.randrange(arms)]
+        while len(plan) < 40:
+            plan.append(draws.choice(onward[plan[-1]]))
+        lines.append(line(cmd="enter", plan=plan, lane=draws.randrange(2), depart=draws.randrange(200)))
+    return lines + [line(cmd="advance", steps=200)], [50] * 10
+
+
 SESSIONS = {
     "ring 0.1": lambda: ring(0.1),
     "ring 0.3": lambda: ring(0.3),
@@ -114,6 +139,7 @@ SESSIONS = {
     "grid 100000": lambda: grid(100_000),
     "grid 400000": lambda: grid(400_000, advances=8),
     "sparse 10000": lambda: sparse(10_000),
+    "star 10000": lambda: star(10_000),
 }
 
 

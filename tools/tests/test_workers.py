@@ -1,6 +1,7 @@
 """Steps shared by threads: with more vehicles in cells than a step of one thread has, the replies have equal bytes for
 each number of workers, and threads beside the first are seen at work: those that stay where a session is served, and
-those that are started for each part of a step where its tape is replayed."""
+those that are started for each part of a step where its tape is replayed. On one processor the replies are the same by
+one thread, and on two a replay by 64 workers has a few threads at once."""
 import json
 import os
 import subprocess
@@ -96,12 +97,12 @@ def session_of_town():
 
 
 class Watch(threading.Thread):
-    """Looks again and again at the threads of a process; `seen` are those that had time on a processor,
-    but for the first one."""
+    """Looks again and again at the threads of a process, but for the first one: `seen` are those that had time on a
+    processor, `most` is how many there were at once."""
 
     def __init__(self, process):
         super().__init__()
-        self.process, self.seen = process, set()
+        self.process, self.seen, self.most = process, set(), 0
 
     def run(self):
         while self.process.poll() is None:
@@ -109,7 +110,9 @@ class Watch(threading.Thread):
             time.sleep(0.0005)
 
     def look(self):
-        for task in Path(f"/proc/{self.process.pid}/task").glob("*/schedstat"):
+        tasks = list(Path(f"/proc/{self.process.pid}/task").glob("*/schedstat"))
+        self.most = max(self.most, len(tasks) - 1)
+        for task in tasks:
             try:
                 nanoseconds = int(task.read_text().split()[0])
             except (OSError, IndexError):
@@ -125,37 +128,52 @@ def lines_of(commands):
 
 @needs_simulator
 class Workers(Case):
-    def run_watched(self, words, lines=b""):
-        """What the program writes, and how many threads were seen at work beside the first."""
-        with subprocess.Popen([PROGRAM, *words], stdin=subprocess.PIPE, stdout=subprocess.PIPE) as process:
+    def run_watched(self, words, lines=b"", before=()):
+        """What the program writes, and who watched its threads. `before` are words that the program is started by."""
+        words = [*before, PROGRAM, *words]
+        with subprocess.Popen(words, stdin=subprocess.PIPE, stdout=subprocess.PIPE) as process:
             watch = Watch(process)
             watch.start()
             replies, _ = process.communicate(lines, timeout=SECONDS)
             watch.join()
         self.assertEqual(process.returncode, 0)
-        return replies, len(watch.seen)
+        return replies, watch
 
     def check_shared(self, words, wanted, lines=b""):
         """With several workers it writes what is wanted, on several threads where there are processors for them."""
         for workers in (2, 4, 64):
             with self.subTest(workers=workers):
-                told, threads = self.run_watched(["--workers", str(workers), *words], lines)
-                self.assertEqual(threads > 0, len(os.sched_getaffinity(0)) > 1)
+                told, watch = self.run_watched(["--workers", str(workers), *words], lines)
+                self.assertEqual(len(watch.seen) > 0, len(os.sched_getaffinity(0)) > 1)
                 self.assertEqual(told, wanted)
+
+    def check_few(self, words, wanted, lines=b""):
+        """With 64 workers on one processor it writes what is wanted by one thread, and by a few on two processors.
+        There a replay has eight parts, and so seven threads more at once, and some that have just ended."""
+        for processors, most in ((1, 0), (2, 16)):
+            with self.subTest(processors=processors):
+                some = ",".join(map(str, sorted(os.sched_getaffinity(0))[:processors]))
+                before = ["taskset", "--cpu-list", some]
+                told, watch = self.run_watched(["--workers", "64", *words], lines, before)
+                self.assertEqual(told, wanted)
+                self.assertLessEqual(watch.most, most)
 
     def test_equal_bytes_and_more_than_one_thread(self):
         commands, tape = list(session_of_town()), self.folder / "town.tape"
         lines, words = lines_of(commands), ["--calls", "200000"]
-        alone, threads = self.run_watched([*words, "--tape", tape], lines)
-        self.assertEqual(threads, 0)
+        alone, watch = self.run_watched([*words, "--tape", tape], lines)
+        self.assertEqual(watch.most, 0)
         replies = [json.loads(line) for line in alone.splitlines()]
         self.assertEqual(len(replies), len(commands))
         self.assertEqual([reply for reply in replies if "error" in reply], [])
         counts = [reply["cells"] for reply in replies if "admitted" in reply]
         self.assertGreater(min(counts), max(SHARED_FROM, REPLAY_SHARED_FROM))
         self.check_shared(words, alone, lines)
+        self.check_few(words, alone, lines)
         # The session ends with a count, and a replay counts once more.
-        self.check_shared(["--replay", tape], alone + alone.splitlines(keepends=True)[-1])
+        counted = alone + alone.splitlines(keepends=True)[-1]
+        self.check_shared(["--replay", tape], counted)
+        self.check_few(["--replay", tape], counted)
 
 
 if __name__ == "__main__":

@@ -10,11 +10,11 @@ use Rattle.street_gap.specs.Prelude.{IsWithin}
 use Rattle.street_yard.specs.declared.names.Key.{Key}
 use Rattle.street_yard.specs.Prelude.{Yard, list_at, first_or, Away, IsWhole, IsLane}
 use Rattle.street_yard.proofs.YardLemmas.{no_head}
-use Rattle.street_lanes.specs.Prelude.{queued_of, IsLaneOf, cells_list, buffer_list, waiting_list, lane_seen, SameList, Touches, changed_lane, ChangesLanes}
+use Rattle.street_lanes.specs.Prelude.{queued_of, IsDeserted, IsLaneOf, cells_list, buffer_list, waiting_list, lane_seen, SameList, Touches, changed_lane, ChangesLanes}
 use Rattle.street_lanes.proofs.Cars.{cars-kept}
 use Rattle.street_lanes.proofs.Parts.{lane-parts, touch-same}
 use Rattle.street_lanes.proofs.Loose.{loose-changed}
-use Rattle.street_lanes.proofs.Nobody.{IsDeserted, changed_cells-deserted}
+use Rattle.street_lanes.proofs.Nobody.{changed_cells-deserted}
 use Rattle.street_lanes.proofs.Front.{nobody-listed}
 
 -- a list without a front has no key

@@ -18,12 +18,12 @@ use Rattle.street_yard.proofs.FallingLists.{IsLane-agree, cells-agree, cells-len
 use Rattle.street_rule.specs.declared.watch.Watch.{Watch}
 use Rattle.street_rule.specs.declared.motion.Leaver.{Leaver}
 use Rattle.street_rule.proofs.Others.{other-same, other-cars}
-use Rattle.street_lanes.specs.Prelude.{queued_of, IsLaneOf, cells_list, buffer_list, waiting_list, cars_on, lane_seen, AreShort, NoneLoose, NoneLooseBut, SameList, Touches, IsStepOf, is_open_to, cells_on, IsFarFrom, IsToldExit, behind_all, Settles, MovesLane}
+use Rattle.street_lanes.specs.Prelude.{queued_of, IsDeserted, IsLaneOf, cells_list, buffer_list, waiting_list, cars_on, lane_seen, AreShort, NoneLoose, NoneLooseBut, SameList, Touches, IsStepOf, is_open_to, cells_on, IsFarFrom, IsToldExit, behind_all, Settles, MovesLane}
 use Rattle.street_lanes.proofs.Cars.{cars-kept, cars-length, car_there}
 use Rattle.street_lanes.proofs.Touches.{SameList-trans, touch-trans, touch-wider}
 use Rattle.street_lanes.proofs.Parts.{lane-parts, touch-same}
 use Rattle.street_lanes.proofs.Loose.{loose-moved}
-use Rattle.street_lanes.proofs.Nobody.{IsDeserted, motion-deserted, leaver-deserted, watched-deserted}
+use Rattle.street_lanes.proofs.Nobody.{motion-deserted, leaver-deserted, watched-deserted}
 use Rattle.street_lanes.proofs.Far.{IsFar, moved-far, HasMoved-alike}
 use Rattle.street_lanes.proofs.Front.{nobody-listed, front-here, front-is}
 use Rattle.street_lanes.proofs.Exits.{exit-is, drive-is}

@@ -15,7 +15,8 @@ use std::alloc::Global;
 use std::io::Read;
 use street_base::{MOST_READS, Reply};
 use street_stream::{
-    Answer, Cause, Counted, FaultKind, Halt, LineHandler, OpenText, PartialLine, whole_lines,
+    Answer, Cause, Counted, FaultKind, Halt, LineHandler, OpenText, PartialLine, READ_SIZE,
+    whole_lines,
 };
 use street_text::{LONGEST_LINE, LineFault, LineReader};
 
@@ -202,7 +203,7 @@ pub fn run_again<S: Service, R: Read>(
 {
     let mut lines = LineReader::new(alloc);
     let mut text = OpenText::new(alloc, LONGEST_LINE);
-    let mut buffer = [0u8; 4096];
+    let mut buffer = [0u8; READ_SIZE];
     let mut again = Again { lines: 0, bytes: 0 };
     let mut total = 0u64;
     for _ in 0..MOST_READS {

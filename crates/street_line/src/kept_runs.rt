@@ -14,7 +14,7 @@ use crate::service::Service;
 use std::alloc::Global;
 use std::io::{Read, Write};
 use street_base::MOST_READS;
-use street_stream::{Counted, FaultKind, KeepFault, Log, OpenText, keep_first};
+use street_stream::{Counted, FaultKind, KeepFault, Log, OpenText, READ_SIZE, keep_first};
 use street_text::{LONGEST_LINE, LineReader};
 
 /// Why a session that is kept ended before its text did.
@@ -143,7 +143,7 @@ pub fn run_kept<S: Service, R: Read, L: Log, W: Write>(
 {
     let mut lines = LineReader::new(alloc);
     let mut text = OpenText::new(alloc, LONGEST_LINE);
-    let mut buffer = [0u8; 4096];
+    let mut buffer = [0u8; READ_SIZE];
     for _ in 0..MOST_READS {
         let count = match reader.read_behind(writer, &mut buffer) {
             Ok(count) => count,

@@ -14,18 +14,19 @@ ghost use Rattle.street_runs.specs.Scripts.{AreOpened, ArePassesFrom, ArePlayed,
 ghost use Rattle.street_runs.specs.Words.{IsInRange};
 ghost use Rattle.street_stream.specs.Streams.{HasFailed, IsFlushed, IsFresh, IsPrompt};
 
+use crate::engines::staying_engine;
 use crate::outputs::{STANDARD_INPUT, STANDARD_OUTPUT, keep_tape, pass_on, write_out};
 use crate::{Fault, Options};
 use std::alloc::Global;
 use std::fs::File;
+use std::io;
 use std::io::{BufWriter, Read, Write};
 use std::rt::Files;
 use std::sync::Wait;
 use std::thread::Threads;
-use std::{io, thread};
 use street_base::Starved;
 use street_desk::{Desk, Pass};
-use street_engine::{Engine, Unwatched};
+use street_engine::Unwatched;
 use street_line::{Counted, DeskSession, RunFault, Script, Tally, run_alone, run_scripts};
 
 /// Serves standard input as one session, writes each reply as it comes, and at the end the tape, if one is asked for.
@@ -87,20 +88,12 @@ fn serve_alone<R: Threads + Wait + Sync, D: Read, W: Write>(
     ensures desk { IfOk result (λ r. (r.1.calls ≡ calls) × (r.2.desk ≡ r.1) × IsAlone r.2) }
     ensures starved { OnErr result ((reader.new ≡ reader.old) × (writer.new ≡ writer.old)) }
 {
-    let engine = Engine::new(alloc, workers, Unwatched::staying(processors(rt)));
+    let engine = staying_engine(rt, alloc, workers);
     let (desk, pass) = Desk::start(alloc, engine, calls, 1)?;
     let mut session = DeskSession::new(rt, &desk, pass);
     let run = run_alone(alloc, &mut session, reader, writer);
     let pass = session.into_pass();
     Ok((run, desk, pass))
-}
-
-/// How many threads may run at once: one where the system does not tell.
-pub(crate) fn processors<R: Threads>(rt: &R) -> usize {
-    match thread::available_parallelism(rt) {
-        Ok(count) => count.get(),
-        Err(_) => 1,
-    }
 }
 
 /// Serves each script as a session with a thread of its own. When all have ended, their replies are written in the order of
@@ -153,7 +146,7 @@ fn serve_named<'a, R: Threads + Wait + Sync + Files<File = File>, W: Write>(
         writer.new r.0 r.2) }
     ensures starved { OnErr result (writer.new ≡ writer.old) }
 {
-    let engine = Engine::new(alloc, workers, Unwatched::staying(processors(rt)));
+    let engine = staying_engine(rt, alloc, workers);
     let (desk, pass) = Desk::start(alloc, engine, calls, names.len() as u64)?;
     let (served, pass) = serve_at(rt, alloc, &desk, pass, names, writer)?;
     Ok((served, desk, pass))

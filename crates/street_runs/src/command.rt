@@ -61,7 +61,7 @@ fn arguments<'a>(alloc: Global) -> Result<Vec<Arg<'a>>, AllocError>
             alloc,
             "workers",
             "N",
-            "Threads that share each step, 1 to 64; the replies are the same for every number. \
+            "Threads that share each step, 1 to 64, and at most 4 a processor; the replies are the same for every number. \
              Steps with fewer than 1500 vehicles in cells (of a replay 30000) are made by one thread [default: 1]",
         ),
         option(

@@ -8,7 +8,7 @@ ghost use Rattle.street_stream.specs.Faults.{IsCaused};
 ghost use Rattle.street_stream.specs.Streams.{IsFlushed, IsFresh, IsPrompt};
 
 use crate::Fault;
-use crate::clients::processors;
+use crate::engines::staying_engine;
 use crate::outputs::{STANDARD_INPUT, STANDARD_OUTPUT};
 use std::alloc::Global;
 use std::io;
@@ -95,7 +95,6 @@ fn serve_by_team<R: Threads + Wait + Sync, D: Read, W: Write>(
     ensures prompt { IsPrompt reader.new }
     ensures flushed { OnOk result (IsFlushed writer.new) }
 {
-    let engine = Engine::new(alloc, workers, Unwatched::staying(processors(rt)));
-    let mut session = TeamSession::new(rt, engine);
+    let mut session = TeamSession::new(rt, staying_engine(rt, alloc, workers));
     run_team(alloc, &mut session, reader, writer)
 }

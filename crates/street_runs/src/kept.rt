@@ -6,7 +6,7 @@ ghost use Rattle.street_runs.specs.Faults.{IsFileFault, IsKeptFault, again_fault
 ghost use Rattle.street_runs.specs.Words.{IsInRange};
 ghost use Rattle.street_runs.specs.declared.fault.Fault.TheVariants.{Write};
 
-use crate::clients::processors;
+use crate::engines::staying_engine;
 use crate::log_file::LogFile;
 use crate::outputs::{STANDARD_INPUT, STANDARD_OUTPUT, of_file};
 use crate::{Fault, Options};
@@ -40,8 +40,7 @@ pub fn serve_kept<
         let mut session = EngineSession::new(rt, Engine::new(alloc, 1, Unwatched::new()));
         return serve_in(rt, &mut session, name, syncs);
     }
-    let engine = Engine::new(alloc, options.workers, Unwatched::staying(processors(rt)));
-    let mut session = TeamSession::new(rt, engine);
+    let mut session = TeamSession::new(rt, staying_engine(rt, alloc, options.workers));
     serve_in(rt, &mut session, name, syncs)
 }
 

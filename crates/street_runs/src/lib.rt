@@ -10,6 +10,7 @@ mod clients;
 mod command;
 mod command_line;
 mod endless;
+mod engines;
 mod fault;
 mod kept;
 mod laws;

@@ -12,6 +12,7 @@ ghost use Rattle.street_tape.specs.Faults.{IsTapeCaused};
 ghost use Rattle.street_text.specs.ReplyLines.{reply_line};
 
 use crate::Fault;
+use crate::engines::started_engine;
 use crate::outputs::{STANDARD_OUTPUT, open_file, print_text};
 use std::alloc::Global;
 use std::fs::File;
@@ -20,7 +21,6 @@ use std::io::{Read, Write};
 use std::rt::Files;
 use std::thread::Threads;
 use street_base::{Command, Reply};
-use street_engine::{Engine, Unwatched};
 use street_line::{Counted, FaultKind, RunFault, reply_text};
 use street_tape::{TapeFault, replay, upgrade};
 
@@ -66,7 +66,7 @@ fn replay_and_count<R: Threads + Sync, D: Read, W: Write>(
     ensures prompt { IsPrompt reader.new }
     ensures flushed { OnOk result (IsFlushed writer.new) }
 {
-    let mut engine = Engine::new(alloc, workers, Unwatched::new());
+    let mut engine = started_engine(rt, alloc, workers);
     let tally = match replay(rt, alloc, reader, &mut engine, writer) {
         Ok(tally) => tally,
         Err(fault) => return Err(fault),

@@ -12,7 +12,7 @@ use thiserror::Error;
 /// What the words ask for. Files are named as in the words.
 #[derive(Debug, PartialEq, Eq, Drop)]
 pub struct Options<'a> {
-    /// At most how many workers share each step, 1 to 64.
+    /// At most how many workers share each step, 1 to 64, where there are processors for them.
     pub workers: u32,
     /// How many calls there is a place for, 1 to 1,000,000.
     pub calls: u64,

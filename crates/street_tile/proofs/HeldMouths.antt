@@ -43,10 +43,10 @@ module _ (net : NetSpec) (roads : IsRoads net) (ps : List Place) (there : AllLan
   two-of : (p : Place) → IsLane net p → p.lane < 2
   two-of p h = let b = h.1 in let two = roads.two p.link in omega arith
 
-  other-mouth : (now : List Bool) (p q : Place) (b : Bool) → IsLane net p → IsLane net q → is_place p q ≡ false → mouth (set now (slot_of p) b) q ≡ mouth now q
+  pub other-mouth : (now : List Bool) (p q : Place) (b : Bool) → IsLane net p → IsLane net q → is_place p q ≡ false → mouth (set now (slot_of p) b) q ≡ mouth now q
   other-mouth now p q b h k other = get_or-set_other now (slot_of p) (slot_of q) b false (slot-apart p q (two-of p h) (two-of q k) other)
 
-  same-mouth : (now : List Bool) (p : Place) (b : Bool) → length now ≡ 2 * length net.links → IsLane net p → mouth (set now (slot_of p) b) p ≡ b
+  pub same-mouth : (now : List Bool) (p : Place) (b : Bool) → length now ≡ 2 * length net.links → IsLane net p → mouth (set now (slot_of p) b) p ≡ b
   same-mouth now p b wide h = get_or-set_same now (slot_of p) b false (let a = h.0 in let c = two-of p h in omega arith)
 
   pub shown-start : length old ≡ 2 * length net.links → IsShown 0 old

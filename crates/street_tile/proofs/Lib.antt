@@ -1,4 +1,5 @@
 pub mod SameLanes
+mod Gaps
 pub mod Each
 pub mod Rows
 pub mod Crossings
@@ -6,8 +7,11 @@ pub mod OwnLanes
 mod Pairs
 mod TileChanges
 mod TileMotion
+mod DrivenLanes
+mod DepartedLanes
 mod TileReleases
 mod HeldMouths
+mod ShownLanes
 mod Slots
 pub mod LaneOwners
 pub mod PublishedView

@@ -3,10 +3,12 @@ use Rattle.std.proofs.Common.{◌≡◌, ℕ, suc, ◌+◌, ◌<◌, ◌≤◌, 
 use Rattle.std.proofs.lemmas.Bool.{cases_eq}
 use Rattle.street_base.specs.declared.net.NetSpec.{NetSpec}
 use Rattle.street_base.specs.declared.names.Place.{Place}
-use Rattle.street_base.specs.Prelude.{link_at, Traffic, LaneState, no_lane, lane_at, Changing, changed_cells, changed, changing_on, changed_lanes, with_cells}
-use Rattle.street_lanes.specs.Prelude.{LaneView, LaneStands, Lanes, IsLane, Same, lane_of, place_at, IsOn, LanesStand}
+use Rattle.street_base.specs.Prelude.{link_at, Traffic, LaneState, no_lane, lane_at, Changing, changed_cells, changed, changing_on, changed_lanes, with_cells, Cells, Track}
+use Rattle.street_lanes.specs.Prelude.{LaneView, LaneStands, Lanes, IsLane, Same, lane_of, place_at, IsOn, LanesStand, IsDeserted, HasNobodyInCells}
 use Rattle.street_lanes.specs.Lanes.{IsOf}
-use Rattle.street_tile.specs.Prelude.{IsRoads, ArePairs}
+use Rattle.street_lanes.proofs.Nobody.{changed_cells-deserted}
+use Rattle.street_tile.specs.Prelude.{IsRoads, ArePairs, BeginsLink}
+use Rattle.street_tile.proofs.Gaps.{over-gap}
 use Rattle.street_tile.proofs.SameLanes.{same-none, same-then, stands-at, stand-all, there-at}
 use Rattle.street_tile.proofs.Each.{shape, links-long, enumerated-at}
 
@@ -45,6 +47,39 @@ module _ (net : NetSpec) (m : Traffic) (on : IsOn net m) (p : Place) (there : Is
       both changing (a ∷ []) h = absurd (omega arith)
       both changing (a ∷ b ∷ []) h = refl
       both changing (a ∷ b ∷ c ∷ lanes) h = absurd (omega arith)
+
+-- ---- lanes on which nobody stands
+
+deserted-of : (x : LaneView) (s : LaneState) → LaneStands x s → HasNobodyInCells x → IsDeserted s.track.cells
+unfolding LaneStands
+deserted-of x s stands nobody = subst (λ (t : Track). IsDeserted t.cells) stands.track nobody
+
+nobody-changed : (changing : Changing) (lane : ℕ) (own other : LaneState) → IsDeserted own.track.cells → IsDeserted other.track.cells → own ≡ with_cells own (changed_cells changing lane own.track other.track)
+nobody-changed changing lane own other nobody beside = ap (λ (cs : Cells). with_cells own cs) (sym (changed_cells-deserted changing lane own.track other.track nobody beside))
+
+-- ---- where links begin
+
+module _ (net : NetSpec) (roads : IsRoads net) (old : Lanes) (of : IsOf net old) (pairs : ArePairs net old.places) where
+  -- behind a lane that begins no pair no second lane of a link stands
+  not-second : (n : ℕ) → ((place_at old n).lane ≡ 0 → (link_at net (place_at old n).link).lanes ≡ 2 → ⊥) → suc n < length old.places → ((place_at old (suc n)).lane ≡ 0 → ⊥) → ⊥
+  not-second n no_pair l other =
+      let is = pairs.before n l other in
+      let inside = (there-at net old of.own (suc n) l).1 in
+      let le = roads.two (place_at old (suc n)).link in
+      let some : (place_at old (suc n)).lane ≡ 0 → ⊥ = other in
+      let link : (place_at old n).link ≡ (place_at old (suc n)).link = ap (λ (p : Place). p.link) is in
+      let positive : 0 < (place_at old (suc n)).lane = elim (cases_eq (place_at old (suc n)).lane 0) as (λ _. 0 < (place_at old (suc n)).lane) [ inl e ↦ absurd (other e) | inr ne ↦ omega arith ] in
+      let two : (link_at net (place_at old (suc n)).link).lanes ≡ 2 = omega arith in
+      no_pair (ap (λ (p : Place). p.lane) is) (ap (λ (i : ℕ). (link_at net i).lanes) link ∙ two)
+
+  pub begins-next : (n : ℕ) → ((place_at old n).lane ≡ 0 → (link_at net (place_at old n).link).lanes ≡ 2 → ⊥) → BeginsLink old (n + 1)
+  begins-next n no_pair l = elim (cases_eq (place_at old (n + 1)).lane 0) as (λ _. (place_at old (n + 1)).lane ≡ 0) [
+    | inl e ↦ e
+    | inr other ↦ absurd (not-second n no_pair (subst (λ (k : ℕ). k < length old.places) next l) (subst (λ (k : ℕ). (place_at old k).lane ≡ 0 → ⊥) next other))
+  ]
+    where
+      next : n + 1 ≡ suc n
+      next = omega arith
 
 -- ---- lane after lane
 
@@ -85,23 +120,12 @@ module _ (net : NetSpec) (m : Traffic) (on : IsOn net m) (roads : IsRoads net) (
       ])
       | inr other ↦ d.done j (omega arith) l
     ];
-    half = λ l other. absurd (not_second (subst (λ (k : ℕ). k < length old.places) next l) (subst (λ (k : ℕ). (place_at old k).lane ≡ 0 → ⊥) next other));
+    half = λ l other. absurd (not-second net roads old of pairs n no_pair (subst (λ (k : ℕ). k < length old.places) next l) (subst (λ (k : ℕ). (place_at old k).lane ≡ 0 → ⊥) next other));
     rest = λ j above e. d.rest j (omega arith) (λ same. absurd (omega arith));
   }
     where
       next : n + 1 ≡ suc n
       next = omega arith
-
-      not_second : suc n < length old.places → ((place_at old (suc n)).lane ≡ 0 → ⊥) → ⊥
-      not_second l other =
-          let is = pairs.before n l other in
-          let inside = (there (suc n) l).1 in
-          let le = roads.two (place_at old (suc n)).link in
-          let some : (place_at old (suc n)).lane ≡ 0 → ⊥ = other in
-          let link : (place_at old n).link ≡ (place_at old (suc n)).link = ap (λ (p : Place). p.link) is in
-          let positive : 0 < (place_at old (suc n)).lane = elim (cases_eq (place_at old (suc n)).lane 0) as (λ _. 0 < (place_at old (suc n)).lane) [ inl e ↦ absurd (other e) | inr ne ↦ omega arith ] in
-          let two : (link_at net (place_at old (suc n)).link).lanes ≡ 2 = omega arith in
-          no_pair (ap (λ (p : Place). p.lane) is) (ap (λ (i : ℕ). (link_at net i).lanes) link ∙ two)
 
   -- a pair
   pub changed-next : (n : ℕ) (now after : Lanes) → n < length old.places → (place_at old n).lane ≡ 0 → (link_at net (place_at old n).link).lanes ≡ 2 → ChangedTo n now → Same now after
@@ -165,6 +189,36 @@ module _ (net : NetSpec) (m : Traffic) (on : IsOn net m) (roads : IsRoads net) (
       done_second =
           let goes = goes_second (get_or (beside m (place_at old n)) 0 no_lane) (get_or (beside m (place_at old n)) 1 no_lane) (subst (LaneStands (lane_of now n)) a_is a_stands) (subst (LaneStands (lane_of now (n + 1))) b_is b_stands) in
           subst (LaneStands (lane_of after (n + 1))) (sym (at_second ∙ ap (λ (xs : List LaneState). get_or xs 1 no_lane) changed_is)) goes
+
+  -- a lane in whose cells nobody stands, nor on the lane beside it where it begins a pair
+  changed-deserted : (n : ℕ) (now : Lanes) → n < length old.places → HasNobodyInCells (lane_of now n)
+      → ((place_at old n).lane ≡ 0 → (link_at net (place_at old n).link).lanes ≡ 2 → HasNobodyInCells (lane_of now (n + 1))) → ChangedTo n now → ChangedTo (n + 1) now
+  changed-deserted n now h nobody beside_too d = elim (cases_eq (place_at old n).lane 0) as (λ _. ChangedTo (n + 1) now) [
+    | inl first ↦ elim (cases_eq (link_at net (place_at old n).link).lanes 2) as (λ _. ChangedTo (n + 1) now) [
+      | inl two ↦ changed-next n now now h first two d (same-none now)
+          (λ a b x y. subst (LaneStands (lane_of now n)) (nobody-changed (changing_on m (place_at old n).link) 0 a b (deserted-of (lane_of now n) a x nobody) (deserted-of (lane_of now (n + 1)) b y (beside_too first two))) x)
+          (λ a b x y. subst (LaneStands (lane_of now (n + 1))) (nobody-changed (changing_on m (place_at old n).link) 1 b a (deserted-of (lane_of now (n + 1)) b y (beside_too first two)) (deserted-of (lane_of now n) a x nobody)) y)
+          (λ k p q. refl)
+      | inr one ↦ changed-kept n now h (λ _ two. one two) d
+    ]
+    | inr other ↦ changed-kept n now h (λ first _. other first) d
+  ]
+
+  -- the lanes from k on and before j, at which a link begins, with nobody in their cells
+  pub changed-over : (k j : ℕ) (now : Lanes) → k ≤ j → j ≤ length old.places → BeginsLink old j
+      → ((i : ℕ) → k ≤ i → i < j → HasNobodyInCells (lane_of now i)) → ChangedTo k now → ChangedTo j now
+  changed-over k j now le within begins nobody d =
+      over-gap (λ i. ChangedTo i now) k j le (λ i above below before. changed-deserted i now (omega arith) (nobody i above below) (λ first two. nobody (i + 1) (omega arith) (before-end i below first two)) before) d
+    where
+      before-end : (i : ℕ) → i < j → (place_at old i).lane ≡ 0 → (link_at net (place_at old i).link).lanes ≡ 2 → i + 1 < j
+      before-end i below first two = elim (cases_eq (suc i) j) as (λ _. i + 1 < j) [
+        | inl e ↦ absurd (
+            let next = pairs.next i (omega arith) first two in
+            let one : (place_at old (suc i)).lane ≡ 1 = ap (λ (p : Place). p.lane) next.1 in
+            let none : (place_at old (suc i)).lane ≡ 0 = subst (λ (k : ℕ). (place_at old k).lane ≡ 0) (sym e) (begins (subst (λ (k : ℕ). k < length old.places) e next.0)) in
+            omega arith)
+        | inr ne ↦ omega arith
+      ]
 
   pub changed-all : (n : ℕ) (now : Lanes) → ChangedTo n now → length old.places ≤ n → LanesStand now.places now.lanes (changed m)
   changed-all n now d all k p l at is =

@@ -1,11 +1,11 @@
 -- A tile's releases, buffer after buffer.
-use Rattle.std.proofs.Common.{◌≡◌, ℕ, ◌+◌, ◌*◌, ◌<◌, ◌≤◌, Bool, true, false, List, [], ◌∷◌, ◌++◌, length, take, refl, sym, ◌∙◌, ap, subst, arith, Some, None, option_map, slice_get, slice_set, filter_map}
+use Rattle.std.proofs.Common.{◌≡◌, ℕ, ◌+◌, ◌*◌, ◌<◌, ◌≤◌, Bool, true, false, List, [], ◌∷◌, ◌++◌, length, take, refl, sym, ◌∙◌, ap, subst, arith, Some, None, option_map, slice_get, slice_set, filter_map, option_and_then, nat_le, if◌then◌else◌}
 use Rattle.std.proofs.lemmas.List.{take_all, append_assoc, append-nil}
 use Rattle.street_base.specs.declared.net.NetSpec.{NetSpec}
 use Rattle.street_base.specs.declared.names.Place.{Place}
-use Rattle.street_base.specs.Prelude.{Traffic, Queued, lane_at, target, gives}
+use Rattle.street_base.specs.Prelude.{Traffic, Queued, lane_at, target, gives, exit_lane}
 use Rattle.street_net.specs.Prelude.{mouth, slot_of}
-use Rattle.street_lanes.specs.Prelude.{LaneStands, without_front, Lanes, IsLane, AllLanes, GoesAt, lane_of, place_at, LanesStand}
+use Rattle.street_lanes.specs.Prelude.{LaneStands, without_front, Lanes, IsLane, AllLanes, GoesAt, lane_of, place_at, LanesStand, HasEmptyBuffer}
 use Rattle.street_node.specs.Prelude.{AreShut, Crossing}
 use Rattle.street_node.proofs.BufferWalk.{stays}
 use Rattle.street_node.proofs.Mouths.{shut-start, shut-none, shut-before, shut-behind, gives-by}
@@ -13,6 +13,7 @@ use Rattle.street_node.proofs.Crossings.{Leads, leads-of, crossing-goes as cross
 use Rattle.street_tile.specs.Prelude.{Transfer, entry_on, crossing, let_go_lane, let_go, IsRoads, IsReleasing}
 use Rattle.street_tile.proofs.SameLanes.{place-is, LanesDone, lanes-start, lanes-here, lanes-next, lanes-kept, lanes-all}
 use Rattle.street_tile.proofs.Each.{lane_at-each}
+use Rattle.street_tile.proofs.Gaps.{over-gap}
 
 -- ---- who crosses
 
@@ -61,6 +62,14 @@ module _ (net : NetSpec) (roads : IsRoads net) (clock : ℕ) (old : Lanes) (even
     pub released-none : target m from ≡ None → IsReleased (k + 1) now open_now handed_now
     released-none is = released-stays (stays m from is) (shut-none m (IsLane net) old.places k from at open_now d.shut is)
 
+    queue-none : HasEmptyBuffer (lane_of now k) → (lane_at m from).queue ≡ []
+    unfolding LaneStands
+    queue-none none = sym released-here.queue ∙ none
+
+    -- an empty buffer
+    pub released-empty : HasEmptyBuffer (lane_of now k) → IsReleased (k + 1) now open_now handed_now
+    released-empty none = released-none (ap (λ (qs : List Queued). option_and_then (λ (q : Queued). if nat_le q.ready m.clock then exit_lane m from q.vehicle else None) (slice_get qs 0)) (queue-none none))
+
     module _ (to : Place) (is : target m from ≡ Some to) (there : IsLane net to) where
       goes-by-mouth : gives m from ≡ mouth open_now to
       goes-by-mouth = gives-by m (IsLane net) old.places k from at open_now d.shut to is r.walk there
@@ -88,6 +97,12 @@ module _ (net : NetSpec) (roads : IsRoads net) (clock : ℕ) (old : Lanes) (even
                 ∙ append_assoc handed (filter_map (crossing m) (take k old.places)) (entry_on m.network lead.0.vehicle to ∷ [])
                 ∙ sym (ap (λ (es : List Transfer). handed ++ es) (crossings-more (crossing m) old.places k from at ∙ rw (crossing-goes m from to lead.0 lead.1 going) refl));
           }
+
+  -- the buffers from k on and before j, all of them empty
+  pub released-over : (k j : ℕ) (now : Lanes) (open_now : List Bool) (handed_now : List Transfer) → k ≤ j → j ≤ length old.places
+      → ((i : ℕ) → k ≤ i → i < j → HasEmptyBuffer (lane_of now i)) → IsReleased k now open_now handed_now → IsReleased j now open_now handed_now
+  released-over k j now open_now handed_now le within empty d =
+      over-gap (λ i. IsReleased i now open_now handed_now) k j le (λ i above below before. released-empty i now open_now handed_now (omega arith) before (empty i above below)) d
 
   pub released-lanes : AllLanes net old.places → (k : ℕ) (now : Lanes) (open_now : List Bool) (handed_now : List Transfer) → IsReleased k now open_now handed_now → length old.places ≤ k → LanesStand now.places now.lanes (let_go m)
   unfolding let_go

@@ -1,7 +1,7 @@
 -- The names that contracts and proofs cite most, passed on from one place. Declares nothing.
 pub use Rattle.street_tile.specs.Commands.{Does, DoesIf, Finds, FindsAt, Have, HaveAtMostOne, HaveNot, Hold, KeepsAll, WhereOnce, over}
 unfoldable pub use Rattle.street_tile.specs.Commands.{at_place, planned, without}
-pub use Rattle.street_tile.specs.Entries.{EnterAll, EntersAt}
+pub use Rattle.street_tile.specs.Entries.{DepartAll, EnterAll, PlaceAll, PlacesAt}
 pub use Rattle.street_tile.specs.Halves.{Transfer, crossing, entries_to, entry_in, entry_on, let_go_lane, placed_lane, vehicle_in}
 unfoldable pub use Rattle.street_tile.specs.Halves.{let_go, placed}
 pub use Rattle.street_tile.specs.HandOvers.{Awaits, IsMoved, MovesLast, all_handed, all_places, moved_at, received}
@@ -14,7 +14,7 @@ pub use Rattle.street_tile.specs.Steps.{MayStep, Steps}
 pub use Rattle.street_tile.specs.TileDetectors.{AllMetersStand, HaveNoted, HaveWatched, KeepMeters, MetersStand, PlacesMeter, bare, detectors_at}
 pub use Rattle.street_tile.specs.TileDetectors.{detectors_on, no_detectors}
 unfoldable pub use Rattle.street_tile.specs.TileDetectors.{noted_by}
-pub use Rattle.street_tile.specs.Tiles.{AllStand, AreBare, AreDue, AreNumbers, ArePairs, AreTiles, Each, IsBare, IsIdle, IsPrepared, IsRoads, IsShare}
+pub use Rattle.street_tile.specs.Tiles.{AllStand, AreBare, AreDue, AreNumbers, ArePairs, AreTiles, BeginsLink, Each, IsBare, IsIdle, IsPrepared, IsRoads, IsShare}
 pub use Rattle.street_tile.specs.Tiles.{IsStill, IsTileOf, TileView, SameTile, ShowSignals, Shows, ShowsOwn, StandsFor, beside, is_own, lanes_beside}
 pub use Rattle.street_tile.specs.Tiles.{no_network, nobody, nth, own_places, sizes_of}
 pub use Rattle.street_tile.specs.Together.{AreKept, NobodyArrived, OwnsLink, PreparesOne, SameButArrived, TakesArrival, TakesArrivalOf, TileHasNot}

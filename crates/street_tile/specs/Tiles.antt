@@ -10,7 +10,7 @@ use Rattle.street_base.specs.Prelude.{Vehicle, is_free, link_at, node_of, turn, 
 use Rattle.street_base.specs.Limits.{most_nodes, most_links}
 use Rattle.street_base.specs.declared.names.Place.{Place}
 use Rattle.street_net.specs.Prelude.{slot_of, mouth}
-use Rattle.street_lanes.specs.Prelude.{Lanes, Same, no_place, IsOn, LanesStand, PlanStands, cells_on, Detectors}
+use Rattle.street_lanes.specs.Prelude.{Lanes, Same, no_place, place_at, IsOn, LanesStand, PlanStands, cells_on, Detectors}
 use Rattle.street_lanes.specs.Lanes.{IsOf}
 use Rattle.street_meter.specs.Meter.{next_step}
 use Rattle.street_tile.specs.Halves.{Transfer}
@@ -99,6 +99,10 @@ pub record ArePairs (net : NetSpec) (ps : List Place) : Type 0 where
   pub first : 0 < length ps → (nth ps 0).lane ≡ 0
   pub next : (n : ℕ) → n < length ps → (nth ps n).lane ≡ 0 → lanes_beside net (nth ps n) ≡ 2 → (suc n < length ps) × (nth ps (suc n) ≡ beside (nth ps n) 1)
   pub before : (n : ℕ) → suc n < length ps → ((nth ps (suc n)).lane ≡ 0 → ⊥) → nth ps n ≡ beside (nth ps (suc n)) 0
+
+-- at this number, below the count of lanes, the first lane of a link stands
+abbrev pub BeginsLink : Lanes → ℕ → Type 0
+BeginsLink own n = n < length own.places → (place_at own n).lane ≡ 0
 
 -- the tile stands for the machine at its own lanes and nodes, and each vehicle in its arena is on one of its lanes
 pub record StandsFor (x : TileView) (m : Traffic) : Type 0 where

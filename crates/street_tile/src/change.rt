@@ -1,11 +1,12 @@
 //! Lane changes on a tile's own lanes.
 //!
 //! Source: the order of the phases is this profile.
-ghost use Rattle.std.specs.Prelude.{◌≡◌, ◌<◌, ◌≤◌, length, IsTrue, ◌↔◌};
+ghost use Rattle.std.specs.Prelude.{◌≡◌, ℕ, ◌<◌, ◌≤◌, length, IsTrue, ◌↔◌};
+ghost use Rattle.street_base.specs.declared.net.NetSpec.{NetSpec};
 ghost use Rattle.street_base.specs.Prelude.{link_at};
-ghost use Rattle.street_lanes.specs.Prelude.{Same};
+ghost use Rattle.street_lanes.specs.Prelude.{Same, lane_of, HasNobodyInCells};
 ghost use Rattle.street_lanes.specs.Lanes.{IsOf};
-ghost use Rattle.street_tile.specs.Prelude.{IsTileOf, IsRoads, ArePairs, ChangeLanes, LanePhase};
+ghost use Rattle.street_tile.specs.Prelude.{IsTileOf, IsRoads, ArePairs, BeginsLink, ChangeLanes, LanePhase};
 
 use crate::Tile;
 use street_base::{Place, Step};
@@ -20,6 +21,24 @@ fn begins_pair(net: &Network, at: Place) -> bool
     at.lane == 0 && net.lanes_of(at.link) == 2
 }
 
+/// The lane that begins the first link, from the one that begins at own lane `lane` on, on which somebody stands; the count of lanes
+/// where nobody stands on any.
+fn next_link(own: &Lanes, lane: usize) -> usize
+    requires lane { lane ≤ length own.now.lanes }
+    requires begins { BeginsLink own.now lane }
+    requires pairs { (net : NetSpec) × ArePairs net own.now.places }
+    ensures not_before { lane ≤ result }
+    ensures within { result ≤ length own.now.lanes }
+    ensures begins { BeginsLink own.now result }
+    ensures passed { (k : ℕ) → lane ≤ k → k < result → HasNobodyInCells (lane_of own.now k) }
+{
+    let n = own.next_with_cells(lane);
+    if n < own.len() && own.at(n).lane != 0 {
+        return n - 1;
+    }
+    n
+}
+
 /// Lane changes, in the step of this clock, on each link of two lanes among a tile's own lanes.
 fn change_lanes(own: &mut Lanes, net: &Network, clock: Step)
     requires of { IsOf net.now own.old }
@@ -29,10 +48,14 @@ fn change_lanes(own: &mut Lanes, net: &Network, clock: Step)
     ensures room { own.old.room ≤ own.new.room }
     ensures stand { ChangeLanes net.now clock own.old own.new }
 {
-    for n in 0..own.len() {
+    let mut n = next_link(own, 0);
+    while n < own.len() {
+        let mut after = n + 1;
         if begins_pair(net, own.at(n)) {
             own.change(net, n, clock);
+            after = n + 2;
         }
+        n = next_link(own, after);
     }
 }
 

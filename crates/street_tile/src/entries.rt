@@ -3,7 +3,7 @@
 //! Source: this profile.
 ghost use Rattle.std.specs.Prelude.{◌≡◌, ◌+◌, ◌<◌, ◌≤◌, length, None, Option, map};
 ghost use Rattle.street_lanes.specs.Prelude.{Same, Others};
-ghost use Rattle.street_tile.specs.Prelude.{EntersAt, EnterAll, EnterPhase, IsTileOf, IsPrepared};
+ghost use Rattle.street_tile.specs.Prelude.{PlacesAt, PlaceAll, DepartAll, EnterAll, EnterPhase, IsTileOf, IsPrepared};
 
 use crate::Tile;
 use crate::hand_over::{Comers, HandOver};
@@ -11,12 +11,12 @@ use street_base::Step;
 use street_lanes::Lanes;
 use street_net::Network;
 
-/// Who comes to own lane `n` stands in its cell 0, and then who waits first departs, if its depart has come and cell 0 is free.
-fn enter_lane(own: &mut Lanes, n: usize, coming: Option<HandOver>, clock: Step)
+/// Who comes to own lane `n` stands in its cell 0.
+fn place_comer(own: &mut Lanes, n: usize, coming: Option<HandOver>)
     requires lane { n < length own.old.lanes }
     requires room { 1 ≤ own.old.room }
     ensures same { Same own.old own.new }
-    ensures stands { EntersAt clock n coming own.old own.new }
+    ensures stands { PlacesAt n coming own.old own.new }
     ensures others { Others n own.old own.new }
     ensures room { own.old.room ≤ own.new.room + 1 }
 {
@@ -24,7 +24,31 @@ fn enter_lane(own: &mut Lanes, n: usize, coming: Option<HandOver>, clock: Step)
         // Where cell 0 is free, as `stands` asks, nobody is given back.
         let _nobody = own.place(n, hand_over.car);
     }
-    own.depart(n, clock);
+}
+
+/// On each of these lanes who comes to it stands in cell 0. Nobody is coming any more then.
+fn place_comers(own: &mut Lanes, coming: &mut Comers)
+    requires even { length coming.old ≡ length own.old.places }
+    requires room { length own.old.places ≤ own.old.room }
+    ensures same { Same own.old own.new }
+    ensures none { coming.new ≡ map (λ c. None) coming.old }
+    ensures lanes { PlaceAll coming.old own.old own.new }
+{
+    for n in 0..own.len() {
+        place_comer(own, n, coming.take(n));
+    }
+}
+
+/// On each of these lanes who waits first departs, if its depart has come and cell 0 is free.
+fn depart_lanes(own: &mut Lanes, clock: Step)
+    ensures same { Same own.old own.new }
+    ensures lanes { DepartAll clock own.old own.new }
+{
+    let mut n = own.next_with_waiting(0);
+    while n < own.len() {
+        own.depart(n, clock);
+        n = own.next_with_waiting(n + 1);
+    }
 }
 
 /// On each of these lanes who comes to it stands in cell 0, and then who waits first may depart. Nobody is coming any more then.
@@ -35,9 +59,8 @@ fn enter_lanes(own: &mut Lanes, coming: &mut Comers, clock: Step)
     ensures none { coming.new ≡ map (λ c. None) coming.old }
     ensures lanes { EnterAll clock coming.old own.old own.new }
 {
-    for n in 0..own.len() {
-        enter_lane(own, n, coming.take(n), clock);
-    }
+    place_comers(own, coming);
+    depart_lanes(own, clock);
 }
 
 impl Tile {

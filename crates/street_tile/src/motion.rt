@@ -1,14 +1,16 @@
 //! Motion on a tile's own lanes.
 //!
 //! Source: that motion follows the lane changes is Rickert and others (1996); the rest is this profile.
-ghost use Rattle.std.specs.Prelude.{◌≡◌, [], ◌+◌, ◌*◌, ◌<◌, ◌≤◌, length, false, vec_len, vec_capacity, Some};
-ghost use Rattle.street_base.specs.Prelude.{last_clock};
+ghost use Rattle.std.specs.Prelude.{◌≡◌, ℕ, [], ◌+◌, ◌*◌, ◌<◌, ◌≤◌, length, false, vec_len, vec_capacity, Some, slice_get, not};
+ghost use Rattle.street_base.specs.Prelude.{last_clock, is_closed};
+ghost use Rattle.street_net.specs.Prelude.{mouth};
+ghost use Rattle.street_node.specs.Prelude.{AtMostOnce};
 ghost use Rattle.street_lanes.specs.Lanes.{IsOf};
-ghost use Rattle.street_lanes.specs.Prelude.{lane_of, place_at};
-ghost use Rattle.street_tile.specs.Prelude.{IsTileOf, IsBare, MotionPhase, HasPlanFor, DrivesLane, WatchesLane, MayDrive, DrivesLanes, WatchLanes, ShowLanes};
+ghost use Rattle.street_lanes.specs.Prelude.{lane_of, place_at, HasNobodyInCells};
+ghost use Rattle.street_tile.specs.Prelude.{IsTileOf, IsRoads, IsBare, MotionPhase, HasPlanFor, DrivesLane, WatchesLane, MayDrive, DrivesLanes, WatchLanes, ShowLanes};
 
 use crate::Tile;
-use street_base::{CarNo, Step};
+use street_base::{CarNo, Place, Step};
 use street_lanes::{Detectors, Lanes};
 use street_net::{Network, slot};
 use street_node::{Signal, SignalPlan};
@@ -52,8 +54,38 @@ fn move_lane(
     }
 }
 
+/// The first of these lanes, from `lane` on, that motion is not to pass over: one with somebody in its cells, or any where a
+/// detector was placed, as watches begin anew; the count of lanes where there is none.
+fn next_to_move(own: &Lanes, step: &MotionStep<'_>, lane: usize) -> usize
+    requires { lane ≤ length own.now.lanes }
+    ensures not_before { lane ≤ result }
+    ensures within { result ≤ length own.now.lanes }
+    ensures passed { (k : ℕ) → lane ≤ k → k < result → (step.now.has_meters ≡ false) × HasNobodyInCells (lane_of own.now k) }
+{
+    if step.has_meters {
+        return lane;
+    }
+    own.next_with_cells(lane)
+}
+
+/// Of each of these lanes `mouths` gets at its `slot` whether its cell 0 is not closed. Who is there is not looked at.
+fn show_closed(own: &Lanes, net: &Network, mouths: &mut [bool])
+    requires of { IsOf net.now own.now }
+    requires roads { IsRoads net.now }
+    requires once { AtMostOnce own.now.places }
+    requires wide { length mouths.old ≡ 2 * length net.now.links }
+    ensures shown { (j : ℕ) → (p : Place) → slice_get own.now.places j ≡ Some p
+        → mouth mouths.new p ≡ not (is_closed (lane_of own.now j).track.closed 0) }
+    ensures wide { length mouths.new ≡ length mouths.old }
+{
+    for n in 0..own.len() {
+        let at = own.at(n);
+        mouths[slot(at.link, at.lane)] = !own.is_first_closed(n);
+    }
+}
+
 /// Motion on each of these lanes, which their detectors watch. The numbers of those who arrived are added to `arrived`, and
-/// of each lane, while it is at hand, `mouths` gets at its `slot` whether its cell 0 is free.
+/// of each lane `mouths` gets at its `slot` whether its cell 0 is free.
 fn move_lanes(
     own: &mut Lanes,
     detectors: &mut [Detectors],
@@ -63,18 +95,22 @@ fn move_lanes(
 )
     requires ready { MayDrive step.now own.old detectors.old }
     requires room { vec_len arrived.old + length own.old.places ≤ vec_capacity arrived.old }
+    requires once { AtMostOnce own.old.places }
     requires wide { length mouths.old ≡ 2 * length step.now.net.now.links }
     ensures drives { DrivesLanes step.now own.old own.new arrived.old.items arrived.new.items }
     ensures watches { WatchLanes step.now own.old detectors.old detectors.new }
     ensures capacity { vec_capacity arrived.old ≤ vec_capacity arrived.new }
     ensures shown { ShowLanes own.new mouths.new }
 {
-    for n in 0..own.len() {
+    show_closed(own, step.net, mouths);
+    let mut n = next_to_move(own, step, 0);
+    while n < own.len() {
         let at = own.at(n);
         if let Some(number) = move_lane(own, &mut detectors[n], step, n) {
             arrived.push_reserved(number);
         }
         mouths[slot(at.link, at.lane)] = own.is_open(n);
+        n = next_to_move(own, step, n + 1);
     }
 }
 

@@ -94,10 +94,12 @@ fn release_lanes(
     ensures handed { HandsOver net.now clock own.old mouths.old handed.old.items handed.new.items }
     ensures kept { vec_capacity handed.old ≤ vec_capacity handed.new }
 {
-    for n in 0..own.len() {
+    let mut n = own.next_with_buffer(0);
+    while n < own.len() {
         if let Some(to) = lane_for_front(own, net, n, clock) {
             release_front(own, net, n, to, mouths, handed);
         }
+        n = own.next_with_buffer(n + 1);
     }
 }
 

@@ -1,5 +1,5 @@
 -- A slot is made, gets a car, or loses it.
-use Rattle.std.proofs.Common.{◌≡◌, ◌≢◌, ℕ, ◌+◌, ◌<◌, ◌≤◌, Bool, true, false, List, [], ◌∷◌, ◌++◌, length, set, replicate, IsSome, IsSomeAnd, Option, Some, None, refl, sym, ap, subst, ◌∙◌, inl, inr, arith, option_map, option_and_then, is_some, is_ok, not, Result, Ok, Err, vec_capacity, if◌then◌else◌, is_err}
+use Rattle.std.proofs.Common.{◌≡◌, ◌≢◌, ℕ, ◌+◌, ◌<◌, ◌≤◌, true, false, List, [], ◌∷◌, ◌++◌, length, set, replicate, IsSome, IsSomeAnd, Option, Some, None, refl, sym, ap, subst, ◌∙◌, inl, inr, arith, option_map, option_and_then, is_some, is_ok, Result, Ok, Err, vec_capacity, if◌then◌else◌, is_err}
 use Rattle.std.proofs.lemmas.Bool.{cases_eq, cases_lt}
 use Rattle.std.proofs.lemmas.List.{append-nil, append_assoc, length-append, length-set, length-replicate, get_or_past, get_or_append_left}
 use Rattle.street_base.specs.declared.car.Car.{Car}

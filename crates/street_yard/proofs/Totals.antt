@@ -1,6 +1,7 @@
--- The totals of a `ListTable`.
-use Rattle.std.proofs.Common.{◌≡◌, ℕ, zero, suc, ◌+◌, ◌-◌, ◌%◌, ◌^◌, ◌<◌, ◌≤◌, List, [], ◌∷◌, length, get_or, set, map, replicate, Option, None, refl, sym, ap, ◌∙◌, subst, arith, All}
-use Rattle.std.proofs.lemmas.List.{length-map, length-set, length-replicate, map-set, get_or-map, ext_get_or}
+-- The totals of a `ListTable`, and which of its lists have keys.
+use Rattle.std.proofs.Common.{◌≡◌, ℕ, zero, suc, ◌+◌, ◌-◌, ◌%◌, ◌^◌, ◌<◌, ◌≤◌, ◌==◌, Bool, false, not, List, [], ◌∷◌, length, get_or, set, map, replicate, Option, None, refl, sym, ap, ◌∙◌, subst, arith, inl, inr, All}
+use Rattle.std.proofs.lemmas.Bool.{cases_eq}
+use Rattle.std.proofs.lemmas.List.{length-map, length-set, length-replicate, map-set, get_or-map, get_or-set_same, get_or-set_other, ext_get_or}
 use Rattle.std.proofs.lemmas.List.Elements.{All-nil, All-cons, All-set}
 use Rattle.street_yard.specs.declared.list_table.ListRow.{ListRow}
 use Rattle.street_yard.specs.declared.list_table.BackAndCount.{BackAndCount}
@@ -21,17 +22,29 @@ none-counted zero k = refl
 none-counted (suc n) zero = let rest = none-counted n 2 in omega arith
 none-counted (suc n) (suc k) = none-counted n k
 
-pub listed-empty : (n : ℕ) (fronts : List (Option ℕ)) (rests : List BackAndCount) → n < 2 ^ 32 → fronts ≡ replicate n None → rests ≡ replicate n no_rest → AreListed fronts rests (0 ∷ 0 ∷ 0 ∷ [])
-listed-empty n fronts rests few fronts_are rests_are = record {
+none-at : (n k : ℕ) → get_or (counts (replicate n no_rest)) k 0 ≡ 0
+none-at zero k = refl
+none-at (suc n) zero = refl
+none-at (suc n) (suc k) = none-at n k
+
+none-filled : (n k : ℕ) → get_or (replicate n false) k false ≡ false
+none-filled zero k = refl
+none-filled (suc n) zero = refl
+none-filled (suc n) (suc k) = none-filled n k
+
+pub listed-empty : (n : ℕ) (fronts : List (Option ℕ)) (rests : List BackAndCount) (filled : List Bool) → n < 2 ^ 32 → fronts ≡ replicate n None → rests ≡ replicate n no_rest → n < length filled → filled ≡ replicate (length filled) false → AreListed fronts rests (0 ∷ 0 ∷ 0 ∷ []) filled
+listed-empty n fronts rests filled few fronts_are rests_are many filled_are = record {
   even = ap length fronts_are ∙ length-replicate n None ∙ sym (ap length rests_are ∙ length-replicate n no_rest);
   few = (let long = ap length rests_are ∙ length-replicate n no_rest in omega arith);
   small = subst (λ l. All (λ c. c < 2 ^ 32) (counts l)) (sym rests_are) (none-small n);
   summed = subst (λ l. 0 ∷ 0 ∷ 0 ∷ [] ≡ thirds (counts l)) (sym rests_are) (λ i. sym (none-counted n 0) i ∷ sym (none-counted n 1) i ∷ sym (none-counted n 2) i ∷ []);
+  roomy = (let long = ap length rests_are ∙ length-replicate n no_rest in omega (arith, many));
+  shown = λ k. ap (λ l. get_or l k false) filled_are ∙ none-filled (length filled) k ∙ sym (ap (λ l. not (get_or (counts l) k 0 == 0)) rests_are ∙ ap (λ c. not (c == 0)) (none-at n k));
 }
 
 -- ---- the count of a list is written
 
-module _ (fronts : List (Option ℕ)) (rests : List BackAndCount) (totals : List ℕ) (are : AreListed fronts rests totals) (k : ℕ) (within : k < length rests) where
+module _ (fronts : List (Option ℕ)) (rests : List BackAndCount) (totals : List ℕ) (filled : List Bool) (are : AreListed fronts rests totals filled) (k : ℕ) (within : k < length rests) where
   counts-long : length (counts rests) ≡ length rests
   counts-long = length-map rests (λ (r : BackAndCount). r.count)
 
@@ -46,6 +59,13 @@ module _ (fronts : List (Option ℕ)) (rests : List BackAndCount) (totals : List
       by (suc zero) h = refl
       by (suc (suc zero)) h = refl
       by (suc (suc (suc c))) h = absurd (omega arith)
+
+  pub filled-within : k < length filled
+  filled-within = omega (arith, are.roomy)
+
+  -- the list is filled if it has keys
+  pub filled-at : (r : BackAndCount) → r ≡ get_or rests k r → get_or filled k false ≡ not (r.count == 0)
+  filled-at r r_is = are.shown k ∙ ap (λ c. not (c == 0)) (counted-at r r_is)
 
   module _ (r : BackAndCount) (r_is : r ≡ get_or rests k r) (total : ℕ) (total_is : total ≡ get_or totals (k % 3) 0) where
     -- the old count is part of its total
@@ -69,7 +89,21 @@ module _ (fronts : List (Option ℕ)) (rests : List BackAndCount) (totals : List
           let long = length-set (counts rests) k r'.count in
           omega (arith, few, here, long, counts-long, are.few, counted-at r r_is, total-at, total_is, count-part)
 
-      pub listed-set : AreListed (set fronts k f) (set rests k r') (set totals (k % 3) (total - r.count + r'.count))
+      shown-set : (n : ℕ) → get_or (set filled k (not (r'.count == 0))) n false ≡ not (get_or (counts (set rests k r')) n 0 == 0)
+      shown-set n =
+          elim (cases_eq n k) as (λ _. get_or (set filled k (not (r'.count == 0))) n false ≡ not (get_or (set (counts rests) k r'.count) n 0 == 0)) [
+            | inl same ↦
+                ap (λ m. get_or (set filled k (not (r'.count == 0))) m false) same
+                ∙ get_or-set_same filled k (not (r'.count == 0)) false filled-within
+                ∙ ap (λ c. not (c == 0)) (sym (ap (λ m. get_or (set (counts rests) k r'.count) m 0) same ∙ get_or-set_same (counts rests) k r'.count 0 (omega (arith, counts-long))))
+            | inr apart ↦
+                get_or-set_other filled k n (not (r'.count == 0)) false apart
+                ∙ are.shown n
+                ∙ ap (λ c. not (c == 0)) (sym (get_or-set_other (counts rests) k n r'.count 0 apart))
+          ]
+          ∙ ap (λ l. not (get_or l n 0 == 0)) (sym counts-set)
+
+      pub listed-set : AreListed (set fronts k f) (set rests k r') (set totals (k % 3) (total - r.count + r'.count)) (set filled k (not (r'.count == 0)))
       listed-set = record {
         even = length-set fronts k f ∙ are.even ∙ sym (length-set rests k r');
         few = (let long = length-set rests k r' in let few = are.few in omega arith);
@@ -77,18 +111,20 @@ module _ (fronts : List (Option ℕ)) (rests : List BackAndCount) (totals : List
         summed = ap (λ l. set l (k % 3) (total - r.count + r'.count)) are.summed
             ∙ thirds-set (counts rests) k r'.count (k % 3) (total - r.count + r'.count) refl (omega (arith, counts-long)) (let is = ap (λ l. get_or l (k % 3) 0) are.summed in omega (arith, is, counted-at r r_is, total_is, count-part))
             ∙ ap thirds (sym counts-set);
+        roomy = (let long = length-set rests k r' in let long' = length-set filled k (not (r'.count == 0)) in omega (arith, are.roomy));
+        shown = shown-set;
       }
 
 -- ---- what a contract sees
 
-counts-joined : (fronts : List (Option ℕ)) (rests : List BackAndCount) → length fronts ≡ length rests → map (λ (e : ListRow). e.count) (joined fronts rests) ≡ counts rests
+pub counts-joined : (fronts : List (Option ℕ)) (rests : List BackAndCount) → length fronts ≡ length rests → map (λ (e : ListRow). e.count) (joined fronts rests) ≡ counts rests
 counts-joined [] [] same = refl
 counts-joined [] (r ∷ rests) same = absurd (omega arith)
 counts-joined (f ∷ fronts) [] same = absurd (omega arith)
 counts-joined (f ∷ fronts) (r ∷ rests) same = ap (λ l. r.count ∷ l) (counts-joined fronts rests (omega arith))
 
-pub totals-are : (fronts : List (Option ℕ)) (rests : List BackAndCount) (totals : List ℕ) (v : List ListRow) → AreListed fronts rests totals → joined fronts rests ≡ v → totals ≡ thirds (map (λ e. e.count) v)
-totals-are fronts rests totals v are is_v = are.summed ∙ ap thirds (sym (counts-joined fronts rests are.even) ∙ ap (map (λ (e : ListRow). e.count)) is_v)
+pub totals-are : (fronts : List (Option ℕ)) (rests : List BackAndCount) (totals : List ℕ) (filled : List Bool) (v : List ListRow) → AreListed fronts rests totals filled → joined fronts rests ≡ v → totals ≡ thirds (map (λ e. e.count) v)
+totals-are fronts rests totals filled v are is_v = are.summed ∙ ap thirds (sym (counts-joined fronts rests are.even) ∙ ap (map (λ (e : ListRow). e.count)) is_v)
 
 -- the counts are the lengths of the lists
 lengths-are : (y : Inside) → IsSound y → map (λ (e : ListRow). e.count) y.rows ≡ map (λ (xs : List ℕ). length xs) (seen y).lists

@@ -4,6 +4,8 @@ use Rattle.std.proofs.lemmas.List.{with_items_is}
 use Rattle.street_base.specs.Prelude.{Traffic}
 use Rattle.street_lanes.specs.Prelude.{place_at}
 use Rattle.street_tile.specs.Inside.{seen}
+use Rattle.street_node.specs.Prelude.{AtMostOnce}
+use Rattle.street_tile.proofs.OwnLanes.{own-once}
 use Rattle.street_net.specs.Prelude.{mouth}
 use Rattle.street_tile.specs.Prelude.{TileView, AreBare, AreDue, ShowSignals, is_own, sizes_of, KeepMeters, HaveWatched, MotionPhase}
 use Rattle.street_tile.proofs.SameTile.{tile-seen, at-view}
@@ -24,6 +26,12 @@ move_lanes-requires-clause-ready c =
       sized = ap sizes_of c.deref_mut.ensures.value ∙ tile.sized;
       bare = λ none. subst AreBare (sym c.deref_mut.ensures.value) (c.self.invariant.noted.bare none);
     }
+
+pub move_lanes-requires-clause-once : goal.move_lanes-requires-clause-once
+move_lanes-requires-clause-once c =
+    let s = c.self.inside in
+    let tile = tile-seen c.self.view_is c.requires.tile in
+    subst AtMostOnce (sym tile.places) (own-once c.args.net.now s.low s.high)
 
 pub move_lanes-requires-clause-wide : goal.move_lanes-requires-clause-wide
 move_lanes-requires-clause-wide c =

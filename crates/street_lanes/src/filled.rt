@@ -1,0 +1,37 @@
+//! The next lane on which somebody is, so that a phase of a step goes over these lanes alone.
+//!
+//! Source: this profile.
+ghost use Rattle.std.specs.Prelude.{◌≤◌, length};
+ghost use Rattle.street_lanes.specs.Prelude.{IsNextBut, HasNobodyInCells, HasEmptyBuffer, HasNobodyWaiting};
+
+use crate::lanes::Lanes;
+use street_yard::ListKind;
+
+impl Lanes {
+    /// The first lane from `lane` on, by its number on the tile, with somebody in its cells; the count of lanes where none has.
+    #[inline]
+    pub fn next_with_cells(&self, lane: usize) -> usize
+        requires { lane ≤ length self.now.lanes }
+        ensures { IsNextBut HasNobodyInCells self.now lane result }
+    {
+        self.yard.next_filled(ListKind::Cells, lane)
+    }
+
+    /// The first lane from `lane` on, by its number on the tile, with somebody in its buffer; the count of lanes where none has.
+    #[inline]
+    pub fn next_with_buffer(&self, lane: usize) -> usize
+        requires { lane ≤ length self.now.lanes }
+        ensures { IsNextBut HasEmptyBuffer self.now lane result }
+    {
+        self.yard.next_filled(ListKind::Buffer, lane)
+    }
+
+    /// The first lane from `lane` on, by its number on the tile, on which somebody waits; the count of lanes where nobody does.
+    #[inline]
+    pub fn next_with_waiting(&self, lane: usize) -> usize
+        requires { lane ≤ length self.now.lanes }
+        ensures { IsNextBut HasNobodyWaiting self.now lane result }
+    {
+        self.yard.next_filled(ListKind::Waiting, lane)
+    }
+}
