@@ -112,8 +112,8 @@ def spot_before(stretches: Iterable[Stretch], metres: float) -> Spot:
 
 def extending(layout: Layout, phases: Sequence[Phase], detected: Iterable[str]) -> list[list[str]]:
     """For each phase the lanes, sorted, among those that have a detector (`detected`), whose detectors extend it: those
-    all of whose ways are green in it, as greens has it, and do not lead to another lane with a detector of this light
-    that is red. Empty for a phase of one length."""
+    all of whose ways are green in it, as greens has it, and lead to no other lane with a detector of this light that is
+    not all green too (ways that turn back aside). Empty for a phase of one length."""
     indexes, detected = layout.indexes(), sorted(detected)
     leads: defaultdict[str, set[str]] = defaultdict(set)
     for way in layout.ways:

@@ -148,7 +148,8 @@ class Driver:
 
     def switch(self, clock: int) -> Iterator[Command]:
         """Makes the changes by time of day that are due at a clock, and gives the commands that show the new programs
-        that detectors drive. The run has a signal line for each change: that is sent, and `stop` called, before."""
+        that detectors drive. The run has a signal line for each change: that is sent, and `stop` called, before. With a
+        light's last change those of its programs that are not in force stop for good."""
         while self.switches and self.switches[0][0] <= clock:
             _, light, program = self.switches.popleft()
             if (one := self.of(light, program)) is not None:
@@ -173,12 +174,14 @@ class Driver:
             yield {"cmd": "meter", "link": one.link, "lane": one.lane, "cell": one.cell, "period": 1}
 
     def begin(self, start: int) -> Iterator[Command]:
-        """The signal commands at the begin of a run, whose clock is `start`."""
+        """Begins the logic of all programs, and gives the signal commands of those in force, at the begin of a run,
+        whose clock is `start`."""
         for one in self.controllers:
             yield from one.starts(start)
 
     def due(self) -> int:
-        """The next clock at which a light is looked at; the greatest clock where there is no light."""
+        """The next clock at which `look` has something to do; the greatest clock where there is no light, or plans of
+        the run's own hold at all of them."""
         return min((one.due() for one in self.controllers), default=limits.CLOCK)
 
     def call(self, clock: int, calls: Iterable[tuple[str, Collection[int]]]) -> None:

@@ -78,8 +78,8 @@ class Lights:
 
     @cached_property
     def longest(self) -> int:
-        """The seconds, rounded up, after which each driven light has shown all its phases at their greatest length; 0
-        without any."""
+        """The seconds, rounded up, after which each driven light has shown all its phases at their greatest length (of
+        an actuated light 600 s of each at most), also by programs that come into force later; 0 without any."""
         return ceil(max((one.longest for one in (*self.driven, *self.idle)), default=0.0))
 
     def going_by(self, mapping: Map) -> list[str]:
@@ -99,8 +99,9 @@ LISTED = Lights()  # all go by their list
 
 
 def driven_lights(run: Run, mapping: Map) -> Lights:
-    """The lights that detectors drive in a run; the others in `listed`, with the reason. Those that most vehicles pass
-    come first, until the 1,024 detectors that a run may have, less those of the map, are used up."""
+    """The lights that detectors drive in a run, each with all its programs or not at all; the others in `listed`, with
+    the reason. Those that most vehicles pass come first, as far as the 1,024 detectors go that a run may have, less
+    those of the map: a light that needs more than are left is listed, and later ones may still be driven."""
     timed = {line.command["node"] for _, line in run.timed if line.command["cmd"] == "signal"}
     left, later = limits.METERS - len(mapping.detectors), programs_later(mapping)
     driven: list[Light] = []
@@ -202,7 +203,8 @@ def refuse_unlike(kept: Mapping[str, Any]) -> None:
 
 
 def phase_of(kept: list[Any]) -> Phase:
-    """A phase, from what is kept of it: [seconds, state, least, greatest, next ones]; it has no detectors yet."""
+    """A phase, from what is kept of it: [seconds, state, least, greatest, next ones], in whole seconds; it has no
+    detectors yet."""
     seconds, state, *_, following = kept
     step = following[0] if following and following[0] >= 0 else None
     least, most = bounds_of(kept)

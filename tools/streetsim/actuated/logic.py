@@ -43,7 +43,8 @@ class Phase:
 
     @property
     def usual(self) -> int:
-        """The seconds that it is thought to last as long as none of it has ended."""
+        """The seconds that it is thought to last as long as none of it has ended: those listed, within its bounds,
+        where it may be extended, else its least."""
         return min(max(self.seconds, self.least), self.most) if self.is_extended else self.shortest
 
     @property
@@ -79,7 +80,7 @@ class Actuated:
 
     def start(self, now: int, offset: int = 0) -> None:
         """Begins at the clock `now` where a light with the listed seconds would be whose first phase began at the clock
-        `offset`."""
+        `offset`. The phase counts from `now` on, and is looked at first when its listed seconds would be over."""
         self.since, place = now, (now - offset) % max(1, sum(phase.seconds for phase in self.phases))
         for self.at, phase in enumerate(self.phases):
             if place < phase.seconds:
@@ -103,12 +104,13 @@ class Actuated:
         return True
 
     def stays(self, phase: Phase, gap: GapOf) -> int:
-        """The seconds, 0 for now, until a green can end: as buses say where any calls, else by its detectors."""
+        """The seconds, 0 for now, until a green can end. Where buses call any phase, and it may be extended, they
+        decide: 1 where they call it, else 0; otherwise its detectors do."""
         return int(self.at in self.called) if self.called and phase.is_extended else self.wait(phase, gap)
 
     def call(self, now: int, phases: Collection[int]) -> None:
         """From now on buses call some phases, by their places: the one that is shown stays green until its greatest
-        length, others end at their least. Empty: no bus is seen any more."""
+        length, others end at their least, for which `due` may come earlier. Empty: no bus is seen any more."""
         self.called = phases
         if phases and self.at not in phases:
             self.due = min(self.due, max(now, self.since + self.phases[self.at].shortest))
@@ -158,8 +160,10 @@ class Actuated:
         return BY_MOST if now - self.since >= phase.most else BY_GAP
 
     def wait(self, phase: Phase, gap: GapOf) -> int:
-        """The seconds until the phase can end by its detectors, 0 if it can now: not before each has seen nobody for
-        its gap. The one that extended the phase last is asked first, and often no other need be."""
+        """The seconds until the phase can end by its detectors, 0 if it can now, as each has seen nobody for its gap.
+        One that has seen somebody within its gap wants that, or `lead` if longer, since then. The one that extended the
+        phase last (kept in `first`) is asked first; where it wants nearly its whole gap no other is, so that it may be
+        too few seconds."""
         longest, enough = 0, self.lead <= min(self.gaps, default=0.0)
         for detector in sorted(phase.detectors, key=lambda one: one != self.first.get(self.at)):
             seen, most = gap(detector), self.gaps[detector]

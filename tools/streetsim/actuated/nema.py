@@ -200,7 +200,8 @@ class Nema:
 
     def call(self, now: int, phases: Collection[int]) -> None:
         """From now on buses call some phases, by their numbers: those that are shown stay green until their greatest
-        length, greens in their way end at their least. Empty: no bus is seen any more."""
+        length, greens in their way end at their least. Empty: no bus is seen any more. `due` comes forward to the next
+        second."""
         self.wanted = phases
         self.due = min(self.due, max(now, self.now + 1))
 

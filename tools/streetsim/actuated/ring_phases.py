@@ -34,11 +34,12 @@ class RingPhase:
 
     @property
     def usual(self) -> float:
-        """The seconds of green that it is thought to last as long as none of it has ended."""
+        """The seconds of green that it is thought to last as long as none of it has ended: the mean of its bounds."""
         return (self.least + self.most) / 2
 
     def shown(self, stage: int) -> str:
-        """The letters of its signals at a stage (RED, YELLOW, GREEN, ..)."""
+        """The letters of its signals at a stage: from GREEN on its state, at YELLOW that with y for each green (G or
+        g), at RED all red."""
         if stage >= GREEN:
             return self.state
         return "".join("y" if one in GO else one for one in self.state) if stage == YELLOW else "r" * len(self.state)
@@ -67,8 +68,8 @@ class Rings:
 
 
 def together(shown: Sequence[tuple[RingPhase, int]]) -> str:
-    """The letters that phases at stages show together. A signal that is G in one of these phases shows what that phase
-    shows; any other the first of LETTERS that one of them shows, else red."""
+    """The letters that phases at stages show together. A signal that is G in the state of one of these phases shows
+    what that phase shows (of two the last); any other the first of LETTERS that one of them shows, else red."""
     states, found = [phase.shown(stage) for phase, stage in shown], []
     for at, letters in enumerate(zip(*states, strict=True)):
         own = [letter for letter, (phase, _) in zip(letters, shown, strict=True) if phase.state[at] == "G"]

@@ -46,7 +46,8 @@ class DrivenRings:
 
     @property
     def longest(self) -> float:
-        """The seconds in which each phase has been green for its greatest time, with yellow and red."""
+        """The seconds in which all phases, one after another, have been green for their greatest time, with yellow and
+        red."""
         return sum(one.most + one.change for one in self.rings.phases)
 
     def logic(self) -> Nema:
@@ -96,13 +97,14 @@ def digits(text: str) -> tuple[int, ...]:
 
 
 def second_barrier(parameters: Mapping[str, str]) -> tuple[int, ...]:
-    """The phases at the second barrier, of the parameter coordinatePhases, else of barrier2Phases; empty where there is
-    neither."""
+    """The phases at the second barrier, of the parameter coordinatePhases where it is given, even without a digit, else
+    of barrier2Phases; empty where no digit is found."""
     return digits(parameters.get("coordinatePhases", parameters.get("barrier2Phases", "")))
 
 
 def check_orders(orders: Iterable[tuple[int, ...]], phases: Iterable[RingPhase]) -> None:
-    """Raises Listed where a ring has no phases or more than four, or names one that the program does not have."""
+    """Raises Listed where a ring has no phases or more than four places, those without a phase (0) among them, or names
+    one that the program does not have."""
     names = {one.name for one in phases}
     for order in orders:
         if len(order) > 4 or not any(order):
@@ -127,7 +129,7 @@ def barriers_of(parameters: Mapping[str, str], orders: tuple[tuple[int, ...], ..
 
 def phases_of(kept: Mapping[str, Any], number: Mapping[str, int]) -> list[RingPhase]:
     """The phases, each with the areas of the lanes that it has green first (G); number: by lane the place of its area.
-    Raises Listed where the name of a phase is not one digit."""
+    Raises Listed where the name of a phase has no digit or several."""
     parameters, found = kept["parameters"], []
     recalls = {name: digits(parameters.get(name, usual)) for name, usual in (("minRecall", ALL), ("maxRecall", ""))}
     latching = digits(parameters.get("latchingDetectors", ""))
@@ -144,8 +146,9 @@ def phases_of(kept: Mapping[str, Any], number: Mapping[str, int]) -> list[RingPh
 
 def areas_of(kept: Mapping[str, Any], mapping: Map) -> dict[str, Area]:
     """By lane the area on which vehicles are looked for: the laneAreaDetector that a parameter of the lane's name
-    names, else the last metres before its stop line, as many as detector-length says (LENGTH without it), where the map
-    has the lane. Raises Listed where the map does not have the detector, or a length is no number."""
+    names, else, where the map has the lane, the last cells before its stop line, one at least, as far as
+    detector-length says (metres, LENGTH without it), or detector-length-leftTurnLane for a lane whose one way turns
+    left; both less STANDING. Raises Listed where the map does not have the detector, or a length is no number."""
     parameters, own = kept["parameters"], {one.name: one for one in mapping.detectors if one.kind == E2}
     ways: dict[str, list[str]] = {}
     for _, lane, _, _, direction in kept["ways"]:

@@ -84,8 +84,9 @@ def lit_node(light: str, kept: NodeOf, mapping: Map, offset: int, cycle: list[tu
 
 
 def plan_of(node: int, rows: Sequence[Green], now: int) -> Command:
-    """The signal command that shows some seconds (green turns of each) from the clock `now` on, the last of which goes
-    on for 600 s, as long as a phase of a plan may last."""
+    """The signal command that shows some seconds (green turns of each; one second at least) from the clock `now` on,
+    the last of which goes on for 600 s, as long as a phase of a plan may last. With more changes than a plan has phases
+    the shortest are added to those before."""
     runs = [(len(list(run)), green) for green, run in groupby(rows)]
     phases = joined(runs)
     phases[-1] = (limits.PHASE_STEPS, phases[-1][1])

@@ -59,8 +59,9 @@ class ShownRings:
             yield plan_of(node.node, self.rows(node, self.cycles[lengths], self.greens[at, lengths], now), now)
 
     def rows(self, node: LitNode, cycle: Sequence[str], greens: Sequence[Green], now: int) -> list[Green]:
-        """The green turns of a node in each second from the clock `now` on, the last of which goes on. cycle: the
-        letters in each second of a cycle; greens: the green turns in each."""
+        """The green turns of a node in each second from the clock `now` on, the last of which goes on; turns that the
+        light does not control are always green. cycle: the letters in each second of a cycle; greens: the green turns
+        in each."""
         shown = {}
         for link, lane, following, turn in node.turns:
             letter, since = self.letters[turn.index] if turn.light == node.light else ("", now)
@@ -78,7 +79,8 @@ class ShownRings:
 
 def of_green(letters: str, shown: Sequence[bool], letter: str, gone: int) -> list[bool]:
     """Whether a signal is shown green in each second that remains of its longest run of a letter, of which `gone`
-    seconds are over; one at least. letters, shown: of each second of a cycle."""
+    seconds are over, one at least; green for one second where no second has the letter. letters, shown: of each second
+    of a cycle."""
     runs = runs_of(letters, letter)
     if not runs:
         return [True]

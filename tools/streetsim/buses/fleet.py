@@ -152,8 +152,9 @@ class Fleet:
         yield from self.changes(clock)
 
     def locate(self, clock: int, bus: Bus, reply: Vehicle) -> None:
-        """Notes by the program's reply which stops and lights a bus has passed, has the next light wait for it where it
-        is near, and begins its stopping where it is near its stop; else sets when it is to be looked at next."""
+        """Notes by the program's reply which stops (as missed) and lights a bus has passed, has the next light wait for
+        it where it is near, and begins its stopping where it is near its stop; else sets when it is to be looked at
+        next."""
         at, cell, waits = len(bus.plan) - len(reply.plan), reply.cell or 0, 0
         if reply.state == "buffer":  # it has left its link
             at, waits = at + 1, max(0, (reply.ready or 0) - clock)
@@ -184,7 +185,8 @@ class Fleet:
         self.calls.set(bus.owner, ahead)
 
     def between(self, bus: Bus, at: int, cell: int, ahead: Ahead) -> int:
-        """The fewest seconds from a cell of the link at a place of a bus's plan to the stop line of a light ahead."""
+        """The fewest seconds, rounded down, from a cell of the link at a place of a bus's plan to the stop line of a
+        light ahead."""
         return int(self.before(bus, at, cell, ahead.at) + self.links_left(bus, at, cell, ahead.at))
 
     def links_left(self, bus: Bus, at: int, cell: int, last: int) -> float:
@@ -230,7 +232,7 @@ class Fleet:
     def attend(self, clock: int, bus: Bus, seen: Mapping[Place, Lane], ask: Ask) -> None:
         """Looks at a bus on the link of its stop, by the replies on the lanes there (seen): sets which cells are closed
         for it and when it is looked at next, and notes the stop where that is over. Where the bus is not there any
-        more, the stop counts as missed if it stood at it; else it is asked, a second later, where it is."""
+        more, the stop counts as missed if it stood at it, and the bus is asked, a second later, where it is."""
         stopping, visit = bus.stopping, bus.visits[0]
         assert stopping is not None
         lanes = {lane: seen_on(seen.get((visit.link, lane))) for lane in stopping.wants(clock)}

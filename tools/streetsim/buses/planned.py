@@ -72,7 +72,7 @@ def planned(run: Run, mapping: Map) -> Planned:
 
 
 def meets(visit: Visit, depart: int, closed: Closure) -> bool:
-    """Whether a closed stretch has cells of a stop, or the cell beyond it, and is still closed when the vehicle
-    departs; depart: the clock at which it does."""
+    """Whether a closed stretch has cells of a stop, or the cell beyond it, and ends after the vehicle departs, whenever
+    it begins; depart: the clock at which it does."""
     at_stop = (closed.link, closed.lane) == (visit.link, visit.lane)
     return at_stop and closed.first <= visit.last + 1 and closed.last >= visit.first and closed.end > depart

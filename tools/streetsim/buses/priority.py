@@ -115,8 +115,9 @@ def fixed_light(light: str, kept: Mapping[str, Any], seen: int) -> Fixed:
 
 def bounded(kept: Sequence[Any], seen: int) -> Phase:
     """A phase, as kept ([seconds, state, least or none, greatest or none]), with its bounds in seconds. A green has
-    those of the file, else it may be as short as half its seconds (LEAST at least), and as long as its own and the
-    seconds (seen) that a vehicle is seen before the stop line; any other phase lasts its listed seconds."""
+    those of the file (its most never below its least), else it may be as short as half its seconds (LEAST at least, but
+    never above its own), and as long as its own and the seconds (seen) that a vehicle is seen before the stop line; any
+    other phase lasts its listed seconds."""
     seconds, state, least, most, *_ = kept
     phase = Phase(state, round(seconds), round(seconds), round(seconds))
     if not phase.is_green:

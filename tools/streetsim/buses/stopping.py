@@ -100,7 +100,8 @@ class Stopping:
         return sorted([*own, *([self.other] if self.road.lanes == 2 else [])])
 
     def has_come(self, bus: Seen) -> bool:
-        """Whether the bus is at its stop: at the stop's last cell, or standing on the stop."""
+        """Whether the bus is at its stop: at the stop's last cell, or standing on the stop; never while it is
+        astray."""
         if self.is_astray:
             return False
         return bus.cell == self.visit.last or (bus.speed == 0 and bus.cell >= self.visit.first)
@@ -165,8 +166,8 @@ class Stopping:
 
     def change(self, bus: Seen, ahead: Sequence[Seen], right: Sequence[Seen]) -> None:
         """Closes cells so that it changes to the stop's lane where the rule allows; else so that it is slowed and waits
-        two cells before the stop (its seconds of standing are counted), and those behind it on that lane are held.
-        ahead, right: vehicles before it on its lane, and those on the stop's lane."""
+        two cells before the stop (its seconds of standing with a free cell ahead are counted), and those behind it on
+        that lane are held. ahead, right: vehicles before it on its lane, and those on the stop's lane."""
         speed, reach = bus.speed, min(bus.speed + 1, self.road.limit)
         wait = self.visit.last - 2
         if may_change(bus, right) and reach <= self.visit.last - bus.cell:

@@ -81,7 +81,8 @@ def searched_bounds(
 ) -> tuple[Search, bool]:
     """Searches for bounds; gives (search when it has ended, whether the user ended it). workers: with the sessions of
     the ground; tried: seeds for first runs of the given bounds, which say how many of them the search uses; used only
-    where asked.seeds is empty. Fault where the budget does not reach for one run of each seed."""
+    where asked.seeds is empty. Fault where a run fails, or where the budget does not reach for one run of each seed so
+    found; for asked.seeds that is not looked at."""
     cars, seeds = len(ground.town.session.departs), asked.seeds
     if not seeds:
         seeds = tried[: seeds_for([one.seconds / cars for one in outcomes(workers, [ground.given], tried)])]

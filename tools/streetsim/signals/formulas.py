@@ -108,7 +108,7 @@ def hop_of(
     light: str, parent: str, ways: Ways, mapping: Map, lights: Mapping[str, Light], free_flow: FreeFlow
 ) -> Hop | None:
     """The heaviest way between a light and its parent, either way round; None where nobody drives between them, or one
-    of its two turns is at no phase with green of its light."""
+    of the turns at its two ends is missing, belongs to another light, or is green in no phase."""
     found = [
         (count, direction, way)
         for direction, pair in ((1, (parent, light)), (-1, (light, parent)))
@@ -128,13 +128,14 @@ def hop_of(
 
 
 def green_phases(light: Light, index: int) -> list[int]:
-    """The places of the phases in which an index of a light's state has green, or is off (o, O)."""
+    """The places of the phases in which an index of a light's state has green (G, g or s), or is off (o, O)."""
     return [at for at, state in enumerate(light.states) if state[index] in "GgsOo"]
 
 
 def loads_of(run: Run, mapping: Map, lights: Mapping[str, Light]) -> dict[str, list[float]]:
     """For each light, by phase, the heaviest flow (vehicles an hour and lane) over any link that has green in it; 0
-    where nobody passes. Flows are those of the whole run, whose time counts as 900 s at least."""
+    where nobody passes. Flows are those of all vehicles, over the time from the first departure to the last, which
+    counts as 900 s at least; turns that the import added are left out."""
     departs = [line.command["depart"] for line in run.enters]
     hours = max(900, max(departs) - min(departs)) / 3600 if departs else 1.0
     flow = Counter(pair for line in run.enters for pair in zip(line.command["plan"], line.command["plan"][1:]))

@@ -80,8 +80,8 @@ class Target:
 
 def write_found(target: Target, town: Town, search: Search, rows: Sequence[Compared], doubts: Sequence[str]) -> None:
     """Writes the plan to its file, and the tables and pictures, of runs that it makes, into the folder of the target;
-    Fault, and no table, where one cannot be written. rows: of before-after.csv; doubts: why the result is not to be
-    trusted, empty where it is."""
+    Fault, and no table, where one cannot be written, or such a run fails. rows: of before-after.csv; doubts: why the
+    result is not to be trusted, empty where it is."""
     plan = search.best[1]
     with whole_folder(target.folder, LAST, ("before.png", "after.png")) as folder:
         write_table(f"{folder}/lights.csv", LIGHTS, light_rows(town, plan))

@@ -146,9 +146,9 @@ def sumo_for(reading: Reading, mapping: Map, run: Run) -> InSumo:
 
 
 def verified(in_sumo: InSumo, town: Town, texts: Sequence[str], seeds: Sequence[int], jobs: int) -> Verified:
-    """What SUMO says of what was given and of what was found, by runs with each seed. texts: of two additional files
-    with signal programs, the one given and the one found; jobs: how many run side by side. Fault where SUMO fails, or
-    the files that a map names cannot be read."""
+    """What SUMO says of what was given and of what was found, by runs with each seed, whose progress is shown on the
+    terminal. texts: of two additional files with signal programs, the one given and the one found; jobs: how many run
+    side by side. Fault where SUMO fails, or the files that a map names cannot be read."""
     enters = zip(town.mapping.cars, (line.command["depart"] for line in town.run.enters), strict=True)
     departs = {name: depart for name, depart in enters if depart < in_sumo.until}
 

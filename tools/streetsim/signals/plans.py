@@ -55,7 +55,7 @@ class Light:
     def scaled(self, timing: Timing, cycle: int, shares: Sequence[float] | None = None) -> Timing | None:
         """The timing at another cycle, in seconds. Phases that may be stretched share what the others leave, in
         proportion to shares, one for each phase (None: to their present seconds); the offset keeps its part of the
-        cycle. None where the bounds do not allow it."""
+        cycle. None where the bounds do not allow it, or no phase may be stretched."""
         free = self.free
         shares = [(shares or timing.durations)[at] for at in free]
         greens = spread(shares, cycle - self.lost(timing), [self.bounds[at] for at in free])
@@ -125,9 +125,9 @@ def light_of(name: str, program: Program, least: int = LEAST) -> tuple[Light, Ti
 
 
 def bounds_of(state: str, given: int, bound: tuple[float | None, float | None], least: int) -> tuple[int, int]:
-    """The (least, most) seconds of a phase of given seconds. One with green and no yellow that lasts least seconds or
-    more may be changed, from least to 600 s, as far as bound (minDur, maxDur; None: not written) allows; each other
-    keeps its length."""
+    """The (least, most) seconds of a phase of given seconds, which are always within. One with green and no yellow that
+    lasts least seconds or more may be changed, from least to 600 s, as far as bound (minDur, maxDur; None: not written)
+    allows; each other keeps its length."""
     low = least if bound[0] is None else round(bound[0])
     high = limits.PHASE_STEPS if bound[1] is None else round(bound[1])
     if not is_green(state) or given < least:
@@ -136,7 +136,8 @@ def bounds_of(state: str, given: int, bound: tuple[float | None, float | None], 
 
 
 def is_green(state: str) -> bool:
-    """Whether somebody has green in a phase (or its light is off) and nobody yellow; state: SUMO's letters."""
+    """Whether somebody has green in a phase (or its light is off) and nobody yellow, or red with yellow (u); state:
+    SUMO's letters."""
     return bool(set(state) & set("GgsOo")) and not set(state) & set("yYu")
 
 

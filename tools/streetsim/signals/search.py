@@ -133,9 +133,9 @@ def climb_all(
 
 
 def climb_offsets(search: Search, plan: Plan, streets: Streets, share: float, with_groups: bool) -> Plan:
-    """Tries other offsets, later and earlier by a share (0 to 1) of the cycle, of each light, the heaviest flow first;
-    where with_groups, first of the light with all that hang behind it, and then of it alone. Gives the best plan;
-    raises Ended as Search.values does."""
+    """Tries other offsets, later and earlier by a share (0 to 1) of the cycle, one second at least, of each light, the
+    heaviest flow first; where with_groups, first of the light with all that hang behind it, and then of it alone. Gives
+    the best plan; raises Ended as Search.values does."""
     for light in streets.order:
         seconds = max(1, round(share * plan[light].cycle))
         if with_groups and len(streets.behind[light]) > 1:
@@ -145,8 +145,8 @@ def climb_offsets(search: Search, plan: Plan, streets: Streets, share: float, wi
 
 
 def climb_splits(search: Search, plan: Plan, lights: Mapping[str, Light], order: Iterable[str], seconds: int) -> Plan:
-    """Tries to move so many seconds of green between any two phases of each light, either way; the cycle stays. order:
-    of the lights. Gives the best plan; raises Ended as Search.values does."""
+    """Tries to move so many seconds of green between any two phases of each light that may be stretched, either way;
+    the cycle stays. order: of the lights. Gives the best plan; raises Ended as Search.values does."""
     for name in order:
         free = lights[name].free
         for place, source in enumerate(free):

@@ -40,7 +40,8 @@ class Site:
 
 def all_works(texts: Iterable[str], mapping: Map, start: int, until: int | None) -> list[Works]:
     """The works of texts, each of which may name several with commas between. Fault as of works_of, and where one ends
-    at the start or before, or begins at the end or later. start, until: of the run in seconds; None: not known."""
+    at the start or before, or begins at the end or later. start, until: of the run in seconds; until None: not
+    known."""
     works = [works_of(one, mapping) for text in texts for one in listed(text)]
     if over := [one.text for one in works if one.last <= start]:
         raise Fault(f"--close {over[0]!r}: ends at the start, {start} s, or earlier")
@@ -51,7 +52,7 @@ def all_works(texts: Iterable[str], mapping: Map, start: int, until: int | None)
 
 def works_of(text: str, mapping: Map) -> Works:
     """The works that a text LANE:METRES-METRES:S-S asks for, each S as clock_of reads it; Fault where it has another
-    form, or the map has no such lane or metres."""
+    form, one of its pairs does not rise, or the map has no such lane or metres."""
     found = FORM.fullmatch(text)
     clocks = [second for clock in found.groups()[3:] if (second := clock_of(clock)) is not None] if found else []
     if not found or len(clocks) < 2 or int(found[2]) >= int(found[3]) or clocks[0] >= clocks[1]:

@@ -48,7 +48,7 @@ def rows(watched: Sequence[Watched], mapping: Map, start: int, seconds: int) -> 
 def seen_in(watched: Watched, period: Period) -> tuple[object, ...]:
     """A row of works.csv for a period from its column vehicles on: how many passed, capacity (vehicles an hour), mean
     and greatest delay (s), lengths of the queue (m; 50 %, 95 %, greatest), longest standing (s). An empty text stands
-    for what is not known."""
+    for a capacity or delay that is not known; a queue or standing that was not looked at counts as 0."""
     delays = [one.delay for one in watched.passed if period.has(one.clock)]
     queues = [one for one in watched.queues if period.has(one.clock)]
     capacity = capacity_of(watched, period)
@@ -64,8 +64,9 @@ def seen_in(watched: Watched, period: Period) -> tuple[object, ...]:
 
 
 def capacity_of(watched: Watched, period: Period) -> int | None:
-    """Vehicles an hour in the worst 15 minutes that end in a period and in which somebody always stood before the
-    works; None where there is no such time."""
+    """Vehicles an hour in the worst 15 minutes that end in a period, whole minutes after its begin, and in which
+    somebody always stood before the works; they may begin before the period, but not before the works. None where there
+    is no such time."""
     clocks = [one.clock for one in watched.passed]
     empty = [one.clock for one in watched.queues if not one.metres]
     counts = []

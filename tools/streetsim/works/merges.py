@@ -37,7 +37,7 @@ class Merges:
 
     def done(self, clock: int, command: Command) -> None:
         """Notes a command of others that was sent at a clock; commands other than close and reopen, and those on links
-        that are left alone, are passed over."""
+        that are left alone, are passed over. A link on which nothing is closed any more is forgotten."""
         if command["cmd"] not in CLOSING or command["link"] not in self.cells:
             return
         link: int = command["link"]

@@ -137,7 +137,9 @@ class Merging:
 
 def take(turn: Turn, clock: int, place: Place, sides: Sequence[Side]) -> None:
     """Begins or ends the hold of the other lane at a place, by what stands on both lanes at a clock; notes that in
-    turn, and who stands first since when. sides: by lane."""
+    turn, and who stands first since when. A hold begins when the same one has stood first for PATIENCE seconds; it ends
+    when nobody is on the held cells or the AHEAD ones after them, when nobody stands first, or when the same one has
+    stood first for more than MOST_HELD seconds. sides: by lane."""
     before = [one for one in sides[place.lane].vehicles if place.low <= one.cell < place.first]
     first = before[0] if before else None
     head = first.car if first and first.speed == 0 and first.cell >= place.first - NEAR else None

@@ -43,7 +43,7 @@ class Lost:
 
 def lost_movements(run: Run, mapping: Map, closures: Iterable[Closure]) -> list[Lost]:
     """The movements, with how many vehicles of the run take them meanwhile, all of whose lanes works close to their
-    end. Movements that nobody takes then are left out."""
+    end. Movements that nobody takes then are left out; who comes while times of lost_ways overlap counts in each."""
     ended, added = closed_ends(closures, mapping), lanes_of(mapping, True)
     found = []
     for way, times in lost_ways(ended, mapping).items():
@@ -81,8 +81,9 @@ def lanes_of(mapping: Map, added: bool) -> dict[Way, set[Place]]:
 
 
 def lost_ways(ended: Mapping[Place, Sequence[Times]], mapping: Map) -> dict[Way, list[Times]]:
-    """By movement the (first, last) seconds, from first to before last, in which all its lanes are closed at their end;
-    ended: as closed_ends gives it. Edges that are closed on all lanes are left out."""
+    """By movement the (first, last) seconds, from first to before last, in which all its lanes are closed at their end,
+    as in_common gives them; ended: as closed_ends gives it. Edges of which each lane is closed there at some time, if
+    not all at once, are left out."""
     found = {}
     for way, lanes in lanes_of(mapping, False).items():
         links = mapping.links_of[way[0]]
@@ -94,7 +95,8 @@ def lost_ways(ended: Mapping[Place, Sequence[Times]], mapping: Map) -> dict[Way,
 
 
 def in_common(times: Iterable[Sequence[Times]]) -> Iterator[Times]:
-    """The (first, last) seconds, from first to before last, that lie in one of the times of each list."""
+    """The (first, last) seconds, from first to before last, that lie in one of the times of each list, a pair for each
+    choice of one time from each; pairs overlap where times of a list do."""
     for together in product(*times):
         first, last = max(first for first, _ in together), min(last for _, last in together)
         if first < last:

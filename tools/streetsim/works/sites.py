@@ -109,8 +109,9 @@ def line_of(name: str, site: Site) -> Line:
 
 
 def shut_links(sites: list[Site], mapping: Map) -> dict[int, list[tuple[int, int]]]:
-    """The (first, last) seconds, from first to before last, in which all lanes of a link are closed at one place, by
-    link; links that are not closed on all lanes are left out."""
+    """The (first, last) seconds, from first to before last, in which all lanes of a link are closed at one place, or
+    where closed cells of its lanes adjoin, by link; pairs may overlap. Links that are not closed on all lanes are left
+    out."""
     on_lane = defaultdict(list)
     for site in sites:
         on_lane[site.link, site.lane].append(site)
@@ -159,7 +160,7 @@ def lanes_to_lead(works: Iterable[Works], mapping: Map) -> list[str]:
 
 
 def in_the_way(works: Iterable[Works], mapping: Map) -> list[Site]:
-    """The works, one for each lane, on edges of several links of which one at least is shut; lanes that are joint
+    """The works, the first on each lane, on edges of several links of which one at least is shut; lanes that are joint
     already are left out."""
     sites = sites_of(works, mapping)
     edges = {mapping.links[link].edge for link in shut_links(sites, mapping)}

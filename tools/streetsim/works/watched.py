@@ -102,7 +102,8 @@ class Watched:
 
     def note_passing(self, clock: int, lanes: Mapping[Place, Lane], bound: Bound) -> None:
         """Notes who has passed the begin of the works since the look before, with its delay in seconds, and who is on
-        the way to it."""
+        the way to it. Who is gone from a link that is looked at counts as past it; who was never seen before it has a
+        delay of 0."""
         before, beyond = self.sights(lanes)
         looked = {link for link, _ in lanes}
         gone = [car for car, one in self.coming.items() if car not in before and one.link in looked]
