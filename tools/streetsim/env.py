@@ -34,13 +34,13 @@ class SignalEnv:
     """The lights of a network as agents that choose their phases. words: of SUMO's command line without its name, as
     `traci.start` takes them.
 
-    An action is the number of a green phase. Where it differs from the present one, and that was green for `least`
-    seconds, yellow is shown for `yellow` seconds first. A step has `every` seconds; after `seconds` of the run its time
-    is over. An observation of a light: for each green phase 1 if it is shown, else 0; then 1 if the light may be
-    changed, else 0; then for each lane before it the share (0 to 1) of its room that vehicles take, and for each the
-    share that standing vehicles take. A reward is by how much the time that the vehicles before the light have waited
-    has fallen since the last reward, in hundreds of seconds. Calls that need the run's present state raise ValueError
-    where none is under way: before the first reset, or after close.
+    An action is the number of a green phase. Where it differs from the present one, and the light was not changed for
+    `least` seconds (those of yellow count), yellow is shown for `yellow` seconds first. A step has `every` seconds;
+    after `seconds` of the run its time is over. An observation of a light: for each green phase 1 if it is shown, else
+    0; then 1 if the light may be changed, else 0; then for each lane before it the share (0 to 1) of its room that
+    vehicles take, and for each the share that standing vehicles take. A reward is by how much the time that the
+    vehicles before the light have waited has fallen since the last reward, in hundreds of seconds. Calls that need the
+    run's present state raise ValueError where none is under way: before the first reset, or after close.
     """
 
     def __init__(
@@ -80,7 +80,8 @@ class SignalEnv:
         """Makes a step of every seconds. actions: {light: number of a green phase}; a light that is not named, or was
         changed or reset less than least seconds ago, stays as it is. Gives ({light: observation}, {light: reward},
         whether no vehicle is left, whether the time is over, figures). ValueError for a phase that a light does not
-        have, and where no run is under way; KeyError for an unknown light."""
+        have, and where no run is under way; KeyError for an unknown light. After either begin anew by reset, as lights
+        that were named before it may stay yellow."""
         session = self.running()
         changed = [name for name, action in actions.items() if self.choose(name, action)]
         for second in range(self.every):

@@ -52,8 +52,9 @@ class Scenario(Running):
     ) -> None:  # fmt: skip
         """run, mapping: paths of a run file and its map; program: as find_program takes it; workers: threads of the
         program; joint: edges or lanes to be closed later; rounds: runs that are made before, by which vehicles give
-        way. Fault (streetsim.files) where a file cannot be read, they do not belong together, or there is no program.
-        Warns (Python's warnings) of lights and stops that are other than in SUMO."""
+        way. Fault (streetsim.files) where a file cannot be read, they do not belong together, a round fails, or there
+        is no program; Refused (streetsim.client) where a line is refused. Warns (Python's warnings) of lights and stops
+        that are other than in SUMO."""
         source, read, _ = with_works(*read_with_map(run, mapping), mapping, [], Asking(tuple(joint)))
         super().__init__(source, read, rounds, program, workers)
         for told in filter(None, (*self.driving.lights.notes(), why_unmade(len(self.map.visits)))):
@@ -143,7 +144,7 @@ class Scenario(Running):
 
     def reopen(self, lane: str, begin: float = 0.0, end: float | None = None) -> None:
         """Opens what close closed, with the same lane and metres; end: None: the lane's end. Those who were given
-        another way keep it."""
+        another way keep it. KeyError for an unknown lane, ValueError for metres as of close."""
         self.reopen_lane(lane, begin, end)
 
     def trips(self) -> list[tuple[object, ...]]:

@@ -203,8 +203,8 @@ class Handler(BaseHTTPRequestHandler):
         return b"", "text/plain"
 
     def stay(self, name: str) -> None:
-        """Sends a byte each HEARD_EVERY seconds until another page is served. Where a byte cannot be sent, the page is
-        gone, and the bridge is free for another."""
+        """Sends a byte each HEARD_EVERY seconds until another page is served, or none. Where a byte cannot be sent, the
+        page is gone, and the bridge is free for another."""
         self.close_connection = True
         self.send_response(HTTPStatus.OK)
         self.send_header("Content-Type", "text/plain")

@@ -20,8 +20,8 @@ Reds = Iterable[tuple[Waiting, Sequence[int]]]  # who gives way, and for each se
 
 def crowded(mapping: Map, reds: Reds, passed: Passed, start: int) -> dict[str, int]:
     """{edge: how many vehicles pass these lanes then}, of edges of which lanes that give way are used for a share FULL
-    of their time or more, in some parts of PART seconds. reds: for each Waiting a byte for each second from start, 1:
-    red; passed: when vehicles passed."""
+    of their time or more, by LEAST vehicles or more, in some parts of PART seconds. reds: for each Waiting a byte for
+    each second from start, 1: red; passed: when vehicles passed."""
     found: Counter[str] = Counter()
     for (link, _), vehicles, share in uses(reds, passed, start):
         if share >= FULL and vehicles >= LEAST:

@@ -18,7 +18,8 @@ ALL = "all have arrived"
 
 
 def first_guess(run: Run) -> int:
-    """A clock by which most runs have ended: USUAL seconds after the last departure."""
+    """A clock by which most runs have ended: USUAL seconds after the last departure, or after the start where that is
+    later; the greatest clock at most."""
     last = max((line.command["depart"] for line in run.enters), default=0)
     return min(limits.CLOCK, max(last, run.start()) + USUAL)
 

@@ -76,8 +76,9 @@ def stands_of(passed: Passed, waits: Collection[TurnKey]) -> Stands:
 
 
 def standing(passing: Iterable[tuple[float, int, float]]) -> Iterator[tuple[float, int, float]]:
-    """(second, next link, how many seconds it stood) of each vehicle that passes the line of a lane: from when it came
-    there, or the one before it was FOLLOWING seconds gone. passing: as the values of Passed."""
+    """(second, next link, how many seconds it stood) of each vehicle that passes the line of a lane, by rising seconds:
+    from when it came there, or the one before it was FOLLOWING seconds gone; below 0 where it passes sooner than that.
+    passing: as the values of Passed."""
     free = -math.inf
     for second, following, due in sorted(passing):
         yield second, following, second - max(due, free)
@@ -123,10 +124,10 @@ def phases_of(reds: Sequence[Sequence[int]]) -> list[tuple[int, State]]:
 def red_seconds(
     waiting: Waiting, times: Times, start: int, end: int, stands: Stands | None = None
 ) -> bytearray | None:
-    """For the turns of one Waiting a byte for each second from start to end, 1 where they are red as somebody comes who
-    goes first, or to keep their pace; None where nobody comes and they have no pace. times: when vehicles pass, by
-    turn; stands: how long those stood at the line who give way too, and so were in the way before they passed, None:
-    nobody did."""
+    """For the turns of one Waiting a byte for each second from start to end (that one left out), 1 where they are red
+    as somebody comes who goes first, so that they use a gap slowly, or to keep their pace; None where nobody comes and
+    they have no pace. times: when vehicles pass, by turn; stands: how long those stood at the line who give way too,
+    and so were in the way before they passed, None: nobody did."""
     comes = [(second, foe) for foe in waiting.foes for second in times.get((foe.link, foe.lane, foe.next), ())]
     comes.sort(key=lambda one: one[0])
     if not comes and waiting.pace is None:
@@ -209,7 +210,7 @@ def close(red: bytearray, first: int, last: int) -> None:
 
 def followings(seconds: Sequence[float]) -> Iterator[tuple[float, float]]:
     """The stretches of time in which vehicles follow each other closely, (first second, last second), with CLOSE
-    seconds before and after; seconds: when they pass, rising."""
+    seconds before and after; they may overlap, and one vehicle alone has none. seconds: when they pass, rising."""
     first = 0
     for at in range(1, len(seconds) + 1):
         if at == len(seconds) or seconds[at] - seconds[at - 1] > CLOSE:
@@ -220,7 +221,7 @@ def followings(seconds: Sequence[float]) -> Iterator[tuple[float, float]]:
 
 def slow_down(red: bytearray, first: int, last: int) -> None:
     """Makes some seconds of red red in each gap between the seconds first and last from its begin: HIDDEN after every
-    SHOWN, so that no more vehicles use the gap than can."""
+    SHOWN, so that no more vehicles use the gap than can. Those of a gap that goes on may lie after last."""
     at = red.find(0, max(0, first), max(0, last))
     while at >= 0:
         close(red, at + SHOWN, at + SHOWN + HIDDEN)
@@ -228,8 +229,7 @@ def slow_down(red: bytearray, first: int, last: int) -> None:
 
 
 def be_patient(red: bytearray) -> None:
-    """Makes one second of red green after each PATIENCE seconds that are red without a break, so that one vehicle
-    goes."""
+    """Makes the last one of each PATIENCE seconds that are red without a break green, so that one vehicle goes."""
     at = red.find(1)
     while at >= 0:
         end = red.find(0, at)

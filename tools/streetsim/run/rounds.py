@@ -141,7 +141,8 @@ def giving_way_to_scripts(
 
 
 def script_end(run: Run) -> int:
-    """The clock until which rounds for a script go: an hour after its last departure."""
+    """The clock until which rounds for a script go: an hour after its last departure, or after the start where that is
+    later; the greatest clock at most."""
     last = max((line.command["depart"] for line in run.enters), default=run.start())
     return min(limits.CLOCK, max(last, run.start()) + HOUR)
 

@@ -61,7 +61,8 @@ class Watcher(Desk):
 
 
 def windows(clocks: Sequence[int], lanes: Sequence[Place]) -> list[Sequence[int]]:
-    """The clocks in parts, each of which one further run looks at; a part has LOOKS looks at a lane at most."""
+    """The clocks in parts, each of which one further run looks at; a part has LOOKS looks at a lane at most, but one
+    clock at least."""
     room = max(1, LOOKS // max(1, len(lanes)))
     return [clocks[at : at + room] for at in range(0, len(clocks), room)]
 

@@ -76,7 +76,8 @@ class VehicleCalls(Calls[Simulated]):
         return link.edge if place.cell is not None else f":{mapping.nodes[link.end][0]}"
 
     def getLaneIndex(self, name: str) -> int:
-        """SUMO's index of its lane; NOWHERE as a whole number where place_on_lane has none."""
+        """SUMO's index of its lane, in a junction of the one from which it came; NOWHERE as a whole number where
+        place_on_lane has none."""
         place = self.place_on_lane(name)
         return int(NOWHERE) if place is None else self.now().map.links[place.link].lanes[place.lane]
 
@@ -109,7 +110,8 @@ class VehicleCalls(Calls[Simulated]):
         return NOWHERE if place is None else place.speed * METRES
 
     def getLength(self, name: str) -> float:
-        """Metres of the vehicle: its cells without the gap ahead, 5 m for one cell, 12.5 m for two."""
+        """Metres of the vehicle: its cells without the gap ahead, 5 m for one cell, 12.5 m for two; 5 m before the
+        program was told of it."""
         return self.known(name).fleet.sizes.get(name, 1) * METRES - GAP
 
     def getMinGap(self, name: str) -> float:
@@ -180,7 +182,7 @@ class LaneCalls(StretchCalls[Simulated]):
         return [self.now().lane_of[name]]
 
     def getLastStepVehicleIDs(self, name: str) -> tuple[str, ...]:
-        """The names of the vehicles on it, the rearmost first."""
+        """The names of the vehicles on it, the rearmost first; of an edge, lane after lane, the last lane first."""
         return super().getLastStepVehicleIDs(name)[::-1]
 
     def getLength(self, name: str) -> float:
@@ -197,7 +199,7 @@ class LaneCalls(StretchCalls[Simulated]):
                 self.close(lane)
 
     def close(self, lane: str) -> None:
-        """Closes a whole lane, by SUMO's name."""
+        """Closes a whole lane, by SUMO's name, as close_lane does."""
         self.now().close_lane(lane)
 
     def setAllowed(self, name: str, classes: str | Sequence[str]) -> None:

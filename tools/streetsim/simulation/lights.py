@@ -74,7 +74,7 @@ class Control:
                 light.program, light.begin = program, self.offsets.get((name, program), 0.0)
 
     def light(self, name: str) -> Light:
-        """A light by its name; TraCIException where there is none."""
+        """A light by its name, with the program that it has by time of day; TraCIException where there is none."""
         self.change(self.simulation.clock - 1)
         if name not in self.lights:
             raise TraCIException(f"Traffic light '{name}' is not known")
@@ -86,7 +86,7 @@ class Control:
 
     def drive(self, name: str, program: str) -> bool:
         """Has detectors drive a light by one of its programs, from where they have brought that meanwhile; gives
-        whether they can."""
+        whether they can, and changes nothing where they cannot."""
         found = self.simulation.driving.driver.of(name, program)
         if found is not None:
             self.end_timers(name)
@@ -121,7 +121,8 @@ class Control:
 
     def show_program(self, name: str, phases: Phases, index: int, program: str, names: Sequence[str] = ()) -> None:
         """Shows other phases, (seconds, state), from the begin of the one at index on; detectors drive the light no
-        more. program: its name; names: of the phases. TraCIException for wrong states or a wrong index."""
+        more. program: its name; names: of the phases. TraCIException for wrong states, seconds not above 0 or a wrong
+        index; Fault as of Shown.program."""
         light = self.light(name)
         check_phases(name, phases, light.states)
         check_index(name, phases, index)
@@ -146,8 +147,8 @@ class Control:
 
     def end_phase(self, name: str, clock: int) -> None:
         """Shows the present phase until a clock, with permissive greens as full greens, and then the next one; a light
-        that detectors drive stays driven, and its greens as they are. TraCIException for a NEMA light that they
-        drive."""
+        that detectors drive stays driven, its greens as they are, and its phase goes on for one step at least.
+        TraCIException for a NEMA light that they drive."""
         light = self.light(name)
         if (driven := self.driven(name)) is not None:
             actuated_of(name, driven).end_at(max(clock, self.simulation.clock + 1))

@@ -66,7 +66,8 @@ def options_of(words: list[str]) -> dict[str, str]:
 
 
 def is_value(word: str) -> bool:
-    """Whether a word is the value of the option before it: it does not begin with "-", or is a number below 0."""
+    """Whether a word is the value of the option before it: it does not begin with "-", or a digit or a point follows
+    this, as in a number below 0."""
     return not word.startswith("-") or re.match(r"-[\d.]", word) is not None
 
 

@@ -17,14 +17,16 @@ class Remembering(Client):
         self.changes: list[bytes] = []
 
     def exchange(self, lines: Iterable[bytes]) -> Iterator[bytes]:
-        """Sends lines and gives the replies, as Client does; keeps the lines that are not questions."""
+        """Sends lines and gives the replies, as Client does; keeps the lines that are not questions, those that are
+        refused among them."""
         lines = list(lines)
         self.changes += [line for line in lines if not line.startswith(ASKING)]
         return super().exchange(lines)
 
     def repeat(self, changes: Sequence[bytes]) -> None:
         """Starts the program anew and sends some lines, which changed something in an earlier one; they are then its
-        own. Fault where there is no program any more."""
+        own. Their replies are not looked at. Fault where there is no program any more, ProgramEnded where the one
+        before ended with another status than 0."""
         self.close()
         super().__init__(*self.words)
         self.changes = list(changes)

@@ -60,7 +60,8 @@ def files_of(session: Session) -> dict[str, str]:
 
 def load_state(session: Session, path: str) -> None:
     """Brings a session to a state that was saved of the same files; from now on each step is looked at. TraCIException
-    where the file has no state, the state is of other files or words, or output files are being written."""
+    where the file cannot be read or has no state, the state is of other files or words, or output files are being
+    written; Fault where there is no program any more."""
     try:
         with open_text(path) as file:
             state = json.load(file)

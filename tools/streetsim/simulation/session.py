@@ -34,7 +34,7 @@ class Session(Simulation):
     ) -> None:
         """folder: has run.jsonl and map.json; facts: of SUMO's files; options: of SUMO's command line; rounds: of the
         run, made before, by which vehicles of the file give way without a light; program: None: the usual one. Fault
-        where the run or the map cannot be read, or the program not started."""
+        where the run or the map cannot be read, the program not started, or a round fails."""
         run, mapping, merging = read_run(folder / "run.jsonl"), read_map(folder / "map.json"), options.get("merge")
         self.driven = options.get("lights", "actuated") != "listed"
         super().__init__(run, mapping, rounds, program, merging=merging != "none")
@@ -60,12 +60,14 @@ class Session(Simulation):
 
     def write(self, paths: Mapping[str, str], period: int) -> None:
         """Has SUMO's output files written from now on, at these paths by kind (as `output_paths` of opening gives
-        them); each step is looked at from now on. period: seconds of the rows of edgeData."""
+        them); each step is looked at from now on. period: seconds of the rows of edgeData. Fault where one cannot be
+        written."""
         self.writer = Writer(dict(paths), self.map, self.dawdle, period, self.clock)
         self.follow()
 
     def close(self) -> None:
-        """Ends the run; output files that were written get their names."""
+        """Ends the run; output files that were written get their names. ProgramEnded where the status of the program is
+        not 0."""
         if self.writer is not None:
             self.writer.close()
         self.client.close()
@@ -230,7 +232,8 @@ class Session(Simulation):
 
     def turn_off(self) -> None:
         """Has the vehicles that are to take another way, and are at the node where it begins, enter its first link;
-        those whose way ends there are taken out, and arrive in the next step."""
+        those whose way ends there are taken out, and arrive in the next step. One that is no longer on the link before
+        that node is forgotten."""
         for car, (link, links) in list(self.pending.items()):
             place = self.view.places.get(car)
             if place is None or place.link != link:

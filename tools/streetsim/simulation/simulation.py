@@ -27,7 +27,8 @@ class Simulation:
         self, source: Run, mapping: Map, rounds: int, program: str | None = None, workers: int = 1, merging: bool = True
     ) -> None:  # fmt: skip
         """rounds: runs that are made before, by which vehicles of the file give way without a light; program: None: the
-        usual one; workers: its threads; merging: whether vehicles merge before works by turns."""
+        usual one; workers: its threads; merging: whether vehicles merge before works by turns. Fault where a round
+        fails or there is no program, what `refusal` gives where a first line is refused."""
         self.source, self.map = source, mapping
         self.clock, self.sent = source.start(), 0  # sent: how many of the file's timed lines
         self.shown = Shown(mapping, (line.command for line in source.first))
@@ -53,8 +54,8 @@ class Simulation:
     # Lines
 
     def send(self, lines: Iterable[bytes]) -> list[Any]:
-        """Sends lines, each with its end, and gives the typed replies; raises what refusal gives where one is
-        refused."""
+        """Sends lines, each with its end, and gives the typed replies; raises what refusal gives for the first that is
+        refused, when all were sent."""
         sent = list(lines)
         replies = [read_reply(text) for text in self.client.exchange(sent)]
         for line, reply in zip(sent, replies, strict=True):
@@ -180,8 +181,9 @@ class Simulation:
         return [(link, lane) for link in self.map.links_of[edge] for lane in range(len(links[link].lanes))]
 
     def close_lane(self, lane: str, begin: float = 0.0, end: float | None = None) -> None:
-        """Closes a lane, by SUMO's name, from begin to end metres (None: the lane's end), as road works do. ValueError
-        for metres beyond the lane, or an end not after the begin; KeyError for a lane that the import has not."""
+        """Closes a lane, by SUMO's name, from begin to end metres (None: the lane's end), as road works do, in whole
+        cells; the first four of a lane with another beside it stay open as far as the works allow. ValueError for
+        metres beyond the lane, or an end not after the begin; KeyError for a lane that the import has not."""
         self.change_works({"cmd": "close", **self.works_place(lane, begin, end)})
 
     def reopen_lane(self, lane: str, begin: float = 0.0, end: float | None = None) -> None:

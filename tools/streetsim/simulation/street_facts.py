@@ -72,7 +72,8 @@ class Facts:
 
     def read_edge(self, path: str, element: Element) -> None:
         """Notes the lanes of an edge and its street's name; of lanes inside a junction the metres alone. Fault where an
-        attribute is absent or malformed. path: for the Fault."""
+        attribute that must be there is absent or malformed, ValueError for a malformed width or shape. path: for the
+        Fault."""
         edge = attribute(path, element, "id")
         for lane in element.iter("lane"):
             name, metres = attribute(path, lane, "id"), attribute(path, lane, "length", number)
@@ -85,8 +86,9 @@ class Facts:
             self.streets[edge] = element.get("name") or ""
 
     def read_connection(self, element: Element) -> None:
-        """Notes a connection from a lane to a next one; of one inside a junction, on which lane it goes on. Its edges
-        must have been read before; one from another lane is passed over."""
+        """Notes a connection from a lane to a next one; of one inside a junction, on which lane it goes on. The edge
+        from which it leads must have been read before; one from another lane is passed over. ValueError for a malformed
+        linkIndex."""
         source, target = (
             f"{element.get(edge)}_{element.get(lane)}" for edge, lane in (("from", "fromLane"), ("to", "toLane"))
         )
@@ -104,7 +106,8 @@ class Facts:
 
     def read_light(self, path: str, element: Element) -> None:
         """Notes a program of a light; the last one of a light is the one that runs, the others can be chosen. One
-        without phases is passed over. Fault where an attribute is absent or malformed. path: for the Fault."""
+        without phases is passed over. Fault where an attribute that must be there is absent or malformed, ValueError
+        for a malformed offset. path: for the Fault."""
         phases = [
             (attribute(path, one, "duration", seconds), attribute(path, one, "state")) for one in element.iter("phase")
         ]
@@ -132,13 +135,14 @@ class Facts:
 
 
 def points(text: str | None) -> tuple[Point, ...]:
-    """The points (x, y) of a shape's text, in metres; empty for None."""
+    """The points (x, y) of a shape's text, in metres; empty for None. ValueError for a malformed one."""
     return tuple((float(x), float(y)) for x, y, *_ in (part.split(",") for part in (text or "").split()))
 
 
 def read_facts(net: str, additional: Sequence[str], routes: Sequence[str]) -> Facts:
     """The facts of a network and its additional files, and the named routes of route and additional files; all by
-    paths. Fault where a file cannot be read, or what is needed of it is absent or malformed."""
+    paths. Fault where a file cannot be read, or an attribute that must be there is absent or malformed; ValueError for
+    another one that is malformed."""
     facts = Facts()
     for path in (net, *additional):
         for element in elements(path, None):
@@ -153,7 +157,7 @@ def read_facts(net: str, additional: Sequence[str], routes: Sequence[str]) -> Fa
 
 def read_element(facts: Facts, path: str, element: Element) -> None:
     """Adds to the facts what an element of a network or an additional file tells; other elements are passed over. Fault
-    where an attribute is absent or malformed."""
+    where an attribute that must be there is absent or malformed, ValueError for another one that is malformed."""
     if element.tag == "edge":
         facts.read_edge(path, element)
     elif element.tag == "connection":

@@ -69,8 +69,8 @@ class Ways:
         return path, least
 
     def seconds(self, edge: str) -> float:
-        """The seconds of an edge: those that a script set, else by the mean speed of the vehicles on it, or its limit
-        where it is empty."""
+        """The seconds of an edge: those that a script set, else by the mean speed of the vehicles on it, 0.1 m/s at
+        least, or its limit where it is empty."""
         if edge in self.adapted:
             return float(self.adapted[edge])
         view, lanes = self.view, self.simulation.lanes_on(edge)

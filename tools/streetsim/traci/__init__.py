@@ -72,7 +72,8 @@ def simulationStep(step: float = 0) -> None:
 
 def close(wait: bool = True) -> None:
     """Ends the run: output files are written under their names, and all subscriptions, parameters and listeners are
-    forgotten. wait has no effect. FatalTraCIError where no run is under way."""
+    forgotten. wait has no effect. FatalTraCIError where no run is under way; ProgramEnded (streetsim.client) where the
+    status of the program is not 0."""
     session = _now()
     _running.clear()
     for domain in _domains:

@@ -9,7 +9,8 @@ class StepListener:
         return True
 
     def cleanUp(self) -> None:
-        """Is called at the end of the run, where the listener was not taken off before."""
+        """Is called at the end of the run, where the listener was not taken off before. Calls on the run raise
+        FatalTraCIError by then."""
 
     def setID(self, ID: int) -> None:
         """Sets the listener's number, as addStepListener does."""

@@ -133,8 +133,8 @@ class TrafficLight(Domain):
 
     def setPhaseDuration(self, name: str, seconds: float) -> None:
         """Has the present phase end so many seconds from now (rounded); the next ones last as in the program. Until it
-        ends who has g drives as with G, but at a light that detectors drive. TraCIException below 0, or where a program
-        of type NEMA drives the light."""
+        ends who has g drives as with G, but at a light that detectors drive, whose phase goes on for a second at least.
+        TraCIException below 0, or where a program of type NEMA drives the light."""
         control = self.now().control
         control.light(name)
         if not seconds >= 0:

@@ -140,18 +140,20 @@ class Vehicle(VehicleCalls[Session], Placed):
     # How long it stands, and what it lost
 
     def getWaitingTime(self, name: str) -> float:
-        """Seconds for which it has stood without a break; counted from the first call that looks at vehicles."""
+        """Seconds for which it has stood without a break; counted from the first call that looks at vehicles, and 0
+        before it departs."""
         car = self.number(name)
         return float(self.now().tally.waiting.get(car, 0))
 
     def getAccumulatedWaitingTime(self, name: str) -> float:
-        """Seconds for which it has stood in all; counted from the first call that looks at vehicles."""
+        """Seconds for which it has stood in all; counted from the first call that looks at vehicles, and 0 before it
+        departs."""
         car = self.number(name)
         return float(self.now().tally.waited.get(car, 0))
 
     def getTimeLoss(self, name: str) -> float:
-        """Seconds lost against free driving; counted while it is looked at, from the first call that looks at
-        vehicles."""
+        """Seconds lost against free driving, 0 at least; counted while it is looked at, from the first call that looks
+        at vehicles, and 0 before it departs."""
         car = self.number(name)
         return max(0.0, self.now().tally.lost.get(car, 0.0))
 
@@ -176,7 +178,7 @@ class Vehicle(VehicleCalls[Session], Placed):
 
     def getAllowedSpeed(self, name: str) -> float:
         """The limit of its lane in SUMO's file, metres a second, or the greatest speed of its type where that is less;
-        in a junction, and before it departs, that of its type alone."""
+        in a junction, and before it departs, that of its type alone; 55.6 at most."""
         place = self.place(name)
         lane = self.getLaneID(name)
         limit = self.now().facts.lanes[lane].speed if place is not None and place.cell is not None else FASTEST
@@ -199,8 +201,8 @@ class Vehicle(VehicleCalls[Session], Placed):
     # Its way
 
     def getRouteIndex(self, name: str) -> int:
-        """The place, in its route, of the edge where it is, in a junction of the one before, from 0; SUMO's value for
-        no number before it departs."""
+        """The place, in its route, of the edge where it is, in a junction of the one before, from 0, and where it
+        passes that twice always the first of the two; SUMO's value for no number before it departs."""
         _, place = self.where(name)
         return tc.INVALID_INT_VALUE if place is None else self.now().fleet.plans[name].index(place.link)
 
