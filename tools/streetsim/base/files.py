@@ -105,7 +105,7 @@ TextFile = IO[str] | ZippedText  # to write
 @contextlib.contextmanager
 def reading(path: FilePath) -> Iterator[None]:
     """While a file is read, turns what can go wrong (no such file, no XML or JSON, broken gzip, no UTF-8) into a Fault
-    with the file's name."""
+    with the file's name; a KeyError or IndexError of the block, too. An error of csv's stays as it is."""
     try:
         yield
     except ElementTree.ParseError as fault:
@@ -224,7 +224,7 @@ def filled(text: str) -> str:
 
 def seconds(text: str) -> float:
     """The seconds that a text writes as SUMO's times: 3.5, or 01:30:00, or 1:01:30:00 with days; ValueError where it is
-    none."""
+    none, or not between -10^9 and 10^12 s, both excluded. Minutes and seconds may be 60 or more."""
     parts = text.split(":")
     value = sum(float(part) * scale for part, scale in zip(reversed(parts), (1, 60, 3600, 86400), strict=False))
     if len(parts) not in (1, 3, 4) or not -1e9 < value < 1e12:
@@ -275,8 +275,9 @@ def refuse_equal(outputs: Mapping[str, FilePath], inputs: Iterable[FilePath] = (
 
 
 def refuse_places(folder: str, outputs: Mapping[str, FilePath | None], inputs: Iterable[FilePath]) -> None:
-    """Fault where outputs cannot be written: as refuse_equal has it, where a file has no folder or `folder` is none.
-    outputs: {what the user calls it: path}, None for one that is not wanted."""
+    """Fault where outputs cannot be written: as refuse_equal has it, where a file has no folder, where anything but a
+    regular file is at its place, or where `folder`, which need not be there, is none. outputs: {what the user calls it:
+    path}, None for one that is not wanted."""
     wanted = {name: path for name, path in outputs.items() if path is not None}
     refuse_equal(wanted, inputs)
     for path in wanted.values():
@@ -289,7 +290,8 @@ def refuse_places(folder: str, outputs: Mapping[str, FilePath | None], inputs: I
 @contextlib.contextmanager
 def whole_path(path: FilePath) -> Iterator[str]:
     """A path to write to. When the block ends, the file written there takes the place of the output `path`; after an
-    exception nothing is left and the output is as it was. Fault where it cannot be written."""
+    exception nothing is left and the output is as it was. Fault where it cannot be written; an OSError of the block
+    that names another file stays one. Waits, as half_file does, for another one of the same path in this process."""
     place = place_of(path)
     try:
         with half_file(place) as half:
@@ -311,8 +313,8 @@ def whole_file(path: FilePath) -> Iterator[TextFile]:
 
 @contextlib.contextmanager
 def whole_folder(path: FilePath, last: str, at_wish: Iterable[str] = ()) -> Iterator[str]:
-    """A folder to write to, whose files come to the output folder `path` together; after an exception that folder is as
-    it was. Fault where it cannot be written.
+    """A folder to write to, whose files come to the output folder `path` together; after an exception of the block that
+    folder is as it was. Fault where it cannot be written, and for any OSError of the block.
 
     A file of the name `last` is away while the others take their places, so that a folder without it is not whole.
     at_wish: names of files that are written only where the user asks for them: old ones of a run before are removed
@@ -374,7 +376,8 @@ def end_by_signal(number: int, _frame: FrameType | None) -> NoReturn:
 
 
 def run_tool(main: Main) -> NoReturn:
-    """Runs a tool's main function on the words of the command line and ends the process with its status."""
+    """Runs a tool's main function on the words of the command line and ends the process with its status, as status_of
+    has it; SIGTERM and SIGHUP end it as end_by_signal says."""
     for number in (signal.SIGTERM, signal.SIGHUP):
         signal.signal(number, end_by_signal)
     sys.exit(status_of(main))

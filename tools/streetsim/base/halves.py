@@ -45,7 +45,7 @@ def half_file(path: str) -> Iterator[str]:
 
 
 def is_half(path: str) -> bool:
-    """Whether a path is of what is being written (`half_folder`, `half_file`), or lies in it."""
+    """Whether a path is of what is being written (`half_folder`, `half_file`), or lies in it, by its names alone."""
     return any(part.startswith(FOLDER) or (part[:1] == "." and ".half" in part) for part in str(path).split(os.sep))
 
 

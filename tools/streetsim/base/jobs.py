@@ -23,8 +23,8 @@ def side_by_side(
     jobs: int = CORES,
     told: Told = lambda place, value: None,
 ) -> list[Result]:
-    """What a function gives for each item, in the items' order. Each runs in a process of its own, at most `jobs` at
-    once; results go through a pipe, so they must be what pickle takes.
+    """What a function gives for each item, in the items' order. Each runs in a process of its own, at most `jobs` (1 or
+    more) at once; results go through a pipe, so they must be what pickle takes.
 
     The function gets an item and a function to tell how far it is; what it tells goes to `told(place, value)`, place:
     of the item, from 0. A Fault of one ends all the others and is raised; where one fails otherwise, its traceback goes

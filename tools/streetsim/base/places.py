@@ -28,7 +28,8 @@ def example_files(example: Path) -> list[Path]:
 
 
 def examples() -> dict[str, Path]:
-    """{name of an example: its folder or file}."""
+    """{name of an example: its folder or file}, without those that have no file; SESSIONS are among them in the
+    repository alone."""
     folder = PREFIX / "share/streetsim/examples" if PREFIX else TOP / "tools/examples"
     found = {path.name: path for path in sorted(folder.glob("*")) if example_files(path)}
     sessions = TOP / "examples"

@@ -78,7 +78,8 @@ class Meanwhile(TerminalLine):
 
 class UnderWay(TerminalLine):
     """A line on the terminal with the clock of a run, or how many of several runs are done; vehicles on their way,
-    arrived, steps a second. It is not taken away in the end."""
+    arrived, steps a second. Shares and steps are reckoned as if each run began at clock 0. It is not taken away in the
+    end."""
 
     def __init__(self, until: int, runs: int = 1, stream: IO[str] | None = None) -> None:
         """until: the clock at which each run ends; runs: how many there are. stream: of the line, None: standard

@@ -35,9 +35,9 @@ class Report:
         self.__init__()  # type: ignore[misc]  # nobody derives a class from this one
 
     def warn(self, text: str, names: Iterable[str] = (), do: str = "", light: bool = False, kind: str = "") -> None:
-        """Notes what is other than in SUMO, once for each text. names: the ids that it is of; do: what the user may do
-        about it; light: it changes results little, if at all; kind: how several of its kind are told in one line,
-        behind their count and before the ids; empty: each has its line."""
+        """Notes what is other than in SUMO, once for each text; of the same text again nothing is taken. names: the ids
+        that it is of; do: what the user may do about it; light: it changes results little, if at all; kind: how several
+        of its kind are told in one line, behind their count and before the ids; empty: each has its line."""
         if text not in self.warnings:
             self.warnings.append(text)
             self.more[text] = (LIGHT if light else HEAVY, tuple(names), do)

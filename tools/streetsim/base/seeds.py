@@ -18,7 +18,7 @@ STUDENT = (
 
 def seeds_of(text: str | int, name: str) -> range:
     """The seeds of a text FIRST-LAST, both included, or of one number; Fault where it is neither, or names more than
-    1,000. name: what the user calls them."""
+    1,000 or one of 2^64 or more. name: what the user calls them."""
     first, _, last = str(text).partition("-")
     last = last or first
     if not (first.isdecimal() and last.isdecimal() and int(first) <= int(last) < min(int(first) + MOST_SEEDS, 2**64)):
@@ -55,7 +55,8 @@ def unpaired(before: Sequence[float], after: Sequence[float]) -> float:
 
 def runs_needed(deviation: float, error: float) -> int | None:
     """The least number of runs, two at least, whose 95 % interval reaches at most `error`, in the values' unit, to each
-    side: n = (t s / e)^2 with the t of n - 1; none above a million. deviation: the standard deviation, same unit."""
+    side: n = (t s / e)^2 with the t of n - 1; none where 2^20, somewhat more than a million, are too few. deviation:
+    the standard deviation, same unit."""
     low, high = 2, 2
     while half_width(deviation, high) > error:
         if high >= MOST_RUNS:
@@ -69,8 +70,8 @@ def runs_needed(deviation: float, error: float) -> int | None:
 
 def seeds_for(values: Sequence[float]) -> int:
     """How many seeds a search needs, by the values of two or more runs of the given plan: one where their standard
-    deviation is at most 0.5 % of the mean; else so many that the standard error of the mean is at most 1 % of it, 2 to
-    10."""
+    deviation is at most 0.5 % of the mean, or this is 0; else so many that the standard error of the mean is at most
+    1 % of it, 2 to 10."""
     relative = stdev(values) / fmean(values) if fmean(values) else 0.0
     return 1 if relative <= SEARCH_SPREAD else min(MOST_SEARCHED, max(2, ceil((relative / SEARCH_ERROR) ** 2)))
 

@@ -13,7 +13,7 @@ def lengths(line: Line) -> list[float]:
 
 
 def along(line: Line, share: float) -> Point:
-    """The point at a share (0 to 1) of the length of a line."""
+    """The point at a share (0 to 1) of the length of a line, of one point at least."""
     at, rest = segment_at(line, share)
     if at is None:
         return float(line[-1][0]), float(line[-1][1])
@@ -22,7 +22,8 @@ def along(line: Line, share: float) -> Point:
 
 
 def heading(line: Line, share: float) -> float:
-    """The direction at a share (0 to 1) of the length of a line, in degrees clockwise from north."""
+    """The direction at a share (0 to 1) of the length of a line, two points at least, in degrees clockwise from
+    north."""
     at, _ = segment_at(line, share)
     (ax, ay), (bx, by) = line[at if at is not None else -2], line[at + 1 if at is not None else -1]
     return degrees(atan2(bx - ax, by - ay)) % 360
@@ -30,7 +31,7 @@ def heading(line: Line, share: float) -> float:
 
 def segment_at(line: Line, share: float) -> tuple[int | None, float]:
     """(number of the first point of the part of a line in which a share (0 to 1) of its length lies, share of that
-    part); (None, 0.0) behind the line's end."""
+    part); (None, 0.0) behind the line's end, and where it has no length."""
     left = share * sum(lengths(line))
     for at, size in enumerate(lengths(line)):
         if left <= size and size:

@@ -60,8 +60,9 @@ def main(arguments: list[str]) -> int:
 
 
 def check_page(words: argparse.Namespace) -> int:
-    """Checks a sealed page, and prints the result; gives the status as `main` does. Fault where it cannot be read, is
-    not sealed, its seal was changed, or it cannot be made again."""
+    """Checks a sealed page, and prints the result; gives the status as `main` does. Pictures of points that another
+    matplotlib drew are left out. Fault where it cannot be read, is not sealed, its seal was changed, or it cannot be
+    made again."""
     with reading(words.target), open_text(words.target) as file:
         text = file.read()
     seal = seal_of(words.target, text)

@@ -29,7 +29,7 @@ def machine_words(words: argparse.Namespace) -> list[str]:
 def folder_again(words: argparse.Namespace, out: str) -> str:
     """Makes the runs of the folder `words.target` again, and writes them into `out`; gives the folder that stands for
     the target: `out`, or below it that of the seed where the target is of one seed of several. Fault where the target
-    does not keep what made it, its seeds do not follow each other, or a run fails."""
+    does not keep what made it, its seeds do not follow each other, or a run fails. Prints what streetsim-run does."""
     plan, files = plan_of(read_folders(words.target), 1)
     with tempfile.TemporaryDirectory() as place:
         os.mkdir(f"{place}/plan-1")
@@ -44,7 +44,7 @@ def folder_again(words: argparse.Namespace, out: str) -> str:
 
 def study_again(words: argparse.Namespace, out: str) -> str:
     """Makes the study of the folder `words.target` again, into `out`, which it gives; Fault where its file is gone or
-    has changed since, and where a run fails."""
+    has changed since, and where a run fails. Prints what streetsim-study does."""
     made = read_json(f"{words.target}/{MADE}", ("study", "sum", "words"))
     path = words.study or os.path.join(words.target, made["study"])
     if sum_of(path) != made["sum"]:

@@ -87,7 +87,8 @@ def with_sumo(path: str, files: list[str]) -> int:
 def with_counts(path: str, files: list[str], attribute: str | None, out: str | None) -> int:
     """Prints how a folder meets counts by the usual criteria for each hour; writes tables and pictures where a folder
     `out` is named. attribute: of SUMO's files, that is the count, or none. Status 1 where the criteria are not met,
-    else 0. Fault where a file cannot be read or written."""
+    else 0; that the run is not to be trusted is printed and does not change it. Fault where a file cannot be read or
+    written."""
     with Slow(f"reading {path}") as shown:
         folder = read_folder(path)
         counts = read_counts(files, attribute)

@@ -88,8 +88,9 @@ def add_fit(made: argparse.ArgumentParser) -> None:
 
 def main(arguments: Sequence[str]) -> int:
     """Runs streetsim-demand: makes the demand, writes its files and prints how well it fits; gives its status, as
-    `making.tell` says. Fault for words that do not fit, files that cannot be read or written, and inputs from which no
-    demand can be made."""
+    `making.tell` says. Without --begin, or with 0, the demand begins with the first slice, which may lead in to the
+    counts. Fault for words that do not fit, files that cannot be read or written, and inputs from which no demand can
+    be made."""
     words = parser().parse_args(arguments)
     asked, outputs = asked_of(words), Outputs(words.output, words.out, words.run, words.map)
     check_words(words)

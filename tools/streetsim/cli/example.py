@@ -30,7 +30,8 @@ def goals(example: Path, folder: Path) -> dict[Path, Path]:
 
 
 def put(example: Path, folder: Path) -> int:
-    """Copies an example into a folder, which is made, and gives how many files it has; Fault where that fails."""
+    """Copies an example into a folder, which is made, and gives how many files it has; Fault where that fails, before
+    any is copied where one is there already, else with those left that were copied."""
     found = goals(example, folder)
     try:
         for path, goal in found.items():

@@ -141,7 +141,8 @@ def add_numbers(made: argparse.ArgumentParser) -> None:
 
 
 def options_of(words: argparse.Namespace) -> Options:
-    """The options that the words of `add_options` name; Fault where they do not fit to each other."""
+    """The options that the words of `add_options` name; Fault where they do not fit to each other, --permissive is no
+    share, or SUMO does not have a class of --classes."""
     if words.permissive is not None and not 0 <= words.permissive <= 1:
         raise Fault("--permissive is a share from 0 to 1")
     if words.end is not None and words.end <= words.begin:
@@ -160,9 +161,9 @@ def options_of(words: argparse.Namespace) -> Options:
 
 
 def words_of(arguments: list[str]) -> tuple[argparse.Namespace, dict[str, str]]:
-    """The words of a command, where no word is given completed by the configuration (-c) that they name; and the
-    options of that configuration, empty where they name none. Fault where no network is named, or the configuration
-    cannot be read."""
+    """The words of a command, where no word is given completed by the configuration (-c) that they name (its routes
+    only without --trips); and the options of that configuration, empty where they name none. Fault where no network is
+    named, or the configuration cannot be read."""
     made = parser()
     words = made.parse_args(arguments)
     if not words.configuration:

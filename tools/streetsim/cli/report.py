@@ -200,8 +200,9 @@ def counts_told(runs: Runs, words: argparse.Namespace) -> str:
 
 
 def sheets_told(plans: Sequence[Runs], timings: Sequence[Timings], asked: str) -> str:
-    """The timing sheets of lights, as HTML. timings: by plan; asked: lights with commas between, or ALL. Fault where a
-    run does not keep their programs, or a light is not among them."""
+    """The timing sheets of lights, as HTML. timings: by plan; asked: lights with commas between, or ALL: all of one
+    plan, or those that change from the first of two, with a sentence where none does. Fault where a run does not keep
+    their programs, or a light is not among those of the last."""
     for runs, own in zip(plans, timings, strict=True):
         if not own:
             why = "the files of the import were gone or had changed when it was run"
@@ -265,7 +266,8 @@ def drawn_sum(folder: Folder, words: argparse.Namespace, back: bool) -> str:
 
 
 def leads_back(folder: Folder, edges: str) -> bool:
-    """Whether each edge of a path (names with blanks or commas between) has one of the other direction."""
+    """Whether each edge of a path (names with blanks or commas between) has one of the other direction; false for an
+    edge that the map does not have."""
     try:
         return bool(way_back(folder, listed(edges)))
     except Fault:

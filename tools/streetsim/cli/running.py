@@ -157,8 +157,8 @@ def report(figures: Figures, name: str) -> None:
 
 def run_seeds(words: argparse.Namespace, making: Making, run: Run, mapping: Map, settings: Settings) -> int:
     """Makes a run for each seed of --seeds, side by side, each into a folder of its own below --out; prints and writes
-    (seeds.csv) each mean trip, and prints their mean and its 95 % interval. Gives status 0. Fault where seeds are none,
-    a run fails, or a file cannot be written."""
+    (seeds.csv) each mean trip, and prints their mean and its 95 % interval, seeds in which nobody arrived left out.
+    Gives status 0. Fault where seeds are none, a run fails, or a file cannot be written."""
     seeds, making = seeds_of(words.seeds, "--seeds"), replace(making, jobs=1)
     shown = UnderWay(settings.until, len(seeds))
     with whole_folder(words.out, NAME, AT_WISH) as folder:

@@ -44,8 +44,8 @@ class Areas:
     seen: dict[tuple[str, int], Area] = field(default_factory=dict)  # by name and begin
 
     def sample(self, clock: int, cells_of: Callable[[tuple[int, int]], Cells]) -> None:
-        """Adds to `seen` what is in each e2 at a poll of the lanes at a clock; cells_of gives the cells of the lane's
-        reply of a (link, lane)."""
+        """Adds to `seen` the vehicles whose fronts are in each e2 at a poll of the lanes at a clock, which counts to
+        the period of the second before it; cells_of gives the cells of the lane's reply of a (link, lane)."""
         for one in self.detectors:
             begin = self.start + (clock - 1 - self.start) // one.period * one.period
             area = self.seen.setdefault((one.name, begin), Area())
@@ -64,8 +64,8 @@ def size_of(entry: Sequence[int]) -> int:
 
 
 def metres_in(entry: Sequence[int], first: int, cell_metres: float = limits.CELL_METRES) -> float:
-    """The metres of a vehicle, without its gap, that lie in the cells from `first` on; entry: [car, cell, speed], with
-    the size where it is above 1; cell_metres: metres of a cell of its lane."""
+    """The metres of a vehicle, without its gap, that lie in the cells from `first` on, in which its front is; entry:
+    [car, cell, speed], with the size where it is above 1; cell_metres: metres of a cell of its lane."""
     return min(size_of(entry) * limits.CELL_METRES - limits.GAP_METRES, (entry[1] - first + 1) * cell_metres)
 
 

@@ -30,7 +30,7 @@ class Alone:
     """Mean seconds of vehicles alone on their way, all lights green: what delays and losses are counted from."""
 
     def __init__(self, mapping: Map, dawdle: float) -> None:
-        """dawdle: the chance, 0 to 1, to go on by a cell a step less."""
+        """dawdle: the chance, 0 to 1, to go on by a cell a step less; above 0.999 it counts as 0.999."""
         self.mapping, self.slower = mapping, min(dawdle, 0.999)
 
     def on_link(self, link: int, before: int | None) -> float:
@@ -55,7 +55,8 @@ class Alone:
 
 def seconds_alone(cells: int, limit: int, slower: float, speed: int) -> float:
     """The mean steps of a vehicle alone, which begins with a speed, until it has left `cells` cells behind; limit,
-    speed: cells a step; slower: the chance, 0 to 1, to go on by a cell less."""
+    speed: cells a step, a speed above the limit counts as this; slower: the chance, 0 to below 1, to go on by a cell
+    less."""
     found = steps_by_cells(limit, slower)[min(speed, limit)]
     return found[min(cells, FAR)] + max(0, cells - FAR) / (limit - slower)
 

@@ -36,7 +36,8 @@ class MapLink:
 
     def cells_between(self, begin: float, end: float) -> tuple[int, int]:
         """The (first, last) cell, from 0, both included, from one place of the lane to another, in metres from its
-        begin."""
+        begin: from the cell in which the first place lies to the one whose end is nearest to the second; one cell at
+        least. Places off the lane count as its ends."""
         size = self.metres / self.cells
         first = min(self.cells - 1, max(0, int(begin / size)))
         return first, min(self.cells - 1, max(first, round(end / size) - 1))

@@ -36,7 +36,7 @@ class Run:
     needed: list[int] = field(default_factory=list)  # by enter: least depart of it and those after it in the file
 
     def start(self) -> int:
-        """The clock at its begin, which its load gives."""
+        """The clock at its begin, which its load gives; 0 where it gives none."""
         return self.load.command.get("start", 0)
 
     def signals(self) -> list[Sent]:
@@ -88,8 +88,8 @@ def run_of_texts(path: FilePath, texts: Iterable[str]) -> Run:
 
 
 def run_of(path: FilePath, lines: Sequence[Line]) -> Run:
-    """The run of some lines, of which the first is the load; others may stand in any order. path: of the file, kept for
-    faults."""
+    """The run of some lines, of which the first is the load; others may stand in any order. An "at" of an enter has no
+    effect. path: of the file, kept for faults."""
     run = Run(path, lines[0])
     for line in lines[1:]:
         if line.command["cmd"] == "enter":

@@ -118,7 +118,8 @@ def intergreen(first: str, second: str) -> int | None:
 
 
 def together(movements: Iterable[tuple[str, str, int]]) -> list[Movement]:
-    """The movements of (edge, next edge, place in the state): one for each pair of edges, with all its places."""
+    """The movements of (edge, next edge, place in the state), sorted by edges: one for each pair of edges, with all its
+    places, rising."""
     found: dict[tuple[str, str], list[int]] = {}
     for edge, to, place in movements:
         found.setdefault((edge, to), []).append(place)

@@ -128,7 +128,7 @@ def of_entries(trips: Trips, censuses: Sequence) -> Iterator[str]:
 def of_waiting(waiting: Mapping[str, Sequence[tuple[int, int]]], vehicles: int) -> Iterator[str]:
     """What speaks against the means of several runs, a text each, because at their worst minutes more than a twentieth
     of the vehicles, by the mean over the runs, waited to enter. waiting: {name of the runs: (vehicles that waited,
-    clock) of each}; vehicles: how many a run has."""
+    clock) of each, one at least}; vehicles: how many a run has."""
     for name, runs in waiting.items():
         count, clock = (fmean(column) for column in zip(*runs, strict=True))
         if count > MOST_WAITING * vehicles:

@@ -81,7 +81,7 @@ class Figures:
 def one_run(making: Making, run: Run, mapping: Map, settings: Settings, folder: str, tell: Tell) -> Figures:
     """Makes one run, after the rounds by which its vehicles give way, writes all that was asked for into a folder that
     is there, and gives its figures. tell: gets the clock and the last census while it goes. Fault where the program
-    refuses a command."""
+    refuses a command, or a file cannot be written."""
     given, start = run, partial(making.serving, run)
     run, yielding = giving_way(run, mapping, settings, making.rounds, start, tell)
     with whole_file(f"{folder}/lanes.jsonl.gz") as lanes_file, start() as sim:

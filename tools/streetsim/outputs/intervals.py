@@ -84,7 +84,7 @@ class Edgedata(XmlFile):
 
     def row(self, edge: str, sums: EdgeSums, seconds: int) -> str:
         """The attributes of an edge over an interval; seconds: its length. Speeds and densities are left out where
-        nobody was on it."""
+        nobody was on it, and the travel time where nobody moved."""
         links = [self.links[link] for link in self.places.mapping.links_of[edge]]
         lanes, metres = sum(len(link.lanes) for link in links), links[0].metres
         seen = {}
@@ -194,7 +194,9 @@ class Loops(Detectors):
 
     def note_pass(self, one: Detector, sums: LoopSums, last: At, now: At | None) -> None:
         """Adds to the sums of an e1 a vehicle that was on the loop or before it in the second before (last), if it is
-        behind it now; now: none where it is gone. Who left the edge is taken to have kept its lane."""
+        behind it now; now: none where it is gone. Who left the edge is taken to have kept its lane, and counts even
+        where it was taken out on the loop or before it; its speed is that of `last`, or a cell a second where it
+        stood."""
         gone = now is None or now.link != one.link or now.cell is None
         lane = now.lane if now is not None and now.link == one.link else last.lane
         if lane == one.lane and (gone or (now is not None and now.front > one.first)):

@@ -82,7 +82,7 @@ class Follower:
     def see(self, clock: int, lanes: Iterable[Sequence[Any]], arrived: Iterable[int]) -> Second:
         """Takes the second that ends at a clock, and gives what it shows; called for every second, rising. lanes:
         [link, lane, cells, cars in the buffer, ..] as a folder's polls have them, empty lanes left out; arrived: the
-        cars that arrived in it."""
+        cars that arrived in it, a list or the like, as it is read twice."""
         second = Second(clock, self.trips, before=self.before)
         for link, lane, cells, buffer, *_ in lanes:
             for entry in cells:

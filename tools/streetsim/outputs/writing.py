@@ -28,7 +28,7 @@ class Outputs(contextlib.ExitStack):
         self, paths: dict, mapping: Map, dawdle: float, period: int = 900, start: int = 0, rescued: Sequence[int] = ()
     ) -> None:
         """Opens the files; paths: {kind of KINDS: path}; other arguments as above. Fault where one cannot be
-        written."""
+        written, KeyError for another kind."""
         super().__init__()
         self.follower, self.start = Follower(mapping, dawdle), start
         self.wished: list[int] = []
@@ -65,7 +65,7 @@ class Outputs(contextlib.ExitStack):
 
     def step(self, clock: int, lanes: Iterable[Sequence[Any]], arrived: Iterable[int]) -> None:
         """Takes the second that ends at a clock; called for every second, rising. lanes: [link, lane, cells, cars in
-        the buffer, ..] of each lane where anything is; arrived: the cars that arrived in it."""
+        the buffer, ..] of each lane where anything is; arrived: the cars that arrived in it, a list or the like."""
         second = self.follower.see(clock, lanes, arrived)
         for writer in self.writers:
             writer.step(second)

@@ -35,7 +35,7 @@ class Costs:
 
 def costs_of(before: Runs, after: Runs) -> Costs:
     """The changes of trips of the same vehicles and seeds from one plan to another, in all and by flow (where ten of a
-    flow are in a run), and how many arrived with one plan alone."""
+    flow are in a run), and how many arrived with one plan alone. Fault where trips.csv cannot be read."""
     found, sums = Costs(), defaultdict[str, tuple[dict, dict]](lambda: ({}, {}))
     counts: defaultdict[str, int] = defaultdict(int)
     for seed in sorted(before.folders.keys() & after.folders.keys()):

@@ -45,7 +45,8 @@ def asked(question: str, plans: Sequence[Runs], shown: Interval) -> str:
 
 
 def verdict(plans: Sequence[Runs], shown: Interval) -> str:
-    """The verdict in a few sentences, as HTML, with a mark where runs are not to be trusted."""
+    """The verdict in a few sentences, as HTML, with a mark where runs are not to be trusted. Fault where trips.csv
+    cannot be read."""
     said = change_verdict(plans, shown) if len(plans) == 2 else state_verdict(plans[0], shown)
     untrusted = [runs.name for runs in plans if doubts_of(runs)]
     told = f"Not to be trusted: {' and '.join(untrusted)} (why: below)."
@@ -92,7 +93,7 @@ def state_verdict(runs: Runs, shown: Interval) -> str:
 
 def map_section(runs: Runs, shown: Interval, rows: Sequence[Told] = (), detailed: int = 0) -> str:
     """The map of a plan in an interval by level of service, with its legend, as HTML. rows: of junctions, which are
-    marked where they change; the first `detailed` of them are links to their sections."""
+    marked where they change; the first `detailed` of them are links to their sections. Fault as of seen_in of works."""
     names, told = runs.names, runs.names.junction_told
     approaches = {
         row.key[1]: (row.letter(), f"{row.key[1]} {names.approach(row.key[1])}: {row.delay:.1f} s, {row.letter()}")
@@ -115,7 +116,7 @@ def map_section(runs: Runs, shown: Interval, rows: Sequence[Told] = (), detailed
 
 def costs(plans: Sequence[Runs], shown: Interval) -> str:
     """What a plan costs whom, as HTML: the worst movements, trips by class, and with two plans how trips of the same
-    vehicles change, in all and by flow."""
+    vehicles change, in all and by flow. Fault where trips.csv cannot be read."""
     movements = junctions_of(plans, shown, "movements")
     texts = [*worst_movements(movements, plans[-1])]
     if len(plans) < 2:
@@ -126,7 +127,7 @@ def costs(plans: Sequence[Runs], shown: Interval) -> str:
 
 def classes_table(plans: Sequence[Runs]) -> str:
     """A table of the trips and delays of buses, cars and other classes, with two plans before and after, as HTML; empty
-    where all vehicles are of one class."""
+    where all that arrived are of one class. Fault where trips.csv cannot be read."""
     found = [means_by_class(runs) for runs in plans]
     classes = sorted(found[0].keys() | found[-1].keys(), key=lambda vclass: (vclass != BUS, vclass))
     if len(classes) < 2:

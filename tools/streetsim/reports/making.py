@@ -25,7 +25,7 @@ class Wishes:
 
 def report_of(plans: Sequence[Runs], shown: Interval, wishes: Wishes) -> str:
     """The whole page, as HTML, of one plan, or of two, before and after, in the interval that is shown, one of those of
-    the junction tables (KeyError for another one)."""
+    the junction tables (KeyError for another one). Fault where a table of the runs cannot be read."""
     rows = council.junctions_of(plans, shown)
     detailed = 0 if wishes.is_short else min(len(rows), wishes.detailed)
     first = [

@@ -20,7 +20,8 @@ def less_or_more(change: float) -> str:
 
 
 def between(one: Difference) -> str:
-    """The 95 % interval of a change in seconds: '17.7 to 18.1 s less'; empty for one seed."""
+    """The 95 % interval of a change in seconds: '17.7 to 18.1 s less', or 'from 0.3 s less to 0.5 s more' where 0 is in
+    it; empty for one seed."""
     if one.half is None:
         return ""
     low, high = one.change - one.half, one.change + one.half

@@ -136,8 +136,8 @@ def phases_table(timing: Timing) -> str:
 
 
 def greens_table(timing: Timing, names: Names, before: Timing | None) -> str:
-    """A table of the seconds of green, yellow and red of each movement, as HTML; before: of the plan before, whose
-    greens stand beside; None: there is none."""
+    """A table of the seconds of green, yellow and red, which is all else, of each movement, as HTML; before: of the
+    plan before, whose greens stand beside; None: there is none."""
     rows, first = [], {(one.edge, one.to): one for one in before.movements} if before else {}
     for one in timing.movements:
         signs = timing.signs(one)

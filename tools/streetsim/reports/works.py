@@ -35,8 +35,8 @@ class Seen:
 
 
 def seen_in(runs: Runs) -> list[Seen]:
-    """The works of a plan, in the order of works.csv; empty where it had none. Fault where works.csv has other
-    columns."""
+    """The works of a plan, in the order of works.csv; empty where it had none. Fault where works.csv or queues.csv
+    cannot be read."""
     found: dict[Place, Seen] = {}
     for folder in runs.folders.values():
         rows = rows_of(folder)
@@ -67,14 +67,14 @@ def note_queues(folder: Folder, places: Sequence[Seen]) -> None:
 
 
 def polls(folder: Folder, first: int, last: int) -> range:
-    """The clocks at which lanes were polled, after a first second and up to a last one; empty where nothing was
-    polled."""
+    """The clocks at which lanes were polled, after a first second and up to a last one, which is included; empty where
+    nothing was polled."""
     every = folder.every
     return range((first // every + 1) * every, last + 1, every) if every else range(0)
 
 
 def stretches(runs: Runs) -> list[Shape]:
-    """The shapes, points (x, y), of what is closed in a plan, for a map."""
+    """The shapes, points (x, y), of what is closed in a plan, for a map. Fault as of seen_in."""
     mapping = runs.first.mapping
     return [part_of(mapping, seen.place) for seen in seen_in(runs)]
 

@@ -27,7 +27,8 @@ def giving_session(
 ) -> Session:
     """The session of a run whose vehicles give way without a light by so many rounds. settings: its end, whether that
     is open, merging before works, lights that detectors drive and stops that are made; without: nodes whose signals are
-    given with each run; load: fields of the load with other values."""
+    given with each run; load: fields of the load with other values. The session has a giving only where there are
+    rounds and turns that give way, an open end, such lights or stops, or works."""
     until = settings.until
     session = session_of(program, run, until, without, **load)
     gives_way = rounds and mapping.yields
@@ -46,7 +47,7 @@ def is_driven(of: Settings | Giving) -> bool:
 def gaps(session: Session, signals: bytes, seed: int) -> tuple[list, Yielding]:
     """(the signal lines, (clock, line), by which vehicles of a session give way without a light; at how many junctions,
     by how many lines), found by runs with a seed and some signals of its lights, as lines in bytes. An empty list where
-    the session has no giving."""
+    the session has no giving. Fault where a run fails."""
     giving = session.giving
     if giving is None:
         return [], Yielding()
@@ -67,8 +68,8 @@ def with_gaps(session: Session, lines: list) -> Session:
 
 
 def for_search(session: Session, lines: list) -> Session:
-    """The session as with_gaps makes it; where works lie in its run, and vehicles are to merge before them, it keeps a
-    giving without rounds, by which seconds_at_works has them merge."""
+    """The session, which must have a giving, as with_gaps makes it; where works lie in its run, and vehicles are to
+    merge before them, it keeps a giving without rounds, by which seconds_at_works has them merge."""
     giving, made = session.giving, with_gaps(session, lines)
     if giving is None or not (giving.merging and closures_of(giving.run, giving.until)):
         return made

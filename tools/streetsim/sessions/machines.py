@@ -146,9 +146,10 @@ def hold(sessions: Sequence[Held]) -> None:
 
 @contextlib.contextmanager
 def cluster_of(address: str, sessions: Sequence[Held]) -> Iterator[Machines]:
-    """The workers of a dask scheduler at an address, until the block ends. Fault where dask is not installed, the
-    address is not HOST:PORT, no scheduler answers or has a worker in PATIENCE seconds, a worker does not have the
-    program that is here, or the workers cannot be made ready."""
+    """The workers of a dask scheduler at an address, until the block ends; dask's log and its warnings are silenced in
+    this process, and stay so. Fault where dask is not installed, the address is not HOST:PORT, no scheduler answers or
+    has a worker in PATIENCE seconds, a worker does not have the program that is here, or the workers cannot be made
+    ready."""
     try:
         from distributed import Client
     except ImportError:

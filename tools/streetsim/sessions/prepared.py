@@ -69,8 +69,9 @@ class Outcome:
 
 
 def session_of(program: str, run: Run, until: int, without: Collection[int] = frozenset(), **load: int) -> Session:
-    """The session of a run up to a clock, but for the signals that it has before its first step at the nodes in
-    without; load: fields of the load with other values."""
+    """The session of a run up to a clock (until), but for the signals that it has before its first step at the nodes in
+    without; timed lines and departures at that clock or later are left out. load: fields of the load with other values.
+    Runs the program once, as words_of does."""
     command = {**run.load.command, **load}
     command.pop("seed", None)
     first = [line for line in run.first if not (line.command["cmd"] == "signal" and line.command["node"] in without)]
