@@ -115,8 +115,9 @@ class Stopping:
         return self.stand(clock, self.held, lanes)
 
     def stand(self, clock: int, bus: Seen, lanes: Mapping[int, Sequence[Seen]]) -> int:
-        """Stays, with the cell before it closed, until its time is over; then the stop is made. Gives the seconds until
-        the next look."""
+        """Stays, with the cell before it closed, until its time is over; then the stop is made, on its lane or the
+        other. That is its seconds of starting after its doors close, sooner by QUEUED for each who stands behind it.
+        Gives the seconds until the next look."""
         if self.goes is None and clock >= self.leaves:
             behind = sum(one.cell < bus.cell and one.speed == 0 for one in lanes.get(self.lane, ()))
             self.goes = clock + max(0, round(self.visit.starting - QUEUED * behind))

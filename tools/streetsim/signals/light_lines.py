@@ -26,7 +26,8 @@ class Flowing:
 
 def read_plans(paths: Sequence[str], mapping: Map) -> SumoNet:
     """The network of the first file, with the signal programs of all files, of which the last of a light counts; edges
-    are in parts as in the map. Fault where a file cannot be read."""
+    are in parts as in the map. Fault where a file cannot be read, or a lower limit of the map cannot be had in that
+    network."""
     report = Report()
     net = read_net(paths[0], tuple(mapping.options["classes"]), report)
     types = Types(mapping.options.get("seed", 1), report)

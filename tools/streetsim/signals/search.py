@@ -157,9 +157,9 @@ def climb_splits(search: Search, plan: Plan, lights: Mapping[str, Light], order:
 
 
 def climb(search: Search, plan: Tried, step: str, change: Callable[[Tried, int], Tried | None]) -> Tried:
-    """Makes a change (sign 1) again and again as long as the value falls; where the first does not help, its contrary
-    (sign -1). Gives the best plan; raises Ended as Search.values does. step: its name in search.csv; change: gives None
-    where it cannot be made."""
+    """Makes a change (sign 1) again and again as long as the value falls and the change can be made; where the first
+    does not help, or cannot be made, its contrary (sign -1). Gives the best plan; raises Ended as Search.values does.
+    step: its name in search.csv; change: gives None where it cannot be made."""
     best = search.cost(step, plan)
     for sign in (1, -1):
         went = False

@@ -39,8 +39,8 @@ class Site:
 
 
 def all_works(texts: Iterable[str], mapping: Map, start: int, until: int | None) -> list[Works]:
-    """The works of texts, each of which may name several with commas between. Fault as of works_of, and where one ends
-    at the start or before, or begins at the end or later. start, until: of the run in seconds; until None: not
+    """The works of texts, each of which may name several with commas or blanks between. Fault as of works_of, and where
+    one ends at the start or before, or begins at the end or later. start, until: of the run in seconds; until None: not
     known."""
     works = [works_of(one, mapping) for text in texts for one in listed(text)]
     if over := [one.text for one in works if one.last <= start]:

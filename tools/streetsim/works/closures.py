@@ -28,7 +28,8 @@ class Closure:
 
 def closures_of(run: Run, until: int) -> list[Closure]:
     """The stretches that a run closes, by its own lines and by --close, from its start to the clock until, by their
-    begin; one that is not reopened with the same cells lasts until then."""
+    begin; one that is not reopened with the same cells lasts until then. One closed again meanwhile counts from its
+    first close; one that begins at until or later is left out."""
     timed = [*((run.start(), line) for line in run.first), *run.timed]
     open_: dict[tuple[int, int, int, int], int] = {}
     found = []
@@ -46,8 +47,8 @@ def closures_of(run: Run, until: int) -> list[Closure]:
 
 
 def begun_here(closures: Iterable[Closure], mapping: Map) -> list[Closure]:
-    """The closures before which a queue can begin. One that continues another, from the part of the edge before, is
-    left out, as its queue is seen at that other one, which gets its metres in beyond."""
+    """The closures before which a queue can begin. One that continues another with the same clocks, from the part of
+    the edge before, is left out, as its queue is seen at that other one, which gets its metres in beyond."""
     closures = list(closures)
     begins = {(one.link, one.lane, one.begin, one.end): one for one in closures if one.first <= 1}
     further: dict[Closure, Closure] = {}

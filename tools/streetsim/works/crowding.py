@@ -34,7 +34,8 @@ def beyond_joint(run: Run, mapping: Map, closures: Sequence[Closure]) -> list[st
 
 def too_many(run: Run, mapping: Map, here: Sequence[Closure]) -> str:
     """The text on the works on one link (here: one closure at least) at their worst, by the lanes that are closed
-    together; empty where these leave no lane, or the open ones let all vehicles pass."""
+    together; empty where these leave no lane, or the open ones let all vehicles pass. Lanes closed together for less
+    than SHORT seconds in all count only where no others are for longer."""
     link, worst = here[0].link, (0.0, 0.0, 0)
     lanes, together = len(mapping.links[link].lanes), closed_together(here)
     lasting = {closed: sum(end - begin for begin, end in times) for closed, times in together.items()}
@@ -64,7 +65,8 @@ def closed_together(here: Sequence[Closure]) -> dict[frozenset[int], list[tuple[
 
 def coming(run: Run, mapping: Map, links: Sequence[int], first: int, last: int) -> int:
     """How many vehicles would come to the first of some links from the second first to before last, if nobody were in
-    their way, with all these links one after the other in their plan."""
+    their way, with all these links one after the other in their plan; of one that comes there several times the first
+    counts."""
     free_flow, plans, count = FreeFlow(mapping, run.load.command.get("dawdle", 0) / 1000), 0, len(links)
     for line in run.enters:
         plan = line.command["plan"]

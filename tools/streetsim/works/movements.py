@@ -140,8 +140,8 @@ def apart(place: Place, mapping: Map, other: Place) -> int:
 
 
 def waiting(run: Run, mapping: Map, lost: Iterable[Lost]) -> Run:
-    """The run without the turns by which those who lose their lane would be led from the lane beside on their link, so
-    that they wait; the same run where there are no such turns."""
+    """The run without the turns by which those who lose their lane would be led from the lane beside on their link, in
+    its load and its signals, so that they wait; the same run where there are no such turns."""
     left = {(place, one.way[1]) for one in lost if one.is_joint() for place in one.others}
     turns = ((turn, mapping.links[turn.next].edge) for turn in mapping.turns)
     gone = {(turn.link, turn.lane, turn.next) for turn, edge in turns if ((turn.link, turn.lane), edge) in left}
