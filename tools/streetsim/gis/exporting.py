@@ -32,7 +32,7 @@ def told(path: str, runs: Runs, found: list) -> str:
 def features(runs: Runs, places: Places) -> Iterator[dict]:
     """Each edge and junction in each interval, as GeoJSON's features (dicts, as `feature` makes them). Of edges that
     nobody counted the numbers are None; junctions are there only where the run has junction tables. places: as
-    places_of gives it; Fault where that raises one."""
+    places_of gives it; Fault where that raises one, or edges.csv cannot be read."""
     mapping = runs.first.mapping
     names = Names(mapping)
     lines = {edge: places(mapping.links[links[len(links) // 2]].shape) for edge, links in mapping.links_of.items()}

@@ -20,8 +20,8 @@ NO_WAY = "no way from where the trip begins to where it ends"
 def vehicles_with_ways(
     net: SumoNet, types: Types, paths: Iterable[str], options: Options, report: Report
 ) -> list[Vehicle]:
-    """The vehicles of files of trips, flows and routes, by departure, as trips_with_ways has them; Fault where it
-    raises one."""
+    """The vehicles of files of trips, flows and routes, by departure, as trips_with_ways has them, without further
+    attributes (Vehicle.more); Fault where it raises one."""
     graph = graph_of_net(net)
     return [
         Vehicle(trip.name, trip.depart, graph.names(trip.path), trip.type, trip.route, trip.stops, trip.line)
@@ -34,7 +34,8 @@ def trips_with_ways(
 ) -> Trips:
     """The trips of files of trips, flows and routes, by departure, each with a way. Those without a route have the way
     that is shortest with free speed, the waits at signals and the delays that the volumes so far would make; who has
-    none is left out, and counted in the report. Fault where read_trips raises one. graph: of the net.
+    none is left out, and counted in the report. Whether the edges of routes are connected is not looked at. Fault where
+    read_trips or times_without_routes raises one. graph: of the net.
 
     Lanes that are joint for works change nothing of it, so that a run and one with works differ by the works alone.
     """

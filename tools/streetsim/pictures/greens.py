@@ -16,7 +16,7 @@ Row = Mapping[str, str]
 
 def draw_greens(pyplot: Pyplot, folder: Folder, lights: Sequence[str]) -> Figure:
     """A panel for each of some lights, the first six where none is named: how long each of its greens lasted. Fault
-    where detectors drive none of that name."""
+    where detectors drive none, or none of that name; ValueError where none is named and no green has ended."""
     rows = of_lights(folder, lights)
     figure, panels = pyplot.subplots(len(rows), figsize=(10, 1 + 2.6 * len(rows)), squeeze=False, sharex=True)
     names, mapping = Names(folder.mapping), folder.mapping
@@ -30,8 +30,8 @@ def draw_greens(pyplot: Pyplot, folder: Folder, lights: Sequence[str]) -> Figure
 
 
 def of_lights(folder: Folder, lights: Sequence[str]) -> dict[str, list[Row]]:
-    """{light: the rows of phases.csv of its greens that have ended}; of the first six lights where none is named. Fault
-    where a named one has none."""
+    """{light: the rows of phases.csv of its greens that have ended, without those in which yellow is shown}; of the
+    first six lights by name where none is named, which may be none. Fault where a named one has none."""
     found: defaultdict[str, list[Row]] = defaultdict(list)
     for row in folder.phases():
         if set(row["state"]) & set("Gg") and not set(row["state"]) & set("yY") and row["ended"]:

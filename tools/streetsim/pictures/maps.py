@@ -143,8 +143,8 @@ def draw_letters(axes: Axes, shown: Sequence[Shown], runs: Runs, interval: tuple
 
 
 def draw_density(pyplot: Pyplot, folder: Folder) -> Figure:
-    """The streets by mean density over all polls, vehicles a kilometre and lane, of each link; Fault where nothing was
-    polled."""
+    """The streets by mean density over all polls, vehicles a kilometre and lane, of each link, above 100 as 100; Fault
+    where nothing was polled."""
     densities = series.densities(folder)
     shown = [Shown(link.shape, value) for value, link in zip(densities, folder.mapping.links, strict=True)]
     figure, axes, beside = canvas(pyplot, [one.shape for one in shown])

@@ -11,11 +11,11 @@ MOST_BYTES = 100_000_000  # of the packed data; browsers are slow with more
 
 
 def data_of(folder: Folder, first: int, last: int) -> Json:
-    """What the page plays of a run from a first to a last second, as an object for json: "name" of the folder; "links",
-    {"name", "points" in metres, "lanes" and "cells": how many, "end": its node}; "junctions" with lights, [name, x, y];
-    "signals", [clock, node, offset, [[seconds, links that may go], ..]], of the whole run; "every": seconds between
-    polls; and "frames", the polls as Folder.polls gives them (an empty list where there are none). Fault where they
-    cannot be read."""
+    """What the page plays of a run from a first to a last second, both included, as an object for json: "name" of the
+    folder; "links", {"name", "points" in metres, "lanes" and "cells": how many, "end": its node}; "junctions" with
+    lights, [name, x, y]; "signals", [clock, node, offset, [[seconds, links that may go], ..]], of the whole run;
+    "every": seconds between polls; and "frames", the polls as Folder.polls gives them (an empty list where there are
+    none). Fault where they cannot be read."""
     names = Names(folder.mapping)
     links = [
         {

@@ -45,8 +45,8 @@ class Corridor:
 
 def draw_corridor(pyplot: Pyplot, folder: Folder, corridor: Corridor) -> Figure:
     """Where each vehicle is along a path (metres) over time (seconds), the way back below. Fault where the edges make
-    no path, lanes were not polled every 5 s or oftener, nothing was polled from first to last, or (both) there is
-    no way back."""
+    no path, first is not before last, lanes were not polled every 5 s or oftener, nothing was polled from first to last
+    (both included), or (both) there is no way back."""
     first, last = corridor.first, corridor.last
     refuse_broken(folder, corridor.edges)
     if first >= last:
@@ -111,7 +111,8 @@ def draw_ring(pyplot: Pyplot, program: str | None, dawdles: Sequence[int], limit
 
 def draw_fundamental(pyplot: Pyplot, folder: Folder, edges: Sequence[str], at_stop_lines: bool) -> Figure:
     """Flow over density of some edges, or of all where none is named: at the stop lines by counts.csv, else in the
-    middle third of lanes by polls. Fault for an unknown edge, or where nothing was polled."""
+    middle third of lanes by polls. Fault for an unknown edge, or where counts.csv (at_stop_lines) cannot be read, or
+    else nothing was polled."""
     folder.links_along(edges)  # which names an edge that the map does not have
     counts = (series.flows if at_stop_lines else series.middle_flows)(folder, edges)
     where = f"Counts of {folder.period} s at the stop lines"
@@ -135,7 +136,8 @@ def from_zero(figure: Figure, axes: Axes) -> Figure:
 
 
 def draw_queues(pyplot: Pyplot, folder: Folder) -> Figure:
-    """The longest queues at stop lines over time, of 25 lanes at most; Fault where there were none."""
+    """The longest queues at stop lines over time, of 25 lanes at most; Fault where there were none, or queues.csv
+    cannot be read."""
     lanes, count = series.longest_queues(folder, MOST_LANES)
     if not lanes:
         raise Fault(f"{folder.path}: no queues in this run")
@@ -164,8 +166,9 @@ def draw_queues(pyplot: Pyplot, folder: Folder) -> Figure:
 
 
 def draw_arrivals(pyplot: Pyplot, folder: Folder, tripinfo: str | None) -> Figure:
-    """Wished departures and arrivals over time, and below them a difference: the arrivals less SUMO's, where a tripinfo
-    (its path) is given, else the departures less the arrivals. Fault where trips.csv or the tripinfo cannot be read."""
+    """Wished departures and arrivals over time, and below them a difference: the arrivals less SUMO's up to the run's
+    end, where a tripinfo (its path) is given, else the departures less the arrivals. Fault where trips.csv or the
+    tripinfo cannot be read."""
     departs, arrivals = series.arrival_curves(folder)
     figure, (axes, below) = pyplot.subplots(2, figsize=(8, 6.5), sharex=True, height_ratios=(3, 1))
     curves: list[tuple[Sequence[float], str, str, str]]

@@ -31,9 +31,9 @@ class Point:
 
 
 def measure(program: str | None, vehicles: int, limit: int = 5, dawdle: int = 0, seed: int = 1) -> Point:
-    """A point of the diagram, for which the program runs: a ring of 1,000 cells with so many vehicles, over ten rows of
-    300 steps; program: its path, None: as Client finds it; limit: cells a step; dawdle: of 1,000. Fault where it cannot
-    be started."""
+    """A point of the diagram, for which the program runs: a ring of 1,000 cells with so many vehicles (CELLS at most,
+    as all have to enter), over ten rows of 300 steps; program: its path, None: as Client finds it; limit: cells a step;
+    dawdle: of 1,000. Fault where it cannot be started."""
     with Client(program) as sim:
         sim.load(nodes=[[0, 1, 2]], links=[[0, 0, 0, 1, CELLS, limit]], turns=[[0, 0, 0, 0]], dawdle=dawdle, seed=seed)
         sim.signal(0, [[600, []]])

@@ -18,8 +18,8 @@ class BusStop:
 
 def stretch(stop: BusStop, length: float, is_friendly: bool, where: str) -> tuple[float, float]:
     """The (begin, end) of a stop in metres from its lane's begin; length: of the lane, metres. Fault where it lies
-    beyond the lane or ends before it begins, unless is_friendly: then it is moved onto the lane. where: the element,
-    for the Fault."""
+    beyond the lane by more than NEAR, or ends before it begins, unless is_friendly: then it is moved onto the lane, and
+    a begin behind its end to the end. where: the element, for the Fault."""
     begin, end = (at + length if at is not None and at < 0 else at for at in (stop.begin, stop.end))
     end = length if end is None else end
     begin = 0.0 if begin is None else begin

@@ -33,8 +33,8 @@ PACES = {STOPS: Pace(2, 4.15), ALL_STOP: Pace(2, 4.15, 0.7)}
 
 def conflicts_of(net: SumoNet, network: Network, flows: Flows) -> list[Waiting]:
     """Who gives way at junctions without any light: one Waiting for each movement that routes use and that gives way to
-    another used one, or always has to stop. flows: vehicles an hour by (edge, next edge), without which a movement
-    counts as unused."""
+    another used one, or always has to stop. Junctions with a connection whose request is not known are left out. flows:
+    vehicles an hour by (edge, next edge), without which a movement counts as unused."""
     turns_at = defaultdict(list)
     for link, lane, following in network.turns:
         turns_at[network.links[link].edge, network.links[following].edge].append((link, lane, following))
@@ -105,7 +105,7 @@ def gap_of(one: Connection, other: Connection, fast: bool) -> Gap:
 def gaps_of_ways(net: SumoNet) -> dict[Way, dict[Way, Gap]]:
     """The movements that go before each movement without a light, whether or not routes take it, with the gap that
     gap_of gives: {(edge, next edge): {(edge, next edge) that goes first: gap}}; a movement that gives way to none is
-    left out."""
+    left out, as are those, on both sides, that have a light or a request that is not known."""
     found: defaultdict[Way, dict[Way, Gap]] = defaultdict(dict)
     for junction, connections in connections_of(net).items():
         of_request = {one.request: one for one in connections if one.request is not None and not one.light}

@@ -29,7 +29,7 @@ Made = tuple[Network, list[tuple[str, int]], list[Command], list[str]]
 
 def run_and_map(made: Made, report: Report) -> tuple[list[str], Map]:
     """(the lines of a run as JSON texts without line ends, its map), of what converted made; the report's texts go into
-    the map. Fault where a limit of the simulator is passed, or a detector has no lane."""
+    the map. Fault where a limit of the simulator is passed, or `placed` raises one."""
     network, lights, commands, names = made
     mapping = map_of(network, lights, names, report)
     mapping.detectors = placed(network.detectors, mapping, network.closed_lanes, report)

@@ -82,8 +82,9 @@ def movements_of(
     limits_of: Mapping[str, int],
 ) -> dict[int, Movement]:
     """The movements of a junction, by the connections' requests, of which none is None; their shown is set by settle.
-    states: of its light, one for each second; yields: by request those that it gives way to; flows: vehicles an hour by
-    (edge, next edge); limits_of: cells a step, by edge."""
+    Connections of the same edges share their flow equally; of those that one gives way to, those without a flow are
+    left out. states: of its light, one for each second; yields: by request those that it gives way to; flows: vehicles
+    an hour by (edge, next edge); limits_of: cells a step, by edge."""
     sharing = Counter((connection.source, connection.target) for connection in connections)
     found = {}
     for connection in connections:
@@ -141,16 +142,17 @@ def heads_of(own: Sequence[Movement], other: Sequence[Movement]) -> Heads | None
 
 def waiting_share(own: Sequence[Movement], other: Sequence[Movement]) -> float:
     """The share, 0 to 1, of the vehicles of a lane that wait for some of another one in a permissive green, by the
-    movements of both."""
+    movements of both; 0 where it has no vehicles."""
     whole = sum(one.flow for one in own)
     waiting = sum(one.flow for one in own if one.waits and any(foe in other for foe in one.foes))
     return waiting / whole if whole else 0.0
 
 
 def set_lane(movement: Movement, movements: Collection[Movement]) -> None:
-    """Sets what a movement knows of its lane, of all movements of the junction: who shares it, how many lanes its edge
-    has, in how many parts its seconds are shown (two where others on its lane need not wait, at an edge of several
-    lanes), the share that waits for gaps, and the seconds between those who do not."""
+    """Sets what a movement knows of its lane, of all movements of the junction: who shares it, how many lanes of its
+    edge have movements, in how many parts its seconds are shown (two where others on its lane need not wait, at an edge
+    of several lanes), the share that waits for gaps (LEAST_SHARE at least; 1 where the lane has no vehicles), and the
+    seconds between those who do not (its own headway where there are none)."""
     movement.lanes = len({other.lane for other in movements if other.way[0] == movement.way[0]})
     movement.sharing = [other for other in movements if other.lane == movement.lane]
     movement.parts = 2 if movement.lanes > 1 and any(one.flow and not one.runs for one in movement.sharing) else 1
@@ -161,8 +163,9 @@ def set_lane(movement: Movement, movements: Collection[Movement]) -> None:
 
 
 def movement_of(connection: Connection, states: Sequence[str], flow: float, limit: int) -> Movement:
-    """The movement of one connection, without its foes and lane. states: of its light, one for each second; flow:
-    vehicles an hour; limit: of its link, cells a step."""
+    """The movement of one connection, still without its foes and what it knows of others on its lane; one without a
+    light is green throughout. states: of its light, one for each second; flow: vehicles an hour; limit: of its link,
+    cells a step."""
     lit, cycle = connection.light is not None, len(states)
     own = "".join(state[connection.index] for state in states) if lit else "G" * cycle
     return Movement(
@@ -193,8 +196,8 @@ def red_before(states: str, start: int) -> int:
 
 
 def meetings(movement: Movement, start: int, length: int) -> list[Meeting]:
-    """The seconds of a permissive green of length seconds from start, [(seconds as bits, foes that have green in
-    them)]; the movement's foes must be set."""
+    """The seconds of a permissive green, or of a red in which one may go after a stop, of length seconds from start
+    (over the cycle's end too), [(seconds as bits, foes that have green in them)]; the movement's foes must be set."""
     found: defaultdict[tuple[Movement, ...], int] = defaultdict(int)
     for second in range(start, start + length):
         place = second % movement.cycle

@@ -97,7 +97,7 @@ class Demand:
 
     def read_route(self, path: FilePath, element: Element) -> None:
         """Adds a route with its stops to routes and route_stops; Fault where another route, or a distribution, has its
-        name, or `edges` raises one."""
+        name, or `edges` or `stops_in` raises one."""
         name = attribute(path, element, "id", filled)
         self.note_ignored(element)
         if name in self.routes or name in self.mixes:
@@ -115,8 +115,9 @@ class Demand:
 
     def mix(self, path: FilePath, owner: Element, element: Element, name: str) -> Mix:
         """The names and weights of the routes of a distribution (element, name). Routes that stand in it are added to
-        `routes`; one without a name is called after the distribution and its place, as in SUMO. owner: the element that
-        faults name. Fault for a route that was not read before, or none at all."""
+        `routes` and route_stops, also in place of one of the same name; one without a name is called after the
+        distribution and its place, as in SUMO. owner: the element that faults name. A weight that is not told is 1.
+        Fault for a route that was not read before, none at all, or weights that are all 0."""
         names, weights = (element.get("routes") or "").split(), []
         shares = attribute(path, element, "probabilities", weights_of) if element.get("probabilities") else []
         weights += [shares[place] if place < len(shares) else 1.0 for place in range(len(names))]
@@ -241,7 +242,8 @@ class Demand:
 
 
 def unread(element: Element) -> tuple[tuple[str, str], ...]:
-    """The attributes of a vehicle, trip or flow that are not read, (name, value)."""
+    """The attributes of a vehicle, trip or flow that are not in READ and do not say where it begins or ends (ENDS),
+    (name, value)."""
     return tuple((name, value) for name, value in element.items() if name not in READ | ENDS)
 
 
@@ -250,7 +252,8 @@ def enters(
 ) -> tuple[list[Command], list[Vehicle]]:
     """(the enter commands, the vehicles that they are of), in one order. Vehicles that cannot drive, and stops that
     cannot be made, are left out and reported by reason; the network gets the stops that can (network.visits), and turns
-    that plans need (Network.route). Fault where why_no_way raises one. vehicles: in order of departure."""
+    that plans need (Network.route). Fault where why_no_way raises one. A departure is rounded up to a whole second.
+    vehicles: in order of departure."""
     sizes, stops = Sizes(types), Stops(net, types, report)
     commands: list[Command] = []
     driven: list[Vehicle] = []
@@ -279,7 +282,8 @@ def enters(
 
 def entry_lane(plan: Sequence[int], network: Network, used: Counter[int], found: Found) -> int:
     """The lane (0 or 1 of its first link) where a vehicle enters: that of its stop on this link, else one of those that
-    lead on, by turns. used: how many entered each link so far, which it counts on."""
+    lead on, by turns. used: how many entered each link so far by turns, which it counts on (not for those with a stop
+    there)."""
     lanes = network.serves(plan[0], plan[1]) if len(plan) > 1 else range(len(network.links[plan[0]].lanes))
     if 0 in (stops := found.lanes()):
         return network.place_of[stops[0]][1]
@@ -289,8 +293,9 @@ def entry_lane(plan: Sequence[int], network: Network, used: Counter[int], found:
 
 def kinds_of(driven: Sequence[Vehicle], types: Types) -> Json:
     """What a map keeps of vehicles: {"types": [[name, vclass, length, gap, speed]] as in Kind, "type": by vehicle its
-    place in types, "route": by vehicle its name (an empty list where none has one), "line": the same, but no key where
-    none has one, "ends": a sum over where all begin and end, by which the map of another demand is known}."""
+    place in types (0, the usual type, where it is not among them), "route": by vehicle its name (an empty list where
+    none has one), "line": the same, but no key where none has one, "ends": a sum over where all begin and end, by which
+    the map of another demand is known}."""
     names = list(types.kinds)
     place = {name: at for at, name in enumerate(names)}
     return {

@@ -32,7 +32,8 @@ class SumoDetector:
 
 def read_detector(path: FilePath, element: Element, report: Report) -> SumoDetector | None:
     """The detector of an element; None for one over several lanes, which is reported. Fault where an attribute is
-    absent or cannot be read, or its period is below 1 s; a longer one than a run may have becomes the longest."""
+    absent or cannot be read, or its period (freq, else period), in whole seconds, is below 1 s; a longer one than a run
+    may have, and one that is not told, becomes the longest."""
     kind = KINDS[element.tag]
     if element.get("lanes"):
         report.ignored[f"<{element.tag}> over several lanes"] += 1
@@ -51,9 +52,10 @@ def read_detector(path: FilePath, element: Element, report: Report) -> SumoDetec
 
 def area_metres(path: FilePath, element: Element, report: Report) -> tuple[float, float | None]:
     """The (begin, end) metres of a lane area, as SumoDetector has them: by its pos, endPos and length, of which SUMO
-    needs two; without endPos and length it ends with the lane (end None). One that these numbers alone show to reach
-    beyond its lane is reported here; others are reported by cells, which knows the lane's length. Fault where one of
-    them is no number, or too few are told."""
+    needs two; without endPos and length (0 counts as none) it ends with the lane (end None). Where all three are told,
+    pos and length say where it ends. One that these numbers alone show to reach beyond its lane is reported here;
+    others are reported by cells, which knows the lane's length. Fault where one of them is no number, or too few are
+    told."""
     end = optional(path, element, "endPos", number, None)
     length = optional(path, element, "length", at_least_zero(number), 0.0)
     if not length:
@@ -102,9 +104,10 @@ def placed(detectors: Iterable[SumoDetector], mapping: Map, closed: Container[st
 
 
 def cells(one: SumoDetector, link: MapLink, report: Report) -> tuple[int, int]:
-    """The (first, last) cell, from 0, both included, of a detector on a link: the one in which a loop lies, or those of
-    which a lane area covers a part. Fault where it lies beyond its lane and is not friendly, or does not end behind its
-    begin. One that goes on beyond its lane is reported."""
+    """The (first, last) cell, from 0, both included, of a detector on a link: the one in which a loop lies, or for a
+    lane area the one in which it begins and the one whose end is nearest to its own. Fault where it lies beyond its
+    lane by more than NEAR and is not friendly, or does not end behind its begin. One that goes on beyond its lane is no
+    Fault but reported; friendly ones are not."""
     begin = one.begin + link.metres if one.begin < 0 else one.begin
     end = one.end + link.metres if one.end is not None and one.end < 0 else one.end
     if not one.friendly and not -NEAR <= begin <= link.metres + NEAR:

@@ -17,8 +17,9 @@ RATES = ("period", "vehsPerHour", "perHour", "probability")
 
 def departs(path: FilePath, element: Element, draws: Random) -> list[float]:
     """The seconds at which the vehicles of a flow depart, rising: begin + k * period while below the end, its number at
-    most; with a probability, or a period exp(RATE), by draws. Fault where there are more than may drive, the flow has
-    no rate or two, ends before it begins, or an attribute cannot be read. element: the <flow>."""
+    most (without number and end it ends at 86,400 s); with a probability, or a period exp(RATE), by draws. Fault where
+    there are more than may drive, the flow has no rate or two, ends before it begins, or an attribute cannot be read.
+    element: the <flow>."""
     begin = optional(path, element, "begin", at_least_zero(seconds), 0.0)
     most = optional(path, element, "number", at_least_zero(int), None)
     end = optional(path, element, "end", seconds, DAY if most is None else math.inf)
@@ -45,7 +46,8 @@ def moments(
     path: FilePath, element: Element, begin: float, end: float, most: int | None, draws: Random
 ) -> Iterable[float]:
     """The seconds of all departures that the rate of a flow gives from begin on, without regard to its end, so mostly
-    without end; most: its number, None: not told. Fault where it has no rate."""
+    without end; end: counts where the flow has a number alone, which is then spread up to it; most: its number, None:
+    not told. Fault where it has no rate."""
     for name in ("vehsPerHour", "perHour"):
         if element.get(name) is not None:
             hourly = attribute(path, element, name, above_zero(number))
@@ -72,8 +74,8 @@ def rate_of(text: str) -> float:
 
 
 def by_chance(begin: float, chance: float, draws: Random) -> Iterator[float]:
-    """Seconds of departures from begin on, where each second has one with a chance (above 0 to 1), without end; the
-    seconds until the next one are drawn at once."""
+    """Seconds of departures from begin on, where each second has one with a chance (above 0 to 1); the seconds until
+    the next one are drawn at once. It ends where these are limits.CLOCK or more, else never."""
     second = -1
     while True:
         waited = math.log(1 - draws.random()) / math.log(1 - chance) if chance < 1 else 0.0
@@ -84,7 +86,8 @@ def by_chance(begin: float, chance: float, draws: Random) -> Iterator[float]:
 
 
 def by_rate(begin: float, rate: float, draws: Random) -> Iterator[float]:
-    """Seconds of departures from begin on, whose gaps are drawn with a mean of 1 / rate seconds, without end."""
+    """Seconds of departures, the first a gap after begin, whose gaps are drawn with a mean of 1 / rate seconds, without
+    end."""
     clock = begin
     while True:
         clock += draws.expovariate(rate)

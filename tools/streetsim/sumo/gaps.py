@@ -28,7 +28,8 @@ def gap_wait(flow: float) -> float:
 
 
 def after_stop(flow: float) -> float:
-    """Vehicles an hour that go after a stop into a stream of flow vehicles an hour."""
+    """Vehicles an hour that go after a stop into a stream of flow vehicles an hour (0 or more): straight lines between
+    the values of AFTER_STOP, beyond them the last."""
     for (low, more), (high, less) in pairwise(AFTER_STOP):
         if flow <= high:
             return more + (less - more) * (flow - low) / (high - low)

@@ -24,7 +24,8 @@ def leaving(green: float, speed: float) -> float:
 
 
 def green_here(vehicles: float, limit: int) -> int:
-    """The seconds of green in which so many vehicles leave a queue in streetsim; limit: of their link, cells a step."""
+    """The seconds of green in which so many vehicles leave a queue in streetsim, 1 at least; few by SHORT, whatever the
+    limit. limit: of their link, cells a step."""
     short = next((second for second, passing in enumerate(SHORT, 1) if passing >= vehicles - 0.1), None)
     return short or round(vehicles * HEADWAYS[limit - 1] - AHEAD)
 
@@ -63,17 +64,18 @@ def hidden_middle(length: int, speed: float, limit: int) -> tuple[int, int]:
 
 
 def places(length: int, seconds: int, parts: int) -> list[tuple[int, int]]:
-    """Where seconds of a permissive green of length seconds are shown, (begin, end) from its begin: at its end, as
-    those who are given way to go first; or in parts with equal waits before them, so that a vehicle that waits holds
-    its lane up for less long."""
+    """Where seconds of a permissive green of length seconds are shown, (begin, end) from its begin, the end not
+    included: at its end, as those who are given way to go first; or in parts with equal waits before them, so that a
+    vehicle that waits holds its lane up for less long. Where a part would have less than two seconds, or more than 0.9
+    of the green is shown, parts is not looked at."""
     parts = parts if 2 * parts <= seconds <= 0.9 * length else 1
     wait, shown = (length - seconds) / parts, seconds / parts
     return [(round((at + 1) * wait + at * shown), round((at + 1) * (wait + shown))) for at in range(parts)]
 
 
 def places_in_red(length: int, seconds: int) -> list[tuple[int, int]]:
-    """Where seconds of a red of length seconds are shown to those who may go after a stop, (begin, end) from its begin:
-    evenly spread, by twos."""
+    """Where seconds of a red of length seconds are shown to those who may go after a stop, (begin, end) from its begin,
+    the end not included: evenly spread, by twos, of which the first gets an odd one; empty for 0 seconds."""
     parts = max(1, seconds // 2)
     sizes = [seconds // parts + (at < seconds % parts) for at in range(parts)] if seconds else []
     begins = [int((at + 1) * length / (parts + 1) - size / 2) for at, size in enumerate(sizes)]

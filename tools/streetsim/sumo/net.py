@@ -129,7 +129,8 @@ def shape(text: str) -> list[Point]:
 
 
 def allows(element: Element, classes: Collection[str]) -> bool:
-    """Whether a lane or connection is open to at least one of the vehicle classes, by its allow and disallow."""
+    """Whether a lane or connection is open to at least one of the vehicle classes, by its allow, or where that is not
+    written by its disallow; open to all where neither is."""
     named = element.get("allow")
     if named is not None:
         allowed = named.split()
@@ -259,8 +260,9 @@ def bits_of(text: str) -> set[int]:
 
 
 def read_connection(path: FilePath, element: Element, net: SumoNet, classes: Collection[str]) -> None:
-    """Adds a connection between lanes that are kept; one that is not for the classes is noted in closed_ways. Edges
-    must have been read before. Fault where it names an unknown edge, or joins edges that do not meet."""
+    """Adds a connection between lanes that are kept; another one is noted in closed_ways, as not for the classes (those
+    of edges inside junctions too). Edges must have been read before. Fault where it names an unknown edge, or joins
+    edges that do not meet."""
     source, target = attribute(path, element, "from"), attribute(path, element, "to")
     for edge in (source, target):
         if edge not in net.edges and edge not in net.dropped and not edge.startswith(":"):
@@ -312,7 +314,8 @@ def read_roundabout(path: FilePath, element: Element, net: SumoNet, _classes: Co
 
 def read_program(path: FilePath, element: Element, net: SumoNet, _classes: Collection[str]) -> None:
     """Sets a light's program in net.programs; a later one replaces the one before, which `earlier` keeps. One without
-    phases gives the present program another offset alone. Fault where an attribute is missing, or no such number."""
+    phases gives the present program another offset alone; where there is none, it is kept as it is. Fault where an
+    attribute is missing, or no such number."""
     phases = [
         (attribute(path, phase, "duration", at_least_zero(seconds)), attribute(path, phase, "state"))
         for phase in element.iter("phase")
@@ -355,7 +358,7 @@ def timing_of(path: FilePath, phase: Element) -> tuple[str, float, float, float]
 
 
 def numbers(text: str) -> list[int]:
-    """Whole numbers with spaces between; ValueError otherwise."""
+    """Whole numbers, of a text with spaces between, below 0 too; ValueError otherwise."""
     return list(map(int, text.split()))
 
 

@@ -190,8 +190,8 @@ class Network:
         self.joined.add((link, following))
 
     def open_beside_works(self) -> None:
-        """Where a link has no lanes but ones that are to be closed, and its edge has other links, gives these its
-        turns, so that plans can go round it."""
+        """Where a link has no lanes but ones that are to be closed, and its edge has other links, gives these the turns
+        to it and from it that they lack, so that plans can go round it. Pairs that get turns are noted in joined."""
         for name, closing in self.closing.items():
             shut = [link for link in self.links_of[name] if closing.issuperset(self.links[link].lanes)]
             beside = [link for link in self.links_of[name] if link not in shut]
@@ -207,8 +207,9 @@ class Network:
         self, edges: Sequence[str], stops: Mapping[int, LaneKey] = MappingProxyType({})
     ) -> tuple[int, ...] | None:
         """The links of a route, by least cost over parallel links, and counts that they carry it; turns that are
-        missing between them are added. None where two edges that follow each other have no connection. edges: kept
-        ones; stops: the lane that it must go over, by the edge's place in the route."""
+        missing between them are added. None, and nothing is counted, where two edges that follow each other have no
+        connection. edges: kept ones, one at least; stops: the lane that it must go over, by the edge's place in the
+        route."""
         if any((edge, following) not in self.movements for edge, following in zip(edges, edges[1:])):
             return None
         links = [self.links_of[edge] for edge in edges]
@@ -291,8 +292,9 @@ class Network:
 
 
 def ordered(net: SumoNet) -> list[Edge]:
-    """Edges in the order of the load, which is the only priority at a node: roundabouts first, then main streets, then
-    fast ones."""
+    """Edges in the order of the load, which is the only priority at a node: roundabouts first, then those with the
+    greatest share of main connections, of equal ones those of higher priority, then faster ones (by their first lane),
+    then in the order of the net."""
     major: Counter[str] = Counter()
     all_of: Counter[str] = Counter()
     for connection in net.connections:
@@ -371,7 +373,7 @@ def parallel(
 ) -> list[list[Lane]]:
     """The lanes of one edge in groups of one or two, from the right: first with as few closing lanes as possible that
     have no open one beside them, then as few groups, then those whose lanes share most next edges. closing: SUMO's
-    indexes of lanes to be closed; waiting: None: not looked at."""
+    indexes of lanes to be closed; waiting: None: any two may be a group."""
     places = [(edge.name, lane.index) for lane in edge.lanes]
     # For the first lanes: those without an open one, groups, less their shared edges.
     best: list[tuple[int, int, int, list[list[Lane]]]] = [(0, 0, 0, [])]
@@ -391,7 +393,7 @@ def parallel(
 
 def may_share(right: LaneKey, left: LaneKey, following: Targets, waiting: Targets | None) -> bool:
     """Whether two lanes side by side may be one link: not where they lead to no common edge, or where they wait for
-    gaps to different edges. waiting: None: not looked at."""
+    gaps to different edges. Always where one of them leads nowhere, or waiting is None."""
     if waiting is None or not following[right] or not following[left]:
         return True
     return bool(following[right] & following[left]) and waiting[right] == waiting[left]
@@ -408,7 +410,8 @@ def names_of(net: SumoNet, edges: Iterable[Edge], nodes: Iterable[str]) -> Json:
 def link_of(
     edge: Edge, lanes: Sequence[Lane], number: Mapping[str, int], options: Options, in_ring: bool
 ) -> Link:
-    """The link of some lanes of an edge; number: of each junction's node; in_ring: the edge is in a roundabout."""
+    """The link of some lanes of an edge, with the speed and length of the first of them; number: of each junction's
+    node; in_ring: the edge is in a roundabout."""
     free_limits = SLOW if edge.is_slow or in_ring else FREE_LIMITS
     limit, cells = limit_and_cells(lanes[0], options.dawdle / 1000, in_ring, free_limits)
     if edge.is_cut:
@@ -429,7 +432,8 @@ def link_of(
 def limit_and_cells(lane: Lane, dawdle: float, in_ring: bool, free_limits: range = FREE_LIMITS) -> tuple[int, int]:
     """(limit of a lane in cells a step, one of free_limits; its number of cells). dawdle: the chance, 0 to 1, to go on
     by a cell less. Where no limit is near its speed it has so many cells that one vehicle alone takes as long as in
-    SUMO; in a ring it keeps its length, and the seconds are made up for at its junctions."""
+    SUMO; in a ring it keeps its length, and the seconds are made up for at its junctions; a lane of speed 0 keeps its
+    length too."""
     wished = lane.speed / limits.CELL_METRES + dawdle
     limit = min(free_limits, key=lambda cells: abs(cells - wished))
     free = (limit - dawdle) * limits.CELL_METRES
@@ -440,8 +444,9 @@ def limit_and_cells(lane: Lane, dawdle: float, in_ring: bool, free_limits: range
 
 
 def buffers(links: Sequence[Link], nodes: int, options: Options) -> list[int]:
-    """For each of so many nodes how many vehicles its buffer holds: those of the options, and for each lane that leads
-    there a share of those for whom links behind the node have fewer cells than their length, for the sake of speed."""
+    """For each of so many nodes how many vehicles its buffer holds, limits.BUFFER at most: those of the options, and
+    for each lane that leads there a share of those for whom links behind the node have fewer cells than their length,
+    for the sake of speed."""
     lanes, lacking = Counter[int](), Counter[int]()
     for link in links:
         lanes[link.end] += len(link.lanes)
@@ -480,14 +485,14 @@ def residences(
 
 def longer_here(link: Link, options: Options) -> float:
     """The seconds that a vehicle alone takes longer on a link than in SUMO, as lengths and speeds are whole cells;
-    below 0 where it is faster."""
+    below 0 where it is faster, 0 where one of the two would not move at all."""
     free = link.limit - options.dawdle / 1000
     return link.cells / free - link.metres / link.speed if free and link.speed else 0.0
 
 
 def losses(net: SumoNet, names: Sequence[str], flows: Flows, longer: Mapping[str, float]) -> dict[str, int]:
-    """Whole seconds that vehicles lose on average at junctions, by their names; what rounding leaves is carried on to
-    the next junction. longer: as in losses.lost."""
+    """Whole seconds, 0 or more, that vehicles lose on average at junctions, by their names, 0 where no route goes; what
+    rounding leaves is carried on to the next junction. longer: as in losses.lost."""
     connections, found, owed = connections_of(net), {}, 0.0
     for name in names:
         total, seconds = lost(connections[name], net, flows, longer)

@@ -108,8 +108,8 @@ def lanes_before(net: SumoNet) -> dict[tuple[str, int], list[Connection]]:
 
 def lane_of(edge: str, index: int, net: SumoNet, before: dict[tuple[str, int], list[Connection]]) -> list[Any]:
     """[name, speed in metres a second, whether it is its edge's only lane, [[name, metres] of it and of those before
-    it]] of a lane at a light; a lane before counts where it alone leads there, without a light. before: as lanes_before
-    gives it."""
+    it]] of a lane at a light; a lane before counts where it alone leads there, without a light, and MOST_BEFORE of them
+    at most. before: as lanes_before gives it."""
     lane = next(one for one in net.edges[edge].lanes if one.index == index)
     stretches: list[list[Any]] = [[f"{edge}_{index}", lane.metres]]
     key = edge, index

@@ -90,7 +90,7 @@ def movements_of_junction(
 
 def light_of(turns: Iterable[Connection], net: SumoNet) -> str | None:
     """The name of the light that counts at a node, of those of its turns or connections: the first by name that has a
-    program; None where no light there has one."""
+    program with phases; None where no light there has one."""
     lights = {turn.light for turn in turns if turn.light}
     return min((light for light in lights if light in net.programs and net.programs[light].phases), default=None)
 
@@ -159,8 +159,8 @@ class TooLong(Fault):
 
 def signal_lines(own: LitNode, begin: int, last: int) -> list[Command]:
     """The signal command of a node, in a list; of a program that does not fit in one plan, which is reported, a command
-    for each phase, with its clock ("at"; not in the first), from begin to last (clocks), as a plan of one phase stays
-    until the next. Fault where each_second or check_states raises one."""
+    for each phase, with its clock ("at"; not in the first), from begin to last (clocks, both included), as a plan of
+    one phase stays until the next. Fault where each_second or check_states raises one."""
     try:
         return [signal(own)]
     except TooLong:
@@ -240,7 +240,7 @@ def signal(own: LitNode) -> Command:
 
 def each_second(light: str, program: Program) -> list[str]:
     """The program's state in each second of its cycle, as timing.states_of gives it. Fault, with the light's name,
-    where the cycle is shorter than half a second, or longer than LONGEST."""
+    where the cycle is half a second or less, or longer than LONGEST."""
     if (cycle := sum(duration for duration, _ in program.phases)) > LONGEST:
         raise Fault(
             f"light {light!r}: a cycle of {cycle:,.0f} s; at most {LONGEST:,} s are read: give it shorter phases"
@@ -258,8 +258,9 @@ def check_states(light: str, states: Sequence[str], turns: Iterable[Turn | MapTu
 
 
 def by_gaps(found: Mapping[int, Movement]) -> Told:
-    """{index of a light's state: {first second of a permissive green: (seconds of it that are shown, in how many
-    parts)}}, by what was found of who gives way; of movements that share an index the most."""
+    """{index of a light's state: {first second of a permissive green, or of a red in which one may go after a stop:
+    (seconds of it that are shown, in how many parts)}}, by what was found of who gives way; of movements that share an
+    index the most."""
     told: defaultdict[int | None, dict[int, tuple[int, int]]] = defaultdict(dict)
     for movement in found.values():
         own = told[movement.index]
@@ -303,7 +304,8 @@ def shown_green(
     green, and each red in which one may go after a stop, so many seconds are shown as told says, in so many parts ({its
     first second: (seconds, parts)}; where it says nothing, the whole green and nothing of the red); their begins and
     ends are rounded down to grain seconds, a part lasts grain at least. Of each other green that follows a red or
-    yellow some seconds are left out, as SUMO's queues start later and turn slower: those of hidden (grain, middle)."""
+    yellow some seconds are left out, as SUMO's queues start later and turn slower: those of hidden (grain, middle), of
+    a green above PHASE_STEPS those of one of QUEUED."""
     count = len(states)
     shown = [state in GREEN for state in states]
     greens, reds = runs_of(states, OPEN), runs_of(states, STOPPED)
@@ -347,8 +349,9 @@ def run_lengths(greens: Iterable[Green]) -> list[tuple[int, Green]]:
 
 
 def joined(phases: Iterable[tuple[int, Green]]) -> list[tuple[int, Green]]:
-    """The phases, (seconds, green turns), made fewer until they fit in a plan: the shortest is added to the one before
-    it, whose greens it gets. TooLong where phases would be above PHASE_STEPS."""
+    """The phases, (seconds, green turns), made fewer until they fit in a plan: the shortest, but for the first and
+    those that would be above PHASE_STEPS with the one before, is added to the one before it, whose greens it gets.
+    TooLong where there is no such phase."""
     made = list(phases)
     while len(made) > limits.PHASES:
         fitting = [at for at in range(1, len(made)) if made[at - 1][0] + made[at][0] <= limits.PHASE_STEPS]

@@ -81,8 +81,8 @@ def slowed(
 
 
 def check(slow: Slow, net: SumoNet, known: Iterable[str]) -> None:
-    """Fault where a network cannot have a limit: no such edge, a stretch beyond it, a limit above its own, a second
-    limit (known: edges that have one), or a name of a part that is taken."""
+    """Fault where a network cannot have a limit: no such edge, a stretch that ends more than 1 m beyond it, a limit
+    above its own, a second limit (known: edges that have one), or a name of a part that is taken."""
     where = f"{slow.kmh} km/h on {slow.edge}"
     if slow.edge not in net.edges:
         raise Fault(f"{where}: the import has no edge {slow.edge!r}")

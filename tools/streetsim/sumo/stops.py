@@ -115,9 +115,10 @@ def stops_in(path: FilePath, owner: Element, net: SumoNet) -> tuple[Stop, ...]:
 
 
 def stop_of(path: FilePath, owner: Element, element: Element, net: SumoNet) -> Stop:
-    """The stop of a <stop> in an element (owner); one that cannot be made has the reason (why) and no place. Fault
-    where it names a lane or edge that the network does not have, a place beyond its lane, or no place at all. Whether
-    there is a bus stop of its name is looked at later (Stops.place)."""
+    """The stop of a <stop> in an element (owner); one that cannot be made has the reason (why) and no place. Its
+    seconds are rounded to whole ones, and a duration below 1 counts as 1. Fault where it names a lane or edge that the
+    network does not have, a place beyond its lane, or no place at all. Whether there is a bus stop of its name is
+    looked at later (Stops.place)."""
     where = f"{told(path, owner)}: <stop>"
     name = next((element.get(kind, "") for kind in BUS_STOPS if element.get(kind)), "")
     duration = optional(path, element, "duration", seconds, None)
@@ -150,8 +151,9 @@ def why_not(element: Element) -> str:
 
 
 def place_of(path: FilePath, element: Element, net: SumoNet, where: str) -> BusStop:
-    """The place of a stop that names a lane, or an edge: then the first lane of it that is kept. Fault where it names
-    neither, the network does not have it, or the place lies beyond the lane; where: the element, for the Fault."""
+    """The place of a stop that names a lane, or an edge: then the first lane of it that is kept. An end that is not
+    told is the lane's, a begin that is not told POINT before the end. Fault where it names neither, the network does
+    not have it, or the place lies beyond the lane; where: the element, for the Fault."""
     lane = element.get("lane", "")
     if not lane:
         edge = element.get("edge", "")

@@ -154,7 +154,7 @@ class Types:
 
     def read_mix(self, path: FilePath, element: Element) -> None:
         """Adds a distribution, with the types that stand in it; Fault where it names a type that was not read before,
-        has no type, or its name is taken."""
+        has no type, weights that are all 0, or a name that is taken. A weight that is not told is 1."""
         names, weights = (element.get("vTypes") or "").split(), []
         shares = attribute(path, element, "probabilities", weights_of) if element.get("probabilities") else []
         for place, name in enumerate(names):

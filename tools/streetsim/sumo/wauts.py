@@ -22,7 +22,7 @@ Day = list[tuple[int, str]]  # the clocks from which on a light shows a program;
 
 def read_waut(path: FilePath, element: Element, net: SumoNet) -> None:
     """Keeps a <WAUT> in the network (wauts), its switches by the clock: their times and its refTime. One of the same
-    name is replaced. Fault where an attribute is absent or cannot be read."""
+    name is replaced, and its lights are forgotten. Fault where an attribute is absent or cannot be read."""
     name = attribute(path, element, "id")
     begin, period = (
         attribute(path, element, key, at_least_zero(seconds)) if element.get(key) else 0.0
@@ -48,9 +48,10 @@ def read_waut_junction(path: FilePath, element: Element, net: SumoNet, report: R
 
 
 def days_of(net: SumoNet, begin: int, last: int, report: Report) -> dict[str, Day]:
-    """By light with a WAUT the programs that it shows from the clock begin to last, [(clock, program's name)]; in the
-    network the first then becomes the light's program, and the others stand in earlier. Lights whose WAUT has them
-    blink (off) keep their program, and are reported. Fault where a light has not a program that its WAUT names."""
+    """By light with a WAUT the programs that it shows from the clock begin to last, both included, [(clock, program's
+    name)]; in the network the first then becomes the light's program, and the others stand in earlier. Of several WAUTs
+    of a light the last counts. Lights whose WAUT has them blink (off) keep their program, and are reported. Fault where
+    a light has not a program that its WAUT names."""
     found: dict[str, Day] = {}
     for name, waut in net.wauts.items():
         for light in waut.lights:
@@ -68,8 +69,8 @@ def days_of(net: SumoNet, begin: int, last: int, report: Report) -> dict[str, Da
 
 
 def day_of(waut: Waut, begin: int, last: int) -> Day:
-    """The programs of a WAUT from the clock begin to last, [(clock, program's name)], the first at begin; those that
-    follow an equal one are left out."""
+    """The programs of a WAUT from the clock begin to last, both included, [(clock, program's name)], the first at
+    begin; those that follow an equal one are left out."""
     changes = takewhile(lambda one: one[0] <= last, changes_of(waut, begin))
     found: Day = [(begin, waut.start)]
     for clock, program in changes:
@@ -81,8 +82,8 @@ def day_of(waut: Waut, begin: int, last: int) -> Day:
 
 
 def changes_of(waut: Waut, begin: int) -> Iterator[tuple[int, str]]:
-    """The changes of a WAUT, (clock, program), rising, over and over where it has a period; those of periods that are
-    over by the clock begin are left out but for the last."""
+    """The changes of a WAUT, (clock, program), rising within a period, over and over without end where it has a period;
+    those of periods that are over by the clock begin are left out but for the last."""
     first = max(0, int((begin - waut.switches[-1][0]) // waut.period)) if waut.period and waut.switches else 0
     for turn in count(first) if waut.period and waut.switches else (0,):
         for clock, program in waut.switches:

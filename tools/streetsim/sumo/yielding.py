@@ -22,9 +22,10 @@ LEAST_STOPPED = 0.4  # vehicles in a red, below which none go
 
 
 def settle(movements: Sequence[Movement]) -> None:
-    """Finds, for the movements of a junction, one at least, the seconds of each permissive green that are shown and the
-    flows that get through, until they fit to each other: a vehicle that waits to turn blocks those behind it on its
-    lane, and so makes room for those on the other side. Sets shown and passing of each."""
+    """Finds, for the movements of a junction, one at least, the seconds that are shown of each permissive green, and of
+    each red in which one may go after a stop, and the flows that get through, until they fit to each other (CLOSE), or
+    after ROUNDS rounds as they then are: a vehicle that waits to turn blocks those behind it on its lane, and so makes
+    room for those on the other side. Sets shown and passing of each."""
     lanes = defaultdict(list)
     for movement in movements:
         lanes[movement.lane].append(movement)
@@ -48,9 +49,9 @@ def pass_through(sharing: Sequence[Movement]) -> float:
 
 
 def seconds_shown(movement: Movement, start: int, length: int) -> int:
-    """How many seconds of a permissive green (length seconds from start) are to be shown, so that as many leave a queue
-    as find a gap in SUMO: the mean of cycles with less, usual and more traffic. At an edge of one lane all of its
-    vehicles count, as those who need not wait pass until one comes that must."""
+    """How many seconds, 1 to length, of a permissive green (length seconds from start) are to be shown, so that as many
+    leave a queue as find a gap in SUMO: the mean of cycles with less, usual and more traffic. At an edge of one lane
+    all of its vehicles count, as those who need not wait pass until one comes that must."""
     usual = sum(foe.passing for foe in movement.foes) * movement.cycle / 3600
     cycles = [(weight, max(0.0, 1 + deviations / max(1.0, usual) ** 0.5)) for weight, deviations in SPREAD]
     if movement.waits and movement.lanes == 1:
@@ -113,7 +114,8 @@ def facing_queue(foe: Movement, heads: Heads, factor: float) -> int:
 
 
 def most_against(movement: Movement) -> float:
-    """The greatest flow, vehicles an hour, that a movement gives way to in any second of its permissive greens."""
+    """The greatest flow, vehicles an hour, that a movement gives way to in any second of its permissive greens and of
+    the reds in which it may go after a stop; 0 without these."""
     groups = (foes for found in movement.meets.values() for _, foes in found)
     return max((sum(foe.passing for foe in foes) for foes in groups), default=0.0)
 

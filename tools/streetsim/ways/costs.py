@@ -38,7 +38,8 @@ def nothing_observed(movements: int, slices: int) -> Observed:
 
 
 def mean_of(runs: Sequence[Observed]) -> Observed:
-    """The mean of what some runs showed, one at least; of one run its Observed itself, no copy."""
+    """The mean of what some runs of equal slices showed, one at least, where counts need not be whole; of one run its
+    Observed itself, no copy."""
     if len(runs) == 1:
         return runs[0]
     seconds, counts = (
@@ -112,7 +113,9 @@ def costs_of(
     """The costs that follow from what was observed. free: seconds of each movement without traffic; width: seconds of a
     slice; minor: who gives way, None: nobody. A movement has its free seconds, TURN_BACK more where it turns back, and
     the mean delay of its vehicles in a slice, together with AS_MOVEMENT further ones that have the mean of its edge, or
-    the wait of those who give way where that is more. Costs fall by FALL seconds a second at most."""
+    the wait of those who give way where that is more. A movement of an edge that no vehicle was seen on, and that gives
+    way to nobody, costs the same at all times. Costs are half the free seconds at least, and fall by FALL seconds a
+    second at most."""
     slices, counts = observed.slices, observed.counts
     delays = array("d", [
         seconds - counts[place] * free[place // slices] for place, seconds in enumerate(observed.seconds)

@@ -13,8 +13,8 @@ class Graph:
     so bans on turning hold."""
 
     def __init__(self, edges: Iterable[str], ways: Iterable[tuple[str, str]], ends: dict[str, tuple[str, str]]) -> None:
-        """edges: names; ways: (edge, next edge), by names; ends: for each edge the junctions where it begins and ends,
-        by which it is known who turns back."""
+        """edges: names; ways: (edge, next edge), by names, of which each counts once; ends: for each edge the junctions
+        where it begins and ends, by which it is known who turns back."""
         self.edges = list(edges)
         self.number = {name: at for at, name in enumerate(self.edges)}
         found = dict.fromkeys((self.number[edge], self.number[following]) for edge, following in ways)

@@ -25,7 +25,8 @@ class Minor:
 
     def wait(self, movement: int, hourly: Hourly) -> float:
         """The mean seconds until a gap comes for a movement (its number) in traffic that comes at random; hourly: gives
-        vehicles an hour of a movement, by number. 0 where nobody goes first, MOST_WAIT at most."""
+        vehicles an hour of a movement, by number, of which MOST_HOURLY count at most. 0 where nobody goes first or
+        comes, MOST_WAIT at most."""
         flows = [(min(MOST_HOURLY, hourly(foe)), gap) for foe, gap in self.foes.get(movement, ())]
         every = sum(flow for flow, _ in flows)
         if not every:

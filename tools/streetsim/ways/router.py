@@ -42,8 +42,8 @@ class Router:
     another target is asked for."""
 
     def __init__(self, graph: Graph, costs: Costs, shut: Shut | None = None) -> None:
-        """costs: seconds of the graph's movements by time; shut: edges and movements, with the clocks (begin, end)
-        between which they cannot be used; None: none."""
+        """costs: seconds of the graph's movements by time; shut: edges and movements, with the clocks (begin, end),
+        begin included, between which they cannot be used; None: none."""
         self.graph, self.table, self.shut = graph, Table(costs), shut or {}
         ways = [way for way in self.shut if isinstance(way, tuple)]
         # By edge: those to which one may not turn at times.
@@ -133,13 +133,14 @@ class Router:
         return found
 
     def opened(self, what: int | Way, clock: float) -> float:
-        """The clock at which one may enter an edge, or take a movement (what), that is reached at a clock: the same
-        clock where it is open."""
+        """The clock at which one may enter an edge, or take a movement (what), that is reached at a clock: the end of
+        the first span that holds the clock (another one may hold that end), or the same clock where it is open."""
         return next((end for begin, end in self.shut.get(what, ()) if begin <= clock < end), clock)
 
     def entered(self, way: Way, clock: float) -> float:
         """The clock at which one comes to the second edge of a way (edge, next edge) who would reach it at a clock if
-        nothing were shut: the same clock where both are open."""
+        nothing were shut: the later of what opened gives for the edge and for the movement; whether the other is shut
+        again by then is not looked at."""
         return max(self.opened(way[1], clock), self.opened(way, clock))
 
     def met(self, path: Path, clock: float) -> int | None:

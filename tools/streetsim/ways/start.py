@@ -22,9 +22,9 @@ Searching = Callable[[Sequence[Wish], Costs], Iterable[Found]]
 def first_ways(
     graph: Graph, trips: Sequence[Trip], free: Sequence[float], capacity: Sequence[float], seed: int, search: Searching
 ) -> list[Trip]:
-    """Sets the path of each trip that has none; gives back the trips for which there is no way, their paths empty.
-    trips: in order of departure, one at least; free: seconds, and capacity: vehicles an hour, of each movement; seed:
-    of the order in which trips choose; search: finds a path for each wish by costs, in any order."""
+    """Sets the path of each trip that has none; gives back the trips for which there is no way, their paths empty; they
+    are in no order. trips: in order of departure, one at least; free: seconds, and capacity: vehicles an hour, of each
+    movement; seed: of the order in which trips choose; search: finds a path for each wish by costs, in any order."""
     wanting = [at for at, trip in enumerate(trips) if not trip.path]
     random.Random(f"start {seed}").shuffle(wanting)
     hours = max(LEAST_HOURS, (trips[-1].depart - trips[0].depart) / 3600)
@@ -58,7 +58,8 @@ def volumes(graph: Graph, trips: Iterable[Trip]) -> list[int]:
 
 def delayed(graph: Graph, free: Sequence[float], loads: Sequence[float]) -> list[float]:
     """The seconds of each movement, a list, under its load (volume by capacity): its seconds without traffic (free),
-    plus its own delay, or plus the mean delay of the used movements of its edge where that is more."""
+    plus its own delay, MOST_DELAY at most, or plus the mean delay of the used movements of its edge where that is
+    more."""
     delays = [min(MOST_DELAY, STEEPNESS * seconds * load**POWER) for seconds, load in zip(free, loads, strict=True)]
     of_edge = defaultdict(list)
     for (edge, _), delay, load in zip(graph.movements, delays, loads, strict=True):
