@@ -188,8 +188,8 @@ class Simulation(Part, SimulationCalls[Scenario]):
 class Route(Part):
     """Calls on the routes that a script adds."""
     def add(self, name: str, edges: Iterable[str]) -> None:
-        """Names a route along edges, for vehicle.add; ValueError where an edge is unknown or two have no connection. A
-        second route of a name replaces the first."""
+        """Names a route along edges, for vehicle.add; ValueError where an edge is unknown, two have no connection, or
+        there is none. A second route of a name replaces the first."""
         self.scenario.routes[name] = self.scenario.connections.plan(list(edges))
 
 
@@ -197,8 +197,9 @@ class Vehicle(Part, VehicleCalls[Scenario]):
     """Calls on vehicles of the file and of the script. KeyError for a name that neither has; getLength and getMinGap
     tell those of a car for it."""
     def add(self, name: str, route: str, depart: float | None = None, size: int = 1) -> None:
-        """Adds a vehicle of size cells (1 to 4) on a route that route.add named; it departs at depart seconds, rounded
-        up (None: now). ValueError where its name is taken, KeyError where the route was not named."""
+        """Adds a vehicle of size cells (1 to 4; less counts as 1) on a route that route.add named; it departs at depart
+        seconds, rounded up (None: now; one that is over: at once). ValueError where its name is taken, KeyError where
+        the route was not named, BadRange (streetsim.client) for a greater size."""
         plan = self.scenario.routes[route]
         clock = self.scenario.clock if depart is None else max(0, -int(-depart // 1))
         self.scenario.add(name, plan, self.scenario.connections.departure_lane(plan), clock, size)
@@ -275,9 +276,9 @@ class Edge(Stretch):
 class InductionLoop(Part):
     """Calls on detectors that a script places. KeyError for an unknown name."""
     def add(self, name: str, lane: str, place: float, period: int) -> None:
-        """Places a detector at place metres of a lane (the lane's end where that is beyond it), with rows of period
-        seconds, 1 to 100,000, from now on. KeyError for an unknown lane. A second detector of a name replaces the
-        first."""
+        """Places a detector at place metres of a lane (its begin or end where that is beyond it), with rows of period
+        seconds, 1 to 100,000, from now on. KeyError for an unknown lane, BadCount (streetsim.client) for another
+        period, TooMany where the run has 1,024 detectors. A second detector of a name replaces the first."""
         link, index = self.scenario.lane_of[lane]
         cell, _ = self.scenario.map.links[link].cells_between(place, place)
         self.scenario.detectors[name] = self.scenario.client.meter(link, index, cell, period)
@@ -317,7 +318,7 @@ class TrafficLight(Part):
     def setProgramLogic(self, name: str, phases: Iterable[tuple[float, str]], offset: float = 0) -> list[str]:
         """Sets a light's cycle from the next step on: phases of (seconds, state), and SUMO's offset in seconds, as a
         tlLogic has them; detectors drive it no more. Of permissive greens the usual share is shown, as flows are not
-        known here. Gives warnings, empty where there are none. Does nothing for an unknown light; Fault
+        known here. Gives warnings, empty where there are none. Does nothing for an unknown light. Fault
         (streetsim.files) where a state is shorter than the light's signals, or the cycle no second long or too long."""
         self.scenario.driving.driver.release(name)
         return self.scenario.show_program(name, [(seconds, state) for seconds, state in phases], offset)

@@ -17,8 +17,8 @@ class Engine:
         self.client: Client | None = None
 
     def begin(self, anew: bool = False) -> list[bytes]:
-        """Starts from nothing; gives the replies to the run's own lines. anew has no effect here. Fault where the
-        program cannot be started."""
+        """Ends what runs and starts from nothing; gives the replies to the run's own lines. anew has no effect here.
+        Fault where the program cannot be started."""
         with self.lock:
             self.stop()
             self.client = Client(self.program)

@@ -161,7 +161,8 @@ class KeptEngine(Engine):
             self.changes = changes
 
     def settle(self, changes: list[Any]) -> None:
-        """Puts the session that was made anew, with these changes, in the place of the one before."""
+        """Puts the session that was made anew, with these changes, in the place of the one before. OSError where begin
+        has made none."""
         with self.lock:
             self.note("next", changes)
             os.replace(self.making, self.file)

@@ -104,8 +104,8 @@ class Desk:
     def advance(self, clock: int, target: int) -> int:
         """Advances the run from clock to target, or to the first clock before it at which something is due (a line, the
         end of a period, a sample, works, a bus or a light), not past the run's end, and 10,000 steps at most; gives
-        that clock. Vehicles that depart until then are sent first; there works, buses and lights are looked at, and
-        what follows is sent. Fault where a line is refused."""
+        that clock. Vehicles that depart until then, and those that stand before them in the file, are sent first; there
+        works, buses and lights are looked at, and what follows is sent. Fault where a line is refused."""
         at = clock - self.start
         period = (at // self.settings.period + 1) * self.settings.period + self.start
         sample = self.samples.after(clock)

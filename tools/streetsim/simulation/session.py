@@ -147,8 +147,9 @@ class Session(Simulation):
     # Vehicles
 
     def enter_due(self, target: int) -> None:
-        """Tells the program of the file's vehicles that depart before the clock target; those that a script took out
-        before are left out. TraCIException where a script has added one of the same name."""
+        """Tells the program of the file's vehicles that depart before the clock target, and of those that stand before
+        them in the file; those that a script took out before are left out. TraCIException where a script has added one
+        of the same name."""
         enters, run, names = [], self.source, []
         while self.entered < len(run.enters) and run.needed[self.entered] < target:
             command = run.enters[self.entered].command

@@ -42,8 +42,8 @@ class Domain(Calls[Session]):
     # Parameters that a script keeps with an object
 
     def setParameter(self, objectID: str, param: str, value: object) -> None:
-        """Keeps a value, as text, under a key (param); only getParameter reads it. TraCIException for an unknown
-        object, NotHere for keys of SUMO's models."""
+        """Keeps a value, as text, under a key (param); only getParameter reads it, and getColor of a vehicle the key
+        color. TraCIException for an unknown object, NotHere for keys of SUMO's models."""
         self.check_key(objectID, param)
         self.parameters[objectID, param] = str(value)
 
@@ -139,10 +139,10 @@ class Placed(Domain):
         begin: object = None,
         end: object = None,
     ) -> None:
-        """Has variables of all vehicles told, from now on, that are at most dist metres from the object. domain: must
-        be that of vehicles (CMD_GET_VEHICLE_VARIABLE); varIDs: numbers, None: edge and metres on the lane; begin and
-        end have no effect. TraCIException for an unknown object; NotHere for another domain, or a variable that
-        vehicles do not tell."""
+        """Has variables of all vehicles told, from now on, that are at most dist metres from the object, in place of an
+        earlier context subscription. domain: must be that of vehicles (CMD_GET_VEHICLE_VARIABLE); varIDs: numbers,
+        None: edge and metres on the lane; begin and end have no effect. TraCIException for an unknown object; NotHere
+        for another domain, or a variable that vehicles do not tell."""
         self.check(objectID, self.subjects())
         if domain != tc.CMD_GET_VEHICLE_VARIABLE:
             raise NotHere(f"{self.name}.subscribeContext: of domain {domain:#x} nothing is looked for, but of vehicles")

@@ -176,8 +176,8 @@ class Simulation(Domain, SimulationCalls[Session]):
 
     def getDistanceRoad(self, edgeID1: str, pos1: float, edgeID2: str, pos2: float, isDriving: bool = False) -> float:
         """Metres between two places on edges; pos1, pos2: metres from their begins, on the lanes of index 0. In a
-        straight line, or (isDriving) on the shortest way, through its junctions. TraCIException where there is no way,
-        or the import does not have such a lane."""
+        straight line, or (isDriving) on the shortest way, through its junctions; on one and the same edge pos2 less
+        pos1, also below 0. TraCIException where there is no way, or the import does not have such a lane."""
         if not isDriving:
             return self.getDistance2D(*self.convert2D(edgeID1, pos1), *self.convert2D(edgeID2, pos2))
         if edgeID1 == edgeID2 and pos1 <= pos2:
@@ -200,7 +200,7 @@ class Simulation(Domain, SimulationCalls[Session]):
 
     def saveState(self, fileName: str) -> None:
         """Writes the state to a file of streetsim's own form, which loadState reads; Fault (streetsim.files) where it
-        cannot be written. Merging before works begins anew from here."""
+        cannot be written. Merging before works begins anew from here, and each step is looked at from now on."""
         save_state(self.now(), fileName)
 
     def loadState(self, fileName: str) -> None:

@@ -172,7 +172,8 @@ class TrafficLight(Domain):
     def setProgramLogic(self, name: str, logic: Program) -> None:
         """Sets a whole program of phases of fixed seconds (minDur, maxDur and next have no effect, and detectors drive
         the light no more) and runs it from the begin of its current phase; setProgram can choose it again by its name.
-        TraCIException without phases, or for wrong states, seconds not above 0 or a wrong current phase."""
+        TraCIException without phases, or for wrong states, seconds not above 0 or a wrong current phase; Fault
+        (streetsim.files) where the cycle is no second long or too long."""
         phases = [(float(phase.duration), phase.state) for phase in logic.phases]
         if not phases:
             raise TraCIException(f"Traffic light '{name}': a program without phases")

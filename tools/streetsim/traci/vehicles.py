@@ -332,10 +332,10 @@ class Vehicle(VehicleCalls[Session], Placed):
         *_: object, **__: object,
     ) -> None:  # fmt: skip
         """Adds a vehicle on a route of the files or of route.add; it departs now (depart is None, "now" or
-        "triggered"), or at depart seconds (rounded up), in the first cell of a lane that leads on, and takes as many
-        cells as its type is long. Further arguments, as departLane or departPos, have no effect. TraCIException where
-        its name is taken, the route or type is unknown, or the route's edges have no connection; ValueError where
-        depart is no number."""
+        "triggered"), or at depart seconds (rounded up; at once where that is over), in the first cell of a lane that
+        leads on, and takes as many cells as its type is long. Further arguments, as departLane or departPos, have no
+        effect. TraCIException where its name is taken, the route or type is unknown, or the route's edges have no
+        connection; ValueError where depart is no number."""
         session = self.now()
         if routeID not in session.routes and routeID not in session.facts.routes:
             raise TraCIException(f"Route '{routeID}' is not known.")
