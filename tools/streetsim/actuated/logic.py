@@ -143,8 +143,8 @@ class Actuated:
         self.due, self.told_to_end = clock, True
 
     def told(self, until: int) -> Iterator[tuple[Ended, str]]:
-        """(phase, its state) of the phases that began before the clock `until`; the one under way ends there, with an
-        empty reason."""
+        """(phase, its state) of all phases that have ended, in their order, and of the one under way where it began
+        before the clock `until`: that ends there, with an empty reason."""
         under_way = [Ended(self.at, self.since, until - self.since, "")] if self.since < until else []
         for row in (*self.ended, *under_way):
             yield row, self.phases[row.phase].state

@@ -122,8 +122,8 @@ class Nema:
         return tuple((one.phase.name, one.is_green) for one in self.active)
 
     def told(self, until: int) -> Iterator[tuple[Ended, str]]:
-        """(green, the phase's letters) of the greens that began before the clock `until`; those under way end there,
-        with an empty reason."""
+        """(green, the phase's letters) of all greens that have ended, in the order of their ends, and of those under
+        way that began before the clock `until`: these end there, with an empty reason."""
         under_way = [
             Ended(one.phase.name, one.began, until - one.began, "")
             for one in self.active

@@ -144,8 +144,8 @@ class Stopping:
             self.closed |= {(lane, cell) for cell in cells}
 
     def near(self, bus: Seen, ahead: Sequence[Seen], last: int) -> None:
-        """Closes the cell beyond the cell last, where the bus would pass that in the next step and nobody stands there.
-        ahead: vehicles before it on its lane."""
+        """Closes the cell beyond the cell last, where the bus would pass that in the next step and nobody before it is
+        at that cell or nearer. ahead: vehicles before it on its lane."""
         if min(bus.speed + 1, self.road.limit) > last - bus.cell and rear_of(ahead) > last + 1:
             self.closed.add((self.lane, last + 1))
 

@@ -55,7 +55,7 @@ def ended_search(
 
 
 def best_line(search: Search) -> str:
-    """The mean trip of the best plan so far and how much it is above or below that of the given one, for the line of
-    progress; empty where nobody drives."""
+    """The mean trip of the best plan so far and how much it is above or below that of the given one, the first that was
+    tried, for the line of progress; empty where that is 0, as nobody drives."""
     best, given = search.best[0], search.trials[0].value
     return f"best {best:.1f} s ({100 * (best / given - 1):+.1f} %)" if given else ""

@@ -116,8 +116,8 @@ class Merging:
         return self.changes(no_cells())
 
     def places(self, closed: Sequence[Iterable[Stretch]]) -> Iterator[Place]:
-        """The places where vehicles may merge; closed: all closed stretches by lane. Works are what is closed but for
-        what it has closed itself."""
+        """The places where vehicles may merge, by lane and then rising; closed: all closed stretches by lane. Works are
+        what is closed but for what it has closed itself."""
         works = [cells_of(closed[lane]) - self.held[lane] for lane in (0, 1)]
         for lane in (0, 1):
             low = 0
