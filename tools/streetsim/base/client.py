@@ -368,8 +368,9 @@ class Client:
 
     def batch(self, commands: Iterable[Command]) -> list[Reply]:
         """Sends commands, dictionaries or ready lines, and gives the typed reply to each, in order; refusals and
-        Starved stand among them as values and do not end the batch. ValueError for a line that is blank or several,
-        ProgramEnded where the program ends before it replied, NoReply where what it writes is no reply of streetsim."""
+        Starved stand among them as values and do not end the batch. ValueError for a line that is blank or several
+        (those before it may have been done), ProgramEnded where the program ends before it replied, NoReply where what
+        it writes is no reply of streetsim."""
         return [read_reply(reply) for reply in self.exchange(map(line_of, commands))]
 
     def ask(self, cmd: str, **fields: Any) -> Any:

@@ -13,7 +13,7 @@ HELP = f"the simulator (default: ${VARIABLE}, else the one that is installed wit
 
 def find_program(given: str | None = None) -> str:
     """The path of the program that is given (a path or a command's name), else of the one that STREETSIM_PROGRAM names,
-    else of the one that is installed with the tools; Fault where there is none.
+    else of the one that is installed with the tools; Fault where there is none. An empty text counts as none.
 
     The repository's script `streetsim` stands for the program that was built there: no tool starts a build.
     """

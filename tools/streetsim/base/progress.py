@@ -90,7 +90,7 @@ class UnderWay(TerminalLine):
 
     def show(self, clock: int, census: Census | None, run: int = 0) -> None:
         """Notes how far a run (by its place, from 0) is, and writes the line where it is due; does nothing before the
-        run's first census (none)."""
+        run's first census (none), and where the stream is no terminal."""
         if not self.shown or census is None:
             return
         self.clocks[run], self.ways[run], self.arrived[run] = clock, census.cells + census.buffers, census.arrived
@@ -121,7 +121,8 @@ class Slow(TerminalLine):
         self.thread = threading.Thread(target=self.show, daemon=True)
 
     def __enter__(self) -> Self:
-        """Begins to wait for the line's time; nothing where the stream is no terminal."""
+        """Begins to wait for the line's time, which can be done once (RuntimeError); nothing where the stream is no
+        terminal."""
         if self.shown:
             self.thread.start()
         return self

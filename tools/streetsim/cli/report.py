@@ -164,8 +164,8 @@ def refuse(words: argparse.Namespace) -> None:
 
 
 def read_plans(words: argparse.Namespace) -> list[Runs]:
-    """The runs of each plan, one or two, with their names and those of --names put into their maps. Fault where one
-    cannot be read."""
+    """The runs of each plan, one or two, with their names and those of --names put into their maps. Two of one name are
+    called by their paths, and all as --plans says where it is given. Fault where one cannot be read."""
     plans = [read_runs(path) for path in words.runs]
     for runs, path in zip(plans, words.runs, strict=True):
         if words.names:

@@ -16,7 +16,8 @@ class FreeFlow:
     speed: what routes and searches reckon with."""
 
     def __init__(self, mapping: Map, dawdle: float) -> None:
-        """dawdle: the chance, 0 to 1, to go on by a cell a step less."""
+        """dawdle: the chance, 0 to 1, to go on by a cell a step less; a mean speed below 0.001 cells a step counts as
+        that."""
         self.driving = [link.cells / max(0.001, link.limit - dawdle) for link in mapping.links]
         self.crossing = [mapping.nodes[link.end][3] for link in mapping.links]
 

@@ -94,7 +94,8 @@ class Names:
 
 
 def wind(begin: Sequence[float], end: Sequence[float]) -> str:
-    """The direction from one point (x, y) to another as one of eight words; y points to the north."""
+    """The direction from one point (x, y) to another as one of eight words; y points to the north. East for equal
+    points."""
     turn = atan2(end[1] - begin[1], end[0] - begin[0]) / (2 * pi)
     return WINDS[round(turn * len(WINDS)) % len(WINDS)]
 

@@ -53,8 +53,8 @@ def read_run(path: FilePath) -> Run:
 
 
 def read_with_map(run_path: FilePath, map_path: FilePath) -> tuple[Run, Map]:
-    """(run, map of its names); Fault where a file is none of its kind, or the map belongs to another run, by the links,
-    how many vehicles there are, and where these begin and end."""
+    """(run, map of its names); Fault where a file is none of its kind, or the map belongs to another run: by the links,
+    by fewer vehicles than the map has, or by where these begin and end, if the map keeps that."""
     run, mapping = read_run(run_path), read_map(map_path)
     if run.load.command.get("links") != mapping.load_links():
         raise Fault(f"{map_path}: not the map of {run_path}, whose links are other ones")

@@ -106,7 +106,7 @@ class Summary(XmlFile):
         self.loaded = self.inserted = self.arrived = self.delays = self.durations = self.teleports = 0
 
     def step(self, second: Second) -> None:
-        """Adds a second to the sums, and writes its row."""
+        """Adds a second to the sums, and writes its row; those in junctions count there, and in its speeds, too."""
         self.loaded = bisect_right(self.wished, second.time)
         self.count(second)
         speeds = [self.places.speed(at) for at in second.here.values()]
@@ -187,7 +187,7 @@ class Queue(XmlFile):
         self.standing: dict[int, int] = {}  # car: seconds
 
     def step(self, second: Second) -> None:
-        """Adds a second to the time of those who stand, and writes the lanes on which any do."""
+        """Adds a second to the time of those who stand in cells, and writes the lanes on which any do."""
         cars = [(car, at) for car, at in second.here.items() if at.cell is not None and not at.speed]
         self.standing = {car: self.standing.get(car, 0) + 1 for car, _ in cars}
         lengths: dict[Place, float] = {}

@@ -60,7 +60,8 @@ def doubts_of(runs: Runs) -> list[str]:
 
 
 def change_verdict(plans: Sequence[Runs], shown: Interval) -> str:
-    """What the second of two plans changes for trips and delays, as plain text."""
+    """What the second of two plans changes for trips and delays, as plain text. Fault where trips.csv cannot be
+    read."""
     trip = paired(*(runs.mean_trips() for runs in plans))
     delay = paired(*(mean_delay(runs.rows["junctions", *shown].values()) for runs in plans))
     first, name = "Nothing can be said of trips, as nobody arrived.", plans[1].name
@@ -78,7 +79,8 @@ def change_verdict(plans: Sequence[Runs], shown: Interval) -> str:
 
 
 def state_verdict(runs: Runs, shown: Interval) -> str:
-    """How long trips and delays are with one plan, and how many junctions are worse than D, as plain text."""
+    """How long trips and delays are with one plan, and how many junctions are worse than D, as plain text. Fault
+    where trips.csv cannot be read."""
     delays = mean_delay(runs.rows["junctions", *shown].values())
     rows = junctions_of([runs], shown)
     bad = [one for one in rows if one.is_bad]

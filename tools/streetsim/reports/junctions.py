@@ -22,7 +22,8 @@ def title_of(name: str, names: Names) -> str:
 
 
 def lines(rows: Sequence[Told], names: Names, detailed: int) -> str:
-    """A table with one line for each junction, as HTML; the first `detailed` of them are links to their sections."""
+    """A table with one line for each junction, as HTML; the first `detailed` of them are links to their sections. With
+    two plans the cells of before and of change are empty where nothing can be paired."""
     two = any(one.before for one in rows)
     made = []
     for place, one in enumerate(rows):

@@ -43,7 +43,7 @@ def appendix_of(
     plans: Sequence[Runs], shown: Interval, detailed: Sequence[Told], wishes: Wishes
 ) -> Iterator[Section]:
     """The sections behind the first page, those without content left out; detailed: the junctions that are told with
-    all their movements."""
+    all their movements. Fault where a table of the runs cannot be read."""
     last, times = plans[-1], f"{clock(shown[0])} to {clock(shown[1])}"
     rows = council.junctions_of(plans, shown)
     seeds = len(plans[0].folders.keys() & last.folders.keys())

@@ -63,7 +63,8 @@ def how(folder: Folder) -> Json:
 
 
 def map_of(folder: Folder) -> Json:
-    """The map as the run's setting keeps it, without names that were given to it later."""
+    """The map as the run's setting keeps it, without names that were given to it later. Fault where that cannot be
+    read."""
     value: Json = read_json(f"{folder.path}/{NAME}", ("map",))["map"]
     return value
 

@@ -90,7 +90,7 @@ def part_of(mapping: Map, place: Place) -> Shape:
 
 def section(plans: Sequence[Runs], shown: tuple[int, int]) -> str:
     """The road works of one plan or two, as HTML, with two also the streets that more or fewer vehicles use; empty
-    where none had any."""
+    where none had any. Fault as of seen_in, and with two where edges.csv cannot be read."""
     parts = []
     for runs in plans:
         parts += [place_told(runs, seen) for seen in seen_in(runs)]
@@ -161,7 +161,7 @@ def queues_picture(seen: Seen) -> str:
 def other_ways(plans: Sequence[Runs], shown: tuple[int, int]) -> str:
     """A table, as HTML, of the edges that win or lose 20 vehicles an hour or more with the second of two plans, for
     sure or, with one seed, at all; where they are more than twelve, the six that win and the six that lose most. A
-    sentence where there are none."""
+    sentence where there are none. Fault where edges.csv cannot be read."""
     names, found = plans[1].names, []
     for edge, change in flow_changes(plans, shown).items():
         if abs(change.change) >= LEAST and (change.is_sure() or change.half is None):

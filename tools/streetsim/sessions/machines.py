@@ -125,8 +125,9 @@ def machines(jobs: int, cluster: str | None, sessions: Sequence[Held]) -> Iterat
 
 
 def end(executor: Executor) -> None:
-    """Ends the processes of a pool. Where one was lost while a task was written for it, the pool of a Python before
-    3.11.5 would wait for ever; so its end of the pipe is closed here."""
+    """Ends the processes of a pool: tasks that run are waited for, others are cancelled. Where one was lost while a
+    task was written for it, the pool of a Python before 3.11.5 would wait for ever; so its end of the pipe is closed
+    here."""
     manager, calls = executor._executor_manager_thread, executor._call_queue
     executor.shutdown(wait=False, cancel_futures=True)
     while manager is not None and manager.is_alive():
