@@ -110,7 +110,7 @@ def pairs_of_zones(graph: Graph, zones: Mapping[str, Zone], wanted: Iterable[tup
 def thinned(pairs: Sequence[Pair], ways: int, most: int, seed: int) -> tuple[list[Pair], int]:
     """(pairs to search, how many ways of each), so that there are about `most` ways in all; ways: of each pair at most.
     First there are fewer ways of each pair, as pairs that are left out cost more; where even one way of each is too
-    many, a seed draws some pairs."""
+    many, a seed draws some pairs. One pair of those given, and one way of each, are kept at least."""
     count = sum(len(pair.sources) * len(pair.sinks) for pair in pairs)
     each = max(1, min(ways, most // max(1, count)))
     if count <= most:
@@ -129,8 +129,9 @@ class Times:
 
 def ways_between(graph: Graph, pairs: Sequence[Pair], times: Times, most: int, seed: int) -> list[Way]:
     """At most `most` ways from each first to each last edge of the pairs, with their shares: the shortest by time with
-    the waits at signals, then without, and further ones that draws (by the seed) of these seconds find, up to 1.5 times
-    as long. Pairs without a way have none."""
+    the waits at signals, then without, and further ones that draws (by the seed) of these seconds find. One that takes
+    more than 1.5 times the seconds of the first, both with the waits, is left out. Pairs without a way have none. What
+    turning back costs (TURN_BACK) is in all seconds."""
     numpy, _ = needed()
     both = [
         numpy.array([value + (TURN_BACK if back else 0.0) for value, back in zip(some, graph.turns_back, strict=True)])
@@ -170,7 +171,7 @@ HABITS = [Habit(waits, spread) for waits in (1.0, 0.5, 0.0) for spread in (0.1, 
 
 def shares_by(ways: Sequence[Way], habit: Habit) -> Array:
     """The share of its pair's vehicles that each way has by a habit, as an array in the ways' order; 0 for a way whose
-    share is given (its weight is 0)."""
+    share is given (its weight is 0). A spread of less than a second counts as one."""
     numpy, _ = needed()
     groups: dict[tuple[int, int, int], int] = {}
     group = numpy.array([groups.setdefault((way.pair, way.path[0], way.path[-1]), len(groups)) for way in ways], int)
@@ -211,7 +212,7 @@ def shortest(graph: Graph, costs: Array, wanted: Mapping[int, Sequence[int]]) ->
 
 def traced(before: Sequence[int], origin: int, target: int) -> Path:
     """The path from origin to target, of the edge before each that a search found (below 0: none); empty where none
-    leads there."""
+    leads there, or both are one edge."""
     path, edge = [target], before[target]
     while edge >= 0:
         path.append(edge)
@@ -244,7 +245,7 @@ def with_given(
     """(all pairs, all ways) with the routes of files (names of edges, all of the graph) as further candidates; one that
     is a way already is left out. A route belongs to the pair whose ends it has, else to a new pair with its ends. The
     routes of files have half of their pair's vehicles together, or all where it had no way: each in proportion to how
-    often it stands in the files. costs: seconds of each movement."""
+    often it stands in the files; their weights and driven seconds are 0. costs: seconds of each movement."""
     many = Counter(tuple(graph.number[name] for name in edges) for edges in routes)
     all_pairs, known = list(pairs), {way.path for way in ways}
     place = {(one, other): at for at, pair in enumerate(pairs) for one in pair.sources for other in pair.sinks}

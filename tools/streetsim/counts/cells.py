@@ -41,9 +41,10 @@ class Row:
 
 
 def rows_of(path: FilePath, needed: Sequence[str], more: Collection[str] = ()) -> Iterator[Row]:
-    """The rows of a table whose first line has the columns `needed`, and maybe those of `more` (given in small letters;
-    the file may have capital ones). Blank rows, and those that begin with #, are left out. Fault where the file cannot
-    be read, a column is missing or is none of these, or a row has more or fewer values than the first line."""
+    """The rows of a table whose first line (blank ones apart) has the columns `needed`, and maybe those of `more`
+    (given in small letters; the file may have capital ones). Blank rows, and those that begin with #, are left out.
+    Fault where the file cannot be read, a column is missing, stands there twice or is none of these, or a row has more
+    or fewer values than the first line."""
     with reading(path), open_text(path) as file:
         lines = (line for line in file)
         first = next((line for line in lines if line.strip()), "")

@@ -51,7 +51,8 @@ def check_edges(names: Iterable[str], where: str, net: SumoNet) -> None:
 
 def check_counts(counts: Sequence[Count], net: SumoNet, graph: Graph) -> None:
     """Fault for counts of edges or turns that the network does not have, of one place and class whose periods overlap,
-    of more than a vehicle a second and lane; and where all are 0. counts: one at least."""
+    of more than a vehicle a second and lane of the edge with the fewest (and one vehicle beyond); and where all are 0.
+    counts: one at least."""
     for count in counts:
         check_edges(count.edges, count.where, net)
         for source, target in pairwise(count.edges):
@@ -137,7 +138,7 @@ def of_junctions(there: There, graph: Graph, begins: Set[int], ends: Set[int]) -
 
 
 def every(there: There, keys: Iterable[tuple[str, ...]]) -> list[Count]:
-    """The counts of some places; keys: the edges of each. Empty where one of them has no count."""
+    """The counts of some places; keys: the edges of each. Empty where one of them has no count, or there are none."""
     found = [there.get(key) for key in keys]
     return [] if None in found else [count for count in found if count is not None]
 

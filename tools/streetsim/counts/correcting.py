@@ -59,9 +59,9 @@ class Attempt:
 def attempts(
     basis: Basis, asked: Asked, ground: Ground, runs: int, first: Fitted, told: Told = lambda _text: None
 ) -> Iterator[Attempt]:
-    """Runs a demand at most `runs` times, and gives each attempt as it ends: the first of the fit on paper (first), the
-    others of what the run before corrects. Ends after one that fits. told: gets what is done just now. Fault where a
-    fit has no vehicle, or a run cannot be made."""
+    """Runs a demand, of one count at least, at most `runs` times, and gives each attempt as it ends: the first of the
+    fit on paper (first), the others of what the run before corrects. Ends after one that fits. told: gets what is done
+    just now. Fault where a fit has no vehicle, or a run cannot be made."""
     graph, fitted, costs = basis.town.graph, first, basis.free_costs()
     counted = made_up = counted_of(basis.counts)
     for number in range(1, runs + 1):
@@ -115,7 +115,8 @@ def full_edges(graph: Graph, lost: Sequence[float]) -> dict[int, float]:
 
 
 def is_behind(count: Count, full: dict[int, float], graph: Graph) -> bool:
-    """Whether a count is at the end of a full edge, or on an edge that a full one leads to; full: by edge number."""
+    """Whether a count, by the first of its edges, is at the end of a full edge, or on an edge that a full one leads to;
+    full: by edge number."""
     edge = graph.number[count.edges[0]]
     return edge in full or any(before in full for before, _ in graph.into[edge])
 

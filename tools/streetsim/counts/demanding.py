@@ -154,8 +154,9 @@ def read_matrix(asked: Asked, counts: Sequence[Count], town: Town) -> tuple[dict
 
 
 def kinds_of(counts: Iterable[Count], cells: Iterable[Cell], types: Types) -> tuple[str, ...]:
-    """The classes that are told apart by counts and matrix, sorted; empty stands for all others, which are cars. Each
-    becomes a vehicle type in `types`; Fault for one that SUMO does not have."""
+    """The classes that are told apart by counts and matrix, sorted; empty stands for all others, which are cars, and is
+    alone where none is told apart. Each other one becomes a vehicle type in `types`, if none of its name is there;
+    Fault for one that SUMO does not have."""
     found = dict.fromkeys([*((one.kind, one.where) for one in counts), *((one.kind, one.where) for one in cells)])
     for kind, where in found:
         if kind and kind not in CLASSES:
@@ -171,7 +172,8 @@ def by_pairs(
     town: Town, asked: Asked, times: Times, zones: Mapping[str, Zone], cells: Sequence[Cell]
 ) -> tuple[list[Pair], list[Way], tuple[int, int]]:
     """(pairs of a matrix, else of zones, else of entries and exits; their ways, with those of route files; (pairs that
-    were kept, of how many)). Without a matrix pairs and ways are thinned to about `asked.most` ways."""
+    were kept, of how many)). Without a matrix pairs and ways are thinned to about `asked.most` ways. Where no ways are
+    searched (asked.ways), all are of the route files. Fault as of given_routes."""
     graph = town.graph
     count = (0 if asked.candidates else 3) if asked.ways is None else asked.ways
     if cells:
@@ -263,7 +265,8 @@ def by_cells(cells: Sequence[Cell], pairs: Sequence[Pair], ways: Sequence[Way], 
 
 def by_departures(departs: Sequence[tuple[float, int]], slices: Slices, ways: int) -> dict[str, Array]:
     """{"": the vehicles, an array in one row, at the place way * slices + slice}, of departures (second, place of the
-    way); an empty dict where there are none. ways: how many there are."""
+    way); an empty dict where there are none. One before the first slice counts in it, one after the last in that. ways:
+    how many there are."""
     if not departs:
         return {}
     numpy, _ = needed()
@@ -287,7 +290,7 @@ def stacked(basis: Basis, costs: Costs) -> Sparse:
 def fit(basis: Basis, asked: Asked, costs: Costs, counted: Array = None) -> Fitted:
     """The vehicles that fit the counts best; without counts those that are expected. costs: seconds of movements, by
     which it is known who passes when; counted: an array of the vehicles to be met, by count, where a run has corrected
-    them; None: what was counted."""
+    them; None: what was counted. Fault where there are counts, and too many ways and slices (passing_matrix)."""
     numpy, scipy = needed()
     size = len(basis.ways) * len(basis.slices)
     passing = stacked(basis, costs) if basis.counts else scipy.sparse.csr_matrix((0, len(basis.kinds) * size))

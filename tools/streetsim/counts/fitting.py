@@ -31,8 +31,8 @@ class Problem:
 
 
 def deviations(counted: Array, error: float) -> Array:
-    """How far off counts are taken to be, in vehicles, as an array; counted: an array of vehicles; error: share of a
-    count."""
+    """How far off counts are taken to be, in vehicles, one at least (CHANCE), as an array; counted: an array of
+    vehicles; error: share of a count."""
     numpy, _ = needed()
     return numpy.sqrt(CHANCE + (error * counted) ** 2)
 
@@ -62,7 +62,8 @@ def solved(problem: Problem) -> Array:
 
 
 def apart_in(problem: Problem, vehicles: Array) -> float:
-    """The sum of squares that `solved` makes least, for any vehicles of each column."""
+    """The sum of squares that `solved` makes least, for any vehicles of each column; fewer than LEAST that are expected
+    count as LEAST in the root alone."""
     numpy, _ = needed()
     counts = (problem.passing @ vehicles - problem.counted) / problem.deviation
     root = numpy.sqrt(numpy.maximum(problem.expected, LEAST))
@@ -109,9 +110,9 @@ class Expecting:
 
     def without_matrix(self, passing: Sparse, counted: Array) -> Array:
         """The vehicles of each way and slice, an array in one row at the place way * slices + slice, by counts alone:
-        at first by the habit of drivers (whose shares are then kept in `share`), and by what ends outside have more,
-        that fit the counts best; then half by what begins and ends at each place, and half by what the counts have
-        shown of each way. passing, counted: as `Problem` has them."""
+        at first by the habit of drivers (whose shares are then kept in `share`; none is tried where a way's share is
+        given), and by what ends outside have more, that fit the counts best; then half by what begins and ends at each
+        place, and half by what the counts have shown of each way. passing, counted: as `Problem` has them."""
         numpy, _ = needed()
         deviation = deviations(counted, self.error)
         if all(way.weight for way in self.ways):
@@ -148,7 +149,8 @@ class Expecting:
 
     def rates(self, passing: Sparse, counted: Array, base: Array) -> Array:
         """By slice, as an array, how many vehicles it has for one vehicle of `base`, which has a number for each way.
-        The slice that leads in, if there is one, has as many a second as the next."""
+        The slice that leads in, if there is one, has as many a second as the next; each other one has a thousandth of
+        the greatest number at least."""
         numpy, scipy = needed()
         count = len(self.slices)
         columns = numpy.arange(passing.shape[1])

@@ -112,7 +112,8 @@ class Judged:
     @property
     def share(self) -> float:
         """The share, 0 to 1, of the counts of all hours whose GEH is below 5. These are those of `hourly`: shorter
-        periods of a place and class that begin in one hour of the clock are one count."""
+        periods of a place and class that begin in one hour of the clock are one count. ZeroDivisionError where there is
+        none."""
         return sum(one.good for one in self.hours) / sum(one.counts for one in self.hours)
 
     @property
@@ -158,7 +159,8 @@ def judged(counts: Sequence[Count], passed: Sequence[float]) -> Judged:
 
 
 def by_hour(each: Iterable[Compared]) -> list[Compared]:
-    """The counts of a place and class whose begins lie in one hour of the clock, as one with their sums."""
+    """The counts of a place and class whose begins lie in one hour of the clock, as one with their sums, from the first
+    begin to the last end, with the screen line of the first; sorted by begin, end, edges and class."""
     found: defaultdict[tuple[object, ...], list[Compared]] = defaultdict(list)
     for one in each:
         found[one.begin // HOUR, one.edges, one.kind].append(one)
@@ -188,7 +190,7 @@ def sums_of(hourly: Iterable[Compared], grouped: bool) -> list[Sums]:
 
 def line_through(each: Sequence[Compared]) -> tuple[float, float] | None:
     """(Pearson's r of what passed with what was counted, slope of the line through them); none where one of both does
-    not vary."""
+    not vary. each: one at least."""
     counted, passed = [one.counted for one in each], [one.passed for one in each]
     r = correlation(counted, passed)
     return None if r is None else (r, r * pstdev(passed) / pstdev(counted))
@@ -212,8 +214,8 @@ def each_once(hourly: Iterable[Compared]) -> list[Compared]:
 
 def differences_of(hourly: Sequence[Compared]) -> dict[str, float]:
     """How many vehicles an hour more (above 0) or fewer passed than were counted, by edge: of the edge itself, else of
-    its turns together; of all vehicles, else of the classes together. Edges of which nothing is counted are left
-    out."""
+    its turns together; of all vehicles, else of the classes together. It is a mean over all hours in which anything is
+    counted: one without a count of the edge is 0 there. Edges of which nothing is counted are left out."""
     whole: defaultdict[str, float] = defaultdict(float)
     turns: defaultdict[str, float] = defaultdict(float)
     hours = len({one.begin // HOUR for one in hourly})

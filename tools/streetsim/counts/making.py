@@ -87,8 +87,8 @@ def made_of(basis: Basis, asked: Asked, fitted: Fitted, tried: list[Attempt]) ->
 
 
 def tell_inputs(basis: Basis, fitted: Fitted) -> None:
-    """Prints on standard error what is noticed of the counts before anything runs: contradictions, counts that no way
-    passes, and pairs that were left out."""
+    """Prints on standard error what is noticed of the counts before anything runs: contradictions and counts that no
+    way passes (five of each, and how many more), and how many pairs were left out."""
     for one in basis.apart[:MOST_TOLD]:
         print(f"warning: counts contradict each other: {one.told()}", file=sys.stderr)
     if (more := len(basis.apart) - MOST_TOLD) > 0:
@@ -106,7 +106,7 @@ def tell_inputs(basis: Basis, fitted: Fitted) -> None:
 
 def write(places: Outputs, made: Made, setting: Json) -> None:
     """Writes the vehicles, the tables and pictures, and the run with its map where they are asked for; setting: what
-    goes into setting.json. Fault where a file cannot be written."""
+    goes into setting.json. Fault where a file cannot be written, and without runs as of Town.loaded."""
     basis = made.basis
     loaded = made.best.loaded if made.best else basis.town.loaded(made.trips)
     types = [f'<vType id="{kind}" vClass="{kind}"/>' for kind in basis.kinds if kind]

@@ -127,7 +127,7 @@ def of_format(path: FilePath) -> Iterator[Cell]:
 
 
 def hours_of(words: Words, text: str) -> int:
-    """The seconds of a time HH.MM, as 7.30; Fault otherwise."""
+    """The seconds of a time HH.MM, as 7.30 (7.5 is five minutes past seven); Fault otherwise."""
     hours, _, minutes = text.partition(".")
     if not (hours.isdecimal() and minutes.isdecimal() and int(minutes) < 60):
         raise Fault(f"{words.where}: {text!r} is no time as HH.MM")

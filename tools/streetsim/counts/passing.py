@@ -36,7 +36,8 @@ class Slices:
 
 def slices_of(bounds: Iterable[int], lead: float, begin: int) -> Slices:
     """Slices between all begins and ends of counts, two bounds at least, and before them one that leads in, for those
-    who are on their way when counting begins: as long as `lead` seconds need, but not before the clock `begin`."""
+    who are on their way when counting begins: as long as `lead` seconds need, in whole widths of the narrowest slice,
+    but not before the clock `begin`."""
     found = sorted(set(bounds))
     width = min(later - sooner for sooner, later in pairwise(found))
     early = max(begin, found[0] - ceil(lead / width) * width)
@@ -68,8 +69,9 @@ class Places:
                     yield some, at + max(0, size - 2)
 
     def when(self, some: Sequence[int], begin: float, end: float) -> Iterator[tuple[int, float]]:
-        """Of the counts of one place (some) those in whose period vehicles pass that go by evenly from one clock to
-        another: (place of the count in the list, share, 0 to 1, of these vehicles)."""
+        """Of the counts of one place (some; by their begins, and their ends must rise too) those in whose period
+        vehicles pass that go by evenly from one clock to a later one: (place of the count in the list, share, 0 to 1,
+        of these vehicles)."""
         counts = self.counts
         at = bisect_left(some, begin, key=lambda one: counts[one].end)
         while at < len(some) and counts[some[at]].begin < end:
@@ -92,8 +94,9 @@ def clocks_of(graph: Graph, table: Table, path: Path, depart: float) -> list[flo
 
 def passing_matrix(graph: Graph, ways: Sequence[Way], slices: Slices, places: Places, costs: Costs) -> Sparse:
     """A sparse matrix with a row for each count and a column for each way and slice, ways first: the share of the
-    vehicles that depart in the slice which pass the count's place in its period. Fault where there are more than
-    5,000,000 columns."""
+    vehicles that depart in the slice which pass the count's place in its period, added up where a way passes it again;
+    classes are not told apart. Who would pass within less than a second are spread over one. Fault where there are more
+    than 5,000,000 columns."""
     if len(ways) * len(slices) > MOST_UNKNOWNS:
         raise Fault(
             f"{len(ways):,} ways times {len(slices):,} periods are more than {MOST_UNKNOWNS:,} unknowns: fewer --ways, "

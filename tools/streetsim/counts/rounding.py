@@ -23,8 +23,8 @@ def rounded(vehicles: Array, passing: Sparse, seed: int, error: float) -> Array:
 
 def improved(whole: Array, vehicles: Array, passing: Sparse, error: float) -> Array:
     """The rounded numbers, as integers, after swaps of one that was rounded up with one that was rounded down, as long
-    as what passes the counts comes nearer to that of `vehicles`. whole: the rounded numbers, which it changes; passing,
-    error: as `rounded` has them."""
+    as what passes the counts comes nearer to that of `vehicles`, SWAPS of them at most. whole: the rounded numbers,
+    which it changes; passing, error: as `rounded` has them."""
     numpy, scipy = needed()
     wanted = passing @ vehicles
     scaled = (scipy.sparse.diags(1 / deviations(wanted, error)) @ passing).tocsc()

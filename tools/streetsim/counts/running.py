@@ -48,8 +48,8 @@ def passed(places: Places, paths: Sequence[Path], kinds: Sequence[str], left: Se
 
 
 def delays(graph: Graph, observed: Observed, free: Sequence[float]) -> list[float]:
-    """For each movement how many seconds its slowest slice took on the mean beyond the free ones; 0 where nobody was
-    seen. free: seconds of each movement."""
+    """For each movement how many seconds its slowest slice took on the mean beyond the free ones (less than 0 where it
+    was quicker); 0 where nobody was seen. free: seconds of each movement."""
     found = []
     for movement in range(len(graph.movements)):
         base = movement * observed.slices

@@ -23,8 +23,9 @@ Sums = Mapping[Key, Sequence[tuple[int, int, float]]]  # by edges: begin, end an
 
 
 def passed_in(folder: Folder, counts: Sequence[Count]) -> list[float]:
-    """The vehicles that passed in each count's period, in the counts' order; Fault where the run does not have a place
-    or period of theirs, two overlap, or the folder cannot tell."""
+    """The vehicles that passed in each count's period, in the counts' order; of a period that goes on after the run's
+    end those until then. Fault where the run does not have a place of theirs or ended before a period, two overlap, or
+    the folder cannot tell."""
     check_places(folder, counts)
     rows = {**edge_rows(folder), **movement_rows(folder)}
     found = [within(rows.get(count.edges, ()), count) if not count.kind else None for count in counts]
@@ -34,8 +35,8 @@ def passed_in(folder: Folder, counts: Sequence[Count]) -> list[float]:
 
 
 def check_places(folder: Folder, counts: Sequence[Count]) -> None:
-    """Fault for counts of edges or turns that the run's map does not have, of periods that it did not reach, and for
-    two counts of one place and class whose periods overlap."""
+    """Fault for counts of edges or turns that the run's map does not have, of periods that begin when edges.csv has
+    ended, and for two counts of one place and class whose periods overlap; and where edges.csv cannot be read."""
     links = folder.mapping.links
     ways = {(links[turn.link].edge, links[turn.next].edge) for turn in folder.mapping.turns}
     last = max((float(row["end"]) for row in folder.edges()), default=0.0)
@@ -60,8 +61,8 @@ def edge_rows(folder: Folder) -> dict[Key, list[tuple[int, int, float]]]:
 
 
 def movement_rows(folder: Folder) -> dict[Key, list[tuple[int, int, float]]]:
-    """By (edge, next edge): (begin, end, vehicles) of each interval of movements.csv; empty where the run has no
-    junction tables. Fault where their file cannot be read."""
+    """By (edge, next edge): (begin, end, vehicles) of each interval of movements.csv, which has none in which nobody
+    passed; empty where the run has no junction tables. Fault where their file cannot be read."""
     path = f"{folder.path}/movements.csv"
     found: defaultdict[Key, list[tuple[int, int, float]]] = defaultdict(list)
     if not os.path.exists(path):
@@ -150,7 +151,8 @@ class Traces:
 
     def go_on(self, car: int, before: Last | None, clock: float, link: int) -> Last:
         """Counts what a vehicle has passed that is seen on a link at a clock, and gives where it is now: it has passed
-        all links since it was seen before (none: it is seen for the first time)."""
+        all links since it was seen before (none: it is seen for the first time, and has passed those since its
+        departure where the run file is known, else nothing)."""
         if car < len(self.driven):
             plan, before = self.driven[car].plan, before or self.begin(car)
             if link in plan[before.place :]:
@@ -176,7 +178,8 @@ class Traces:
 
     def end(self, car: int, before: Last, clock: float) -> None:
         """Counts what a vehicle has passed that is gone by a clock, and forgets it: it has arrived on the edge where it
-        was seen, or further on in its plan; one that was rescued or did not arrive counts no more."""
+        was seen, or further on in its plan; one that was rescued or did not arrive counts no more. Without the run file
+        each has arrived, halfway between the last look and the clock."""
         arrival = self.driven[car].arrival if car < len(self.driven) else (before.clock + clock) / 2
         if arrival is not None:
             if car < len(self.driven):
@@ -205,7 +208,8 @@ class Traces:
 
 def driven_in(folder: Folder) -> list[Driven]:
     """The vehicles of the run file, where it is found (in the folder, above it or in the current folder) and is the one
-    of this run; empty otherwise. Fault where it, or trips.csv, cannot be read."""
+    of this run, with as many vehicles and the same links; empty otherwise. Fault where it, or trips.csv, cannot be
+    read."""
     name, trips = str(folder.made.get("run", "")), folder.trips()
     above = os.path.dirname(os.path.abspath(folder.path))
     places = (f"{folder.path}/{KEPT}", f"{above}/{KEPT}", os.path.join(above, name), name)

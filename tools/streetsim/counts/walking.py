@@ -20,8 +20,8 @@ class Turns:
     """By edge and time the next edges with their weights, and the edges at which ways end."""
 
     def __init__(self, ratios: Sequence[Ratio], sinks: set[str], net: SumoNet, graph: Graph) -> None:
-        """sinks: names of edges at which ways end; Fault where the network lacks an edge or a connection that is
-        named."""
+        """ratios: of several for one turn and period the last holds; sinks: names of edges at which ways end. Fault
+        where the network lacks an edge or a connection that is named."""
         found: defaultdict[tuple[int, int, int], dict[int, float]] = defaultdict(dict)
         for one in ratios:
             check_edges([one.source, one.target], one.where, net)
@@ -58,9 +58,9 @@ class Turns:
 def walked(
     inflows: Sequence[Inflow], turns: Turns, seconds: Sequence[float], net: SumoNet, seed: int
 ) -> Iterator[tuple[float, Path]]:
-    """The vehicles of flows, (departure in seconds, way by numbers of edges), flow by flow. Fault where a way has no
-    end, the network lacks the edge of a flow, or no ratio holds where several edges follow. seconds: of each movement,
-    by which it is known which ratio holds; seed: of the draws."""
+    """The whole vehicles of flows, (departure in seconds, way by numbers of edges), flow by flow. Fault where a way has
+    no end, the network lacks the edge of a flow, or no ratio holds where several edges follow. seconds: of each
+    movement, by which it is known which ratio holds; seed: of the draws."""
     graph, draws = turns.graph, random.Random(f"ratios {seed}")
     for flow in inflows:
         check_edges([flow.edge], flow.where, net)

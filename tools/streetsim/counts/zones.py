@@ -27,14 +27,15 @@ def read_zones(paths: Iterable[FilePath]) -> dict[str, Zone]:
 
 def of_table(path: FilePath) -> Iterator[Zone]:
     """The zones of a CSV table with zone,edges: the edges with blanks between; trips begin and end on each with equal
-    weight. Fault where rows_of raises one."""
+    weight. Fault for an empty zone or empty edges, and where rows_of raises one."""
     for row in rows_of(path, ("zone", "edges")):
         weights = dict.fromkeys(row.get("edges", name_of).split(), 1.0)
         yield Zone(row.get("zone", name_of), weights, weights, row.where)
 
 
 def of_sumo(path: FilePath) -> Iterator[Zone]:
-    """The zones of a file of SUMO's TAZ, with the weights of its tazSource and tazSink; Fault for another element."""
+    """The zones of a file of SUMO's TAZ, with the weights of its tazSource and tazSink; those before the first taz are
+    passed over. Fault for another element (but param), and as of `made`."""
     zone: Tag | None = None
     sources: dict[str, float] = {}
     sinks: dict[str, float] = {}

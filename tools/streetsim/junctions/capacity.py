@@ -24,8 +24,8 @@ class Use:
 
 
 def usual_flow(dawdle: float) -> float:
-    """The saturation flow, vehicles an hour of green, by the chance of slowing down (of 1,000), for lanes where no
-    queue tells it."""
+    """The saturation flow, vehicles an hour of green, by the chance of slowing down (of 1,000; above 300 as at 300),
+    for lanes where no queue tells it."""
     for (low, more), (high, less) in zip(BY_DAWDLE, BY_DAWDLE[1:]):
         if dawdle <= high:
             return more + (less - more) * (dawdle - low) / (high - low)
@@ -99,8 +99,9 @@ class Capacity:
         self.greens, self.logs, self.passed, self.flows, self.start = greens, logs, passed, flows, start
 
     def use(self, place: Place, begin: int, end: int, taken: set[int]) -> Use:
-        """The use of a lane from one clock to another; taken: the links to which vehicles go from it. The ratio is 0
-        where nobody passed or nothing was green."""
+        """The use of a lane from one clock (not included) to another; taken: the links to which vehicles go from it.
+        Those by whom its queue grew (growth) are in the ratio, not in passed. The ratio is 0 where nobody passed or
+        nothing was green."""
         passages = [one for one in self.passed.get(place, ()) if begin < one.line <= end]
         shown = [self.greens.at(*place, step)[0] for step in range(begin, end)]
         open_ = [green is None or bool(green & taken) for green in shown]
@@ -125,7 +126,8 @@ class Capacity:
 
     def growth(self, place: Place, begin: int, open_: Sequence[bool]) -> int:
         """By how many vehicles the queue grew that a green leaves, from the first to the last end of green in an
-        interval, 0 at least; open_: whether each second from the clock `begin` shows green."""
+        interval, 0 at least; where no green ends, from its first to its last second. open_: whether each second from
+        the clock `begin` shows green."""
         stood, offset = self.logs[place].stood, begin - self.start
         ends = [second for second in range(len(open_) - 1) if open_[second] and not open_[second + 1]]
         first, last = (ends[0], ends[-1]) if ends else (0, len(open_) - 1)

@@ -11,9 +11,10 @@ LEAST = 30  # vehicles an hour that wait, and that are waited for, from which on
 
 
 def facing(mapping: Map, plans: Iterable[Sequence[int]], hours: float) -> list[str]:
-    """The names of junctions where vehicles of a minor street, left turns mostly, wait for those of another minor one
-    that they cross, 30 an hour of both at least. When these pass is taken from the run before, in which they passed in
-    other gaps, so delays of both are too small. plans: links of each vehicle; hours: over which they depart."""
+    """The names, sorted, of junctions where vehicles of a minor street, left turns mostly, wait for those of another
+    minor one that they cross, 30 an hour of both at least. When these pass is taken from the run before, in which they
+    passed in other gaps, so delays of both are too small. plans: links of each vehicle; hours: over which they
+    depart."""
     flows = Counter(pair for plan in plans for pair in pairwise(plan))
     edges = [link.edge for link in mapping.links]
     waits = {(link, following) for one in mapping.yields for link, _, following in one.turns}

@@ -41,8 +41,8 @@ def places_of(approaches: Mapping[str, Approach], mapping: Map) -> list[Place]:
 
 def approaches_of(mapping: Map) -> dict[str, Approach]:
     """The approaches by edge: of junctions with signals, of others with at least two edges in, two out and five in all,
-    and of roundabouts, each one junction whose approaches are its entries. Edges from which no turn leads are left
-    out."""
+    and of roundabouts, each one junction whose approaches are its entries (and its own edges that lead to a node with
+    two in, two out and five in all). Edges from which no turn leads are left out."""
     lit, rings = {node for _, node in mapping.signals}, rings_of(mapping)
     real = real_nodes(mapping)
     found = {}
@@ -86,8 +86,8 @@ def rings_of(mapping: Map) -> dict[int, int]:
 
 
 def follow_back(mapping: Map, approaches: Mapping[str, Approach], junctions: Collection[int]) -> None:
-    """Notes in each approach the edges before it that lead to it alone, back to the last of some junctions (nodes), and
-    its length with them."""
+    """Notes in each approach the edges before it that lead to it alone (turning back apart), back to the last of some
+    junctions (nodes), and its length with them."""
     before, after = defaultdict(set), defaultdict(set)
     for turn in mapping.turns:
         source, target = mapping.links[turn.link], mapping.links[turn.next]
@@ -179,7 +179,7 @@ class Greens:
 
     def begin_of(self, link: int, lane: int, step: int) -> int | None:
         """The step in which the green of a lane began that it has in a step; none where it has none then, or has had it
-        for 600 steps or always."""
+        for 600 steps, since before its first plan, or always. Before clock 0 nothing is green."""
         for back in range(step, step - CYCLE_MOST, -1):
             shown = self.at(link, lane, back)[0] if back >= 0 else frozenset()
             if shown is None:

@@ -117,8 +117,9 @@ class Measures:
 
     def crossing(self, passage: Passage) -> Crossing | None:
         """What a vehicle lost on a passage of an approach, which must have ended; none where its plan ends on the
-        approach. Where the edge stands in the plan more than once, the passages are asked for in their order: each is
-        judged by the edge that follows there, and by the time that one alone takes to it."""
+        approach or does not have its edge. To be asked once for each passage, as it counts them. Where the edge stands
+        in the plan more than once, the passages are asked for in their order: each is judged by the edge that follows
+        there, and by the time that one alone takes to it."""
         plan, key = self.plans[passage.car], (passage.car, passage.edge)
         places = [at for at, link in enumerate(plan) if self.mapping.links[link].edge == passage.edge]
         at = places[min(self.before[key], len(places) - 1)] if places else None

@@ -169,7 +169,8 @@ def who_stand(cells: Cells, link: MapLink) -> list[bool]:
 
 def queue_metres(still: Cells, link: MapLink) -> float:
     """Metres from the stop line to the rear of the last vehicle of the queue; still: the entries of those who stand,
-    the greatest cell first. A gap of 20 m ends the queue; 0 where nobody stands near the line."""
+    the greatest cell first. A gap of more than 20 m ends the queue; it is at most as long as the link. 0 where nobody
+    stands near the line."""
     size, back, reach = link.metres / link.cells, 0.0, REACH
     for entry in still:
         ahead = (link.cells - 1 - entry[1]) * size
@@ -202,8 +203,9 @@ class Discharge:
 def discharges(
     passages: Iterable[Passage], log: LaneLog, start: int, green_begin: Callable[[int], int | None]
 ) -> list[Discharge]:
-    """The discharges of a lane's queues of eight vehicles and more; passages: of the lane; start: the clock before the
-    log's first. green_begin gives the step in which the green of a step began, or none."""
+    """The discharges of a lane's queues of eight vehicles and more; those of which one has not stood, or whose green's
+    begin is not known, are left out. passages: of the lane, in the order in which they passed its line; start: the
+    clock before the log's first. green_begin gives the step in which the green of a step began, or none."""
     found: list[Discharge] = []
     group: list[Passage] = []
     for passage in [*passages, None]:

@@ -17,9 +17,9 @@ MOST_LOOKS = 8_000_000  # at a lane in every second of a run; where there would 
 
 
 def write_junctions(made: Recorded, interval: int) -> tuple[list[str], list[str]]:
-    """Writes movements.csv, approaches.csv and junctions.csv into the folder of a run, with rows of `interval` seconds.
-    Gives (sentences for the terminal on how they were made; doubts: why they are not to be trusted); both may be empty.
-    Fault where one cannot be written, or a further run fails."""
+    """Writes movements.csv, approaches.csv and junctions.csv into the folder of a run, with rows of `interval` seconds,
+    the last ones of fewer where the run ends before. Gives (sentences for the terminal on how they were made; doubts:
+    why they are not to be trusted); both may be empty. Fault where one cannot be written, or a further run fails."""
     run, start, until = made.run, made.run.start(), made.settings.until
     approaches = approaches_of(made.mapping)
     lanes = places_of(approaches, made.mapping)

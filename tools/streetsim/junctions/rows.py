@@ -94,8 +94,8 @@ def told(lost: Losses, interval: Interval) -> tuple:
 
 def worst(lanes: Collection[Sequence[float]], metres: float) -> tuple:
     """The columns QUEUED of a row, texts of metres (50 %, 95 %, greatest, room), of the lane whose queues have the
-    greatest 95 % value; lanes: metres of the queues of each; metres: the approach's length, for the column of the
-    room."""
+    greatest 95 % value; lanes: metres of the queues of each (0.0 without any); metres: the approach's length, for the
+    column of the room."""
     queues = max(lanes, key=lambda lane: percentile(lane, 0.95), default=[])
     values = percentile(queues, 0.5), percentile(queues, 0.95), max(queues, default=0.0), metres
     return tuple(f"{value:.1f}" for value in values)

@@ -101,8 +101,8 @@ class Sampled:
         self, at: int, clock: int, car: int, place: Place, standing: bool, seen: defaultdict[Way, list[int]]
     ) -> None:
         """Notes a vehicle, by its number in the file (car), on an approach: it has left all links of its plan before it
-        since it was seen last. at: number of the interval; seen: by movement [vehicles, standing ones] of this look, to
-        which it is added."""
+        since it was seen last. Nothing where its plan has the link no more. at: number of the interval; seen: by
+        movement [vehicles, standing ones] of this look, to which it is added."""
         plan, link = self.plans[car], place[0]
         before, since = self.last.get(car, (0, self.departs[car]))
         here = next((step for step in range(before, len(plan)) if plan[step] == link), None)

@@ -32,8 +32,9 @@ def stretches(folder: Folder, edges: Iterable[str]) -> tuple[dict[int, tuple[flo
 
 def trajectories(folder: Folder, edges: Iterable[str], first: int, last: int) -> list[Piece]:
     """Pieces of the ways of vehicles' fronts along a path of edges, each from one poll to the next, from a first to a
-    last second, in metres from the path's begin; a vehicle that went back is left out for that piece. Fault where the
-    map has no such edge, or the folder no polls."""
+    last second (included), in metres from the path's begin, with the speed at the later poll; a vehicle that went back,
+    or that one of both polls does not have on a cell of the path, is left out for that piece. Fault where the map has
+    no such edge, or the folder no polls."""
     placed, _ = stretches(folder, edges)
     pieces: list[Piece] = []
     before: dict[int, tuple[int, float, int, float]] = {}
@@ -55,17 +56,17 @@ def trajectories(folder: Folder, edges: Iterable[str], first: int, last: int) ->
 
 
 def bands(pieces: Iterable[Piece]) -> Iterator[tuple[Spot, Spot, Spot, Spot]]:
-    """The areas that vehicles longer than a cell cover over time, from their fronts to their rears, as four corners
-    each, (second, metres); shorter ones are left out."""
+    """The areas that long vehicles cover over time, from their fronts to their rears, as four corners each, (second,
+    metres); those whose cells have no more than 1.5 times CELL_METRES together are left out."""
     for (second, place), (later, other), _, long in pieces:
         if long > 1.5 * limits.CELL_METRES:
             yield (second, place), (later, other), (later, other - long), (second, place - long)
 
 
 def reds(folder: Folder, edges: Iterable[str], first: int, last: int) -> list[tuple[float, int, int]]:
-    """When the signals along a path of edges are red for going on along it, from a first to a last second: (metres from
-    the path's begin, second in which it begins, second at which it has ended) of each red. Fault where the map has no
-    such edge."""
+    """When the signals along a path of edges are red for going on along it, from a first second to before a last:
+    (metres from the path's begin, second in which it begins, second at which it has ended) of each red, which is cut at
+    both bounds. Before its first command a signal has none. Fault where the map has no such edge."""
     placed, _ = stretches(folder, edges)
     links = folder.links_along(edges)
     found = []
@@ -173,7 +174,8 @@ def stop_lines(folder: Folder, edges: Sequence[str]) -> list[tuple[float, int, l
 
 
 def densities(folder: Folder) -> list[float]:
-    """Mean vehicles a kilometre and lane of each link over all polls, by its number; Fault where nothing was polled."""
+    """Mean vehicles a kilometre and lane of each link over all polls, by its number, of those on its cells (not in the
+    junction behind); Fault where nothing was polled."""
     standing: Counter[int] = Counter()
     polls = 0
     for poll in folder.polls():

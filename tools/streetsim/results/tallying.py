@@ -35,9 +35,9 @@ def files_in(folder: str) -> list[str]:
 
 def compared(said: str, found: str, counts: Compared) -> Iterator[tuple[str, str, str]]:
     """Where the files of the folder `said` differ from those of `found`, made anew: (file and place in it, said,
-    found). Files that only `said` has, made.json and lights.json are passed over. Adds to `counts`. Fault where a
-    setting.json holds no setting, a packed file cannot be unpacked, or a table cannot be
-    read."""
+    found). Files that only `said` has, and made.json and lights.json right in the folder (not below), are passed over.
+    Adds to `counts`. Fault where a setting.json holds no setting, a packed file cannot be unpacked, or a table cannot
+    be read."""
     for name in (one for one in files_in(found) if one not in PATHS):
         counts.files += 1
         if not os.path.exists(f"{said}/{name}"):
@@ -75,7 +75,7 @@ def lines_of(path: str) -> list[bytes]:
 
 def of_lines(name: str, first: list[bytes], second: list[bytes], counts: Compared) -> Iterator[tuple[str, str, str]]:
     """The lines of two files that differ, as `compared` gives them; name: the file; first: said, second: found. Adds to
-    `counts`."""
+    `counts` the numbers of the second, of digits alone between commas or brackets."""
     for number in range(max(len(first), len(second))):
         said, found = (side[number].decode(errors="replace") if number < len(side) else "" for side in (first, second))
         counts.numbers += sum(part.isdecimal() for part in found.replace("]", ",").replace("[", ",").split(","))
@@ -85,7 +85,8 @@ def of_lines(name: str, first: list[bytes], second: list[bytes], counts: Compare
 
 def of_tables(name: str, first: str, second: str, counts: Compared) -> Iterator[tuple[str, str, str]]:
     """The cells of two CSV files that differ, as `compared` gives them; name: the file; first: path of the one that was
-    said, second: of the one found. Adds to `counts`. Fault where the first is no table."""
+    said, second: of the one found. Where all cells are equal and the bytes are not, one difference says so. A cell that
+    is absent counts as an empty one. Adds to `counts`. Fault, which names the first, where one of both is no table."""
     with open(first, encoding="utf-8", newline="") as one, open(second, encoding="utf-8", newline="") as other:
         try:
             rows = [list(csv.reader(file)) for file in (one, other)]
@@ -106,7 +107,7 @@ def of_tables(name: str, first: str, second: str, counts: Compared) -> Iterator[
 
 def of_values(name: str, said: Any, found: Any, counts: Compared) -> Iterator[tuple[str, str, str]]:
     """The values of two settings that differ, as `compared` gives them, JSON of 80 letters at most; name: the file and
-    the keys so far. Adds to `counts`."""
+    the keys so far. A key that is absent counts as null. Adds to `counts`."""
     if isinstance(said, dict) and isinstance(found, dict):
         for key in {**said, **found}:
             yield from of_values(f"{name}, {key}", said.get(key), found.get(key), counts)

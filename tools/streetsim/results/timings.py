@@ -20,8 +20,8 @@ def path_of(runs: Runs) -> str | None:
 
 
 def timings_of(runs: Runs) -> dict[str, Timing]:
-    """{light: the program that it had in the runs}; lights whose kept program does not fit what the run showed are left
-    out, and all where nothing is kept. Fault where the kept file cannot be read."""
+    """{light: the program that it had in the runs}; lights whose kept program does not fit what the first seed's run
+    showed are left out, and all where nothing is kept. Fault where the kept file cannot be read."""
     path = path_of(runs)
     if path is None:
         return {}
@@ -30,8 +30,8 @@ def timings_of(runs: Runs) -> dict[str, Timing]:
 
 
 def fits(timing: Timing, folder: Folder) -> bool:
-    """Whether a kept program is the one of a run: it had a plan at the begin, and each has the program's cycle and
-    offset and shows nobody green whom the program shows red."""
+    """Whether a kept program is the one of a run: it had a plan at the begin, and each of that second (no later one)
+    has the program's cycle and offset and shows nobody green whom the program shows red."""
     nodes = [node for light, node in folder.mapping.signals if light == timing.light]
     start = folder.made.get("start", 0)
     plans = [command for clock, command in folder.signals if command["node"] in nodes and clock == start]

@@ -71,7 +71,7 @@ def mean_of(several: list[Traffic]) -> Traffic:
 
 def values_of(runs: Runs, begin: int, end: int) -> dict[str, Values]:
     """{edge: what is known of it from `begin` to `end`, in seconds}, for each edge of the map, as means over the seeds.
-    Fault where edges.csv cannot be read."""
+    Rows are those of the junction tables whose interval has just these bounds. Fault where edges.csv cannot be read."""
     seen = defaultdict(list)
     for folder in runs.folders.values():
         for edge, one in traffic_of(folder.edges(), begin, end).items():

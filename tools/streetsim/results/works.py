@@ -95,8 +95,8 @@ def way_to(folder: Folder, link: int, begin: float, seen: Counter[int]) -> list[
 
 
 def note_polls(folder: Folder, places: Sequence[Place]) -> None:
-    """Adds to each place who stands before its works while they last, at each poll, on all lanes of the way to it.
-    Fault where the polls cannot be read."""
+    """Adds to each place who stands on a cell before its works while they last (both clocks included), at each poll, on
+    all lanes of the way to it. Fault where the polls cannot be read."""
     links = folder.mapping.links
     for poll in folder.polls():
         clock = poll["clock"]

@@ -100,9 +100,10 @@ def turn_off(trips: Iterable[Trip], closing: Closing, graph: Graph, costs: Costs
 
 def way_round(trip: Trip, shut: int, signs: Collection[int], router: Router, free: Router) -> Path:
     """The way of a trip that turns off on its first edge with a sign, or else at the last crossing before what is shut:
-    the edge at place shut of its path, or the movement to it. Empty where there is no way. router: gives the clocks at
-    which it drives; free: a router for which this is shut at all times, since who takes a detour may come to it later
-    than planned."""
+    the edge at place shut of its path, or the movement to it. From where none leads on that keeps off the edges driven
+    so far, the next sign, and then the crossing before, is tried. Empty where there is no way, and where its first edge
+    is shut. router: gives the clocks at which it drives; free: a router for which this is shut at all times, since who
+    takes a detour may come to it later than planned."""
     clocks = router.clocks(trip.path[:shut], trip.entry)
     signed = (at for at in range(shut) if trip.path[at] in signs)
     for at in (*signed, *reversed(range(shut))):

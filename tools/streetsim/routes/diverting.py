@@ -107,8 +107,8 @@ def give_ways(trips: Sequence[Trip], before: Trips, graph: Graph, where: str) ->
 def check_works(texts: Sequence[str], signs: Sequence[str], trips: Sequence[Trip], town: Town, until: int) -> None:
     """Refuses by a Fault, before anything runs, works (texts, as --close takes them) that have another form or name no
     lane or metres of the network, end by the start or begin at until (a clock in seconds) or later, signs on unknown
-    edges, and trips that begin on an edge while it is closed. Which trips end on a closed edge is known only after the
-    runs without works."""
+    edges, and trips that begin on an edge while it is closed, or so shortly before that they would not come past the
+    works (shut_edges). Which trips end on a closed edge is known only after the runs without works."""
     mapping = map_without_routes(town.net, town.options)
     works = [works_of(text, mapping) for text in texts]
     if over := [one.text for one in works if one.last <= town.options.begin]:
@@ -125,7 +125,8 @@ def check_works(texts: Sequence[str], signs: Sequence[str], trips: Sequence[Trip
 
 def closing_of(asked: Shutting, graph: Graph, before: Search, judged: Judged) -> Closing:
     """Works as a router sees them; before and judged are the search and the runs without works, from which free times
-    come. Fault where works have another form, or the map has no such lane or metres."""
+    come; signs must be on edges of the graph. Fault where works have another form, or the map has no such lane or
+    metres."""
     mapping = judged.loaded.mapping
     works = [works_of(text, mapping) for text in asked.close]
     shut: dict[int | Way, Sequence[Times]] = {}
@@ -152,7 +153,7 @@ def diverted(
 ) -> Iterator[Diverted]:
     """For each share (0 to 1) of drivers who know of the works, what a search of its own gives; each begins with the
     ways before and is judged by the check seeds. told: gets a label and an iteration, and gives whether the user asks
-    for an end. Fault where a trip has no way round the works."""
+    for an end. The trips are copies of those before. Fault where a trip has no way round the works, or a run fails."""
     first = before.search
     town = town_with_works(first.town, closing.asked)
     for share in shares:
@@ -168,8 +169,8 @@ def diverted(
 
 
 def within_gap(one: Diverted, before: Diverted) -> str | None:
-    """A warning where the works add less to the mean trip than what all could gain by other ways, without the works or
-    with them; None where they add more."""
+    """A warning where the works change the mean trip, up or down, by less than what all could gain by other ways,
+    without the works or with them, whichever is more; None otherwise."""
     apart = fmean(one.means()) - fmean(before.means())
     seconds = {where: each.judged.gap * fmean(each.means()) for where, each in (("without", before), ("with", one))}
     where = max(seconds, key=lambda where: seconds[where])

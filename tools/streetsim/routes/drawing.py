@@ -134,8 +134,9 @@ def draw_flows(axes: Axes, links: Sequence[MapLink], values: Sequence[int], scal
 
 
 def zoom(axes: Axes, links: Sequence[MapLink], values: Sequence[int]) -> None:
-    """Narrows the map to the links whose value is above SMALL of the greatest, with NEAR metres around; the whole map
-    stays where no link has such a value. values: of the links, one at least."""
+    """Narrows the map to a square around the links whose value, without its sign, is above SMALL of the greatest: from
+    its middle at least NEAR metres to each side. The whole map stays where no link has such a value. values: of the
+    links, one at least."""
     least = SMALL * max(abs(value) for value in values)
     points = [point for link, value in zip(links, values, strict=True) if abs(value) > least for point in link.shape]
     if not points:

@@ -22,7 +22,8 @@ def named(found: Mapping[tuple[int, int], Sequence[tuple[float, int, float]]], m
 
 def waiting_lines(passed: Passed, mapping: Map, start: int) -> list[tuple[int, Line]]:
     """The signal lines, (clock, line), by which vehicles without a light wait for those who go first, as these passed
-    in another run. Passings on ways that this map does not have are left out; start: the run's first clock."""
+    in another run. Passings on ways that this map does not have are left out; where a lane has not the way, they count
+    on another lane that has it. start: the run's first clock."""
     places = {
         (mapping.links[link].edge, mapping.links[link].lanes[lane]): (link, lane) for link, lane in mapping.lanes()
     }

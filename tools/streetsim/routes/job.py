@@ -67,8 +67,8 @@ class Job:
 def found_routes(job: Job, workers: Team, stopping: Stopping) -> list[Diverted]:
     """Searches, and judges what was found by the check seeds; gives the ways without works, and after them one result
     for each share of drivers who know of the works. Without works there is the first alone. The trips of the job get
-    the ways without works; iterations and warnings are printed on standard error. Fault where a trip has no way, or
-    none round the works."""
+    the ways without works; with works, and where all have ways, these stay and are not improved. Iterations and
+    warnings are printed on standard error. Fault where a trip has no way, or none round the works, or a run fails."""
     works, count = job.works, len(job.trips.all)
 
     def told(label: str, iteration: Iteration) -> bool:

@@ -57,8 +57,8 @@ class Passes:
 
     def clocks(self, plan: Sequence[int], depart: int, seen: Sequence[Sight], arrival: int | None) -> list[float]:
         """The clocks at which a vehicle reached the links of its plan, from the first on: all of them where it arrived,
-        else up to the link where it was seen last. Empty where it never came on the road. arrival: None where it did
-        not arrive."""
+        else up to the link where it was seen last. Empty where it was seen at no look and did not arrive. arrival: None
+        where it did not arrive. ValueError where a sight is on a link that its plan has no more."""
         if not seen and arrival is None:
             return []
         clocks = [self.entry(plan, depart, seen)]

@@ -62,8 +62,9 @@ def check_rows(judged: Judged) -> Iterator[tuple]:
 
 
 def movement_rows(town: Town, judged: Judged, width: int) -> Iterator[tuple]:
-    """The rows of movements.csv, as MOVEMENTS has the columns: for each slice of width seconds and each movement that
-    was seen in the check runs, vehicles in one run by the mean, their mean seconds, and seconds without traffic."""
+    """The rows of movements.csv, as MOVEMENTS has the columns: for each slice of width seconds, from clock 0, and each
+    movement that was seen in the check runs, vehicles in one run by the mean, their mean seconds, and seconds without
+    traffic."""
     graph, observed = town.graph, mean_of([one.observed for one in judged.outcomes])
     for slice_ in range(observed.slices):
         for movement, (edge, following) in enumerate(graph.movements):
@@ -82,7 +83,7 @@ def movement_rows(town: Town, judged: Judged, width: int) -> Iterator[tuple]:
 def trip_rows(trips: Sequence[Trip], judged: Judged) -> Iterator[tuple]:
     """The rows of trips.csv, as TRIPS has the columns: each trip's mean seconds over the check runs (empty where it did
     not arrive in all of them), and the seconds of its way and of the shortest way by the costs of these runs (empty
-    where its way was not searched)."""
+    where its way was not searched, or none was found)."""
     searched = {one.trip: one for one in judged.found}
     for at, trip in enumerate(trips):
         ends = [end for one in judged.outcomes if (end := one.ends[at]) is not None]

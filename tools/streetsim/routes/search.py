@@ -147,7 +147,9 @@ class Search:
 
     def improve(self, asked: Asked) -> None:
         """Searches until asked.iterations are done, the gap is well below asked.gap (OWN_SEED of it) or told gives
-        True; keeps each iteration, and the best one, whose ways the trips then have. Fault where a run fails."""
+        True; keeps each iteration, and the best one, whose ways the trips then have. Iteration 0 comes before those
+        asked for and shows the first ways: there the gap is enough only where nobody gains more than LEAST_GAIN. It is
+        not where some who may not change were turned off before the works. Fault where a run fails."""
         share = asked.share
         steps: list[Step] = [Step(1.0, [])]
         for number in range(asked.iterations + 1):
@@ -267,7 +269,7 @@ def gain(found: Found) -> float:
 
 def gap_of(found: Sequence[Found]) -> float:
     """The relative gap: what all could gain together, over the seconds of their shortest ways. 0 where nobody may
-    change."""
+    change, or no way was found for any."""
     least = sum(one.least for one in found if one.path)
     return sum(map(gain, found)) / least if least else 0.0
 

@@ -32,8 +32,8 @@ class Turning:
     due: int
 
     def soonest(self, links: Sequence[MapLink], link: int, cell: int | None) -> int:
-        """The least steps until a vehicle, at a cell of a link, is behind the links ahead. cell: None where it is at
-        the link's end."""
+        """The least steps, one at least, until a vehicle, at a cell of a link, is behind the links ahead. cell: None
+        where it is at the link's end. ValueError where the link is none of these."""
         left = self.ahead[self.ahead.index(link) :]
         cells = sum(links[at].cells for at in left) - (links[link].cells if cell is None else cell + 1)
         return max(1, int(cells / max(links[at].limit for at in left)))
@@ -66,9 +66,10 @@ class WaysRound:
         times: tuple[float, float],
         seed: int,
     ) -> dict[str, Path]:
-        """{name: new plan, by links} of the vehicles that would come to the edges in shut within times (first and last
-        second). Vehicles that begin or end there, drive a round, or have no way round are left out. vehicles: all that
-        count for the volumes; signals: the signal commands in force."""
+        """{name: new plan, by links} of the vehicles that would come to the edges in shut within times (from the first
+        second to before the last). Vehicles that begin or end there, drive a round, have no way round, or keep their
+        plan are left out. vehicles: all that count for the volumes; signals: the signal commands in force; seed: of the
+        order in which vehicles choose."""
         free = free_seconds(self.graph, self.by_link, signals, self.dawdle)
         closed = self.shut(shut, times)
         trips = sorted((trip_of(one) for one in vehicles), key=lambda trip: trip.depart)
@@ -134,8 +135,8 @@ def impassable_edges(
 
 
 def is_shut(link: int, lanes: int, closed: Mapping[tuple[int, int], Sequence[tuple[int, int]]]) -> bool:
-    """Whether nobody gets past the closed cells of a link of so many lanes: all lanes are closed side by side, or
-    without room to change lanes between. closed: as of impassable_edges."""
+    """Whether nobody gets past the closed cells (first and last included) of a link of so many lanes: all lanes are
+    closed side by side, or without room to change lanes between. closed: as of impassable_edges."""
     places = [(0, 10**9)]
     for lane in range(lanes):
         places = [

@@ -161,8 +161,8 @@ def run_with_gaps(ground: Ground, run: Run, mapping: Map, seed: int) -> Run:
 
 
 def observed_run(ground: Ground, run: Run, mapping: Map, expected: Costs, seed: int) -> Outcome:
-    """Makes a run as it is and gives what it showed; Fault where the program refuses it or ends. seed: named in the
-    Fault, no more; expected: as of watched."""
+    """Makes a run, of one vehicle at least, as it is and gives what it showed; Fault where the program refuses it or
+    ends. seed: named in the Fault, no more; expected: as of watched."""
     before, giving = resource.getrusage(resource.RUSAGE_CHILDREN), bool(ground.rounds and mapping.yields)
     seen = seen_run(ground, run, mapping, expected, seed, giving)
     after = resource.getrusage(resource.RUSAGE_CHILDREN)
@@ -191,7 +191,8 @@ class Seen:
 
     @property
     def waiting(self) -> tuple[int, int]:
-        """(how many vehicles waited to enter at the worst minute, its clock)."""
+        """(how many vehicles waited to enter at the worst minute, its clock); the first of equal ones, (0, 0) where
+        nothing was looked at."""
         worst = max(self.watcher.records.censuses, key=lambda census: census.waiting, default=None)
         return (worst.waiting, worst.clock) if worst else (0, 0)
 

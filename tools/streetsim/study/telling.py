@@ -86,8 +86,8 @@ def tell(rows: Sequence[Difference]) -> None:
 
 
 def tell_giving_way(results: Mapping[str, Sequence[Outcome]]) -> None:
-    """Prints at how many junctions vehicles give way without a light, and by how many lines in the mean of the runs;
-    nothing where they do nowhere."""
+    """Prints at how many junctions vehicles give way without a light (in the run with the most), and by how many lines
+    in the mean of the runs; nothing where no run has lines."""
     outcomes = [one for found in results.values() for one in found]
     if any(one.lines for one in outcomes):
         junctions, lines = max(one.junctions for one in outcomes), fmean(one.lines for one in outcomes)
