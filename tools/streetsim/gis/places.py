@@ -34,7 +34,8 @@ def places_of(location: dict, projection: str | None, path: str) -> Places:
     x, y = location.get("offset", (0.0, 0.0))
 
     def converted(points: Iterable) -> list:
-        """Points (x, y) in metres as [longitude, latitude] in degrees; Fault where one is nowhere on Earth."""
+        """Points (x, y) in metres, one at least, as [longitude, latitude] in degrees; Fault where one is nowhere on
+        Earth."""
         xs, ys = zip(*points, strict=True)
         found = zip(*to_earth.transform([value - x for value in xs], [value - y for value in ys]), strict=True)
         return [on_earth(place, path, told) for place in found]

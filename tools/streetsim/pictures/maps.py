@@ -34,8 +34,8 @@ class Shown:
 
 def draw(pyplot: Pyplot, path: str, what: str, second: int | None) -> Figure:
     """The streets of a folder's run, or of its seeds, by one of WHAT but the density, in the interval of interval_of
-    (as a rule the busiest where `second` is None). Fault where interval_of raises one, or nothing is known of it
-    then."""
+    (as a rule the busiest where `second` is None). Fault where the folder or edges.csv cannot be read, interval_of
+    raises one, or nothing is known of it then."""
     runs = read_any(path)
     begin, end = interval_of(runs, what, second)
     values = values_of(runs, begin, end)

@@ -116,7 +116,8 @@ def wait_together(one: int, other: int, found: Mapping[int, Movement], yields: M
 
 def set_heads(movement: Movement) -> None:
     """Sets the lane that faces a movement's, and how their heads wait for each other: where each is the only one of its
-    edge, and on both some wait for the other in a permissive green. What all know of their lanes must be set."""
+    edge, and on both some wait for the other in a permissive green. Sets nothing where no lane or several are such.
+    What all know of their lanes must be set."""
     lanes = {foe.lane: foe for one in movement.sharing for foe in one.foes if foe.green & one.green & ~one.sure}
     facing = [foe for foe in lanes.values() if waiting_share(foe.sharing, movement.sharing)]
     if movement.lanes == 1 and len(facing) == 1 and facing[0].lanes == 1:

@@ -61,7 +61,7 @@ def warn_of_lengths(network: Network, report: Report) -> None:
 
 def warn_of_speeds(network: Network, report: Report) -> None:
     """Reports speeds near which there is no limit in cells a step: their links have more or fewer cells, so that they
-    take as long as in SUMO."""
+    take as long as in SUMO, but for those of rings, which keep their length."""
     links_of = defaultdict(list)
     for link in network.links:
         links_of[link.speed, link.limit].append(link)
@@ -120,7 +120,8 @@ def warn_of_lanes(net: SumoNet, network: Network, report: Report) -> None:
 
 
 def warn_of_unknown(net: SumoNet, report: Report) -> None:
-    """Reports types of junctions, states of connections and of lights, and rings, for which nothing is done here."""
+    """Reports types of junctions where edges end, states of connections without a light, states of lights, and rings,
+    for which nothing is done here."""
     ends = {edge.end for edge in net.edges.values()}
     junctions = defaultdict(list)
     for name, kind in net.types.items():

@@ -70,7 +70,8 @@ def slowed(
 ) -> tuple[SumoNet, list[Vehicle]]:
     """(a new network with edges in parts, the vehicles with these parts in their routes); net and vehicles stay as they
     are. texts: limits, EDGE:METRES-METRES:KMH, one for an edge at most; Fault where one has another form or cannot be
-    had. Detectors that are cut are reported. Bus stops and stops of vehicles keep their lane and metres."""
+    had. Detectors that are cut are reported. Bus stops and stops of vehicles keep their lane and metres, so they lie on
+    the first part: those beyond it at its end, those that are told from the lane's end as far from its end."""
     made, parts = net, dict[str, list[Part]]()
     for slow in map(slow_of, texts):
         check(slow, net, parts)

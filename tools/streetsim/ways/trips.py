@@ -172,8 +172,9 @@ def read_trips(
 
 
 def connected(trips: Sequence[Trip], net: SumoNet, graph: Graph, ignore: bool, report: Report) -> list[Trip]:
-    """The trips whose routes have a connection between all their edges. Others are left out and reported where the
-    connection is closed to the classes, or with ignore; else they are a Fault. Fault too where no trip is left."""
+    """The trips whose routes have a connection between all their edges. Others are left out and reported where all
+    connections that they lack are closed to the classes, or with ignore; else they are a Fault. Fault too where no trip
+    is left."""
     found = []
     for trip in trips:
         ways = [way for way in pairwise(trip.path) if way not in graph.movement_of]
