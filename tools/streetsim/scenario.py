@@ -130,10 +130,11 @@ class Scenario(Running):
         return self.divert(self.map.links[self.lane_of[lane][0]].edge, until) if divert else []
 
     def divert(self, edge: str, until: float) -> list[str]:
-        """Has vehicles on the road, and those that have not departed, take the shortest way round an edge that is shut,
-        if they would come there before the second until. One on the road is taken out and entered anew, with another
-        number, where its new way begins. Gives the names of those for whom there is a way, none where the edge can be
-        passed. ValueError for an until that is over, KeyError for an unknown edge."""
+        """Has vehicles on the road, and those that have not departed, take the quickest way round an edge that is shut,
+        if they would come there before the second until; those that begin or end on it, or drive a round, keep theirs.
+        One on the road is taken out and entered anew, with another number, where its new way begins. Gives the names of
+        those for whom there is a way, none where the edge can be passed. ValueError for an until that is over, KeyError
+        for an unknown edge."""
         self.refuse_past(until)
         return self.detours.begin(edge, until)
 

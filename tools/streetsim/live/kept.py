@@ -79,8 +79,9 @@ class KeptEngine(Engine):
                 raise Fault(f"{self.file}: line {number} is not of this run: it has another session")
 
     def begin(self, anew: bool = False) -> list[bytes]:
-        """Begins the session where it was left, or (anew) one from nothing in FILE.new, which settle then puts in its
-        place; gives the replies to the run's own lines. Fault where the file cannot be read, or there is no program."""
+        """Ends what runs, deletes FILE.new, and begins the session where it was left, or (anew) one from nothing in
+        FILE.new, which settle then puts in its place; gives the replies to the run's own lines. Fault where the file
+        cannot be read, or there is no program."""
         with self.lock:
             self.stop()
             self.making.unlink(missing_ok=True)

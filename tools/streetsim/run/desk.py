@@ -206,8 +206,8 @@ class Desk:
                 self.read_rows(numbers)
 
     def read_rows(self, numbers: Sequence[int]) -> None:
-        """Reads detectors, by their numbers, and keeps their rows, each by the clock at which it begins. Fault where
-        one cannot be read."""
+        """Reads detectors, by their numbers, and keeps their rows, each by the clock at which it begins, and that of
+        the period under way as far as it has come. Fault where one cannot be read."""
         for number, reply in zip(numbers, self.noted(numbers), strict=True):
             kept, key, _ = self.meters[number]
             kept.setdefault(key, {}).update({row.start: row for row in (*reply.rows, reply.now) if row.steps})

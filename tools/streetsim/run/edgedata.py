@@ -61,8 +61,8 @@ class Edgedata:
             self.speeds[period, link] += sum(entry[2] for entry in cells)
 
     def end(self, clock: int, seen: Seen) -> None:
-        """Notes how many vehicles are on links at the clock at which a period ends; seen: (link, cells of a lane's
-        reply)."""
+        """Notes how many vehicles are on the cells of links at the clock at which a period ends; seen: (link, cells of
+        a lane's reply)."""
         at_end = self.standing[clock]
         for link, cells in seen:
             at_end[link] += len(cells)

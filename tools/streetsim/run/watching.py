@@ -43,7 +43,8 @@ class Watcher(Desk):
 
     def frame(self, clock: int, lanes: Iterable[Place]) -> Frame:
         """What stands on some lanes at a clock, as in a folder's polls: {"clock", "lanes": [[link, lane, cells, buffer,
-        []]]}, vehicles by their numbers in the file; closed stretches are left out. Fault where a poll is refused."""
+        []]]}, vehicles by their numbers in the file; lanes without vehicles and closed stretches are left out. Fault
+        where a poll is refused."""
         shown = []
         for (link, lane), reply in self.lanes(lanes).items():
             cells = [(self.owners[car], *rest) for car, *rest in reply.cells]

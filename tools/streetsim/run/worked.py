@@ -58,7 +58,7 @@ class Works:
 
 
 def before(own: Closure, closures: Iterable[Closure]) -> list[Closure]:
-    """The works on the lane of some works that begin upstream of these."""
+    """The works on the lane of some works that begin upstream of these, whenever they are there."""
     place = own.link, own.lane
     return [one for one in closures if (one.link, one.lane) == place and one.first < own.first]
 

@@ -9,7 +9,7 @@ from streetsim.simulation.simulation import Simulation
 
 @dataclass(slots=True)
 class Detours:
-    """Vehicles that leave their plan for the shortest way round an edge. Each is taken out, and enters anew with
+    """Vehicles that leave their plan for the quickest way round an edge. Each is taken out, and enters anew with
     another number; one on the road does so where its new way begins. The user notes in `departs` each vehicle that may
     take another way, calls turn_off before each advance, and goes no further than next_clock."""
 

@@ -141,7 +141,7 @@ class Simulation:
         self, name: str, plan: Iterable[int], lane: int, depart: int, size: int = 1, driven: Sequence[int] = ()
     ) -> int:
         """Tells the program of a vehicle; gives its number. plan: links; lane: of the first; depart: clock; size:
-        cells; driven: links that it drove before, where it was taken out."""
+        cells; driven: links that it drove before, where it was taken out. Raises as `send` does."""
         command = {"cmd": "enter", "plan": list(plan), "lane": lane, "depart": depart}
         command |= {"size": size} if size > 1 else {}
         car = self.tell(command)

@@ -314,7 +314,8 @@ class LaneArea(Stretches, Detectors):
 
     def jam(self, name: str) -> list[int]:
         """The numbers in the program of the vehicles of the longest jam: they stand one behind the other without a gap,
-        and one alone is a jam too. Empty where nobody stands."""
+        and one alone is a jam too; of equally many the one that is nearest to the stop line. Empty where nobody
+        stands."""
         fleet, places, rear = self.now().fleet, self.now().view.places, -1
         longest: list[int] = []
         here: list[int] = []
