@@ -226,8 +226,9 @@ def seconds_of(graph: Graph, costs: Array, path: Path) -> float:
 
 
 def ways_of_pair(at: int, pair: Pair, found: Mapping[tuple[int, int], Mapping[Path, float]]) -> Iterator[Way]:
-    """The ways of a pair, by its place among the pairs, with the weights of their ends; their shares and driven seconds
-    are still 0. found: by (first edge, last edge) seconds of each path."""
+    """The ways of a pair, by its place among the pairs, with the share of its vehicles that their ends have (weight),
+    among those ends alone that some way joins; their shares and driven seconds are still 0. found: by (first edge, last
+    edge) seconds of each path."""
     ends = {
         (source, sink): weight * other
         for source, weight in pair.sources.items() for sink, other in pair.sinks.items()

@@ -127,8 +127,8 @@ def best_of(all_: Sequence[Attempt]) -> Attempt:
 
 
 def left_over(basis: Basis, one: Attempt) -> Iterator[str]:
-    """Sentences on the counts that fit worst, and why as far as the run shows it; and on counts at full edges, which do
-    not tell how many want to pass."""
+    """Sentences on the counts that fit worst (five at most), and why as far as the run shows it; and on counts at full
+    edges, which do not tell how many want to pass."""
     graph = basis.town.graph
     for each in worst(one.judged):
         figures = f"{each.passed:,.0f} passed of {each.counted:,.0f}, GEH {each.geh:.1f}"

@@ -197,8 +197,8 @@ def by_pairs(
 
 def given_routes(town: Town, asked: Asked) -> list[tuple[str, ...]]:
     """The edges, by name, of each route of the files of candidates: as often as vehicles have it, once where none has.
-    Routes of one edge are left out. The vehicle types of the files are added to the town's. Fault where the files have
-    no route, or no connection leads from an edge to the next."""
+    Routes of one edge are left out, so that it may be empty. The vehicle types of the files are added to the town's.
+    Fault where the files have no route, or no connection leads from an edge to the next."""
     demand = Demand(town.net, town.types, asked.seed, Report())
     for path in asked.candidates:
         demand.read(path)

@@ -136,7 +136,8 @@ class Measures:
         return Crossing(movement, passage.end, place, delay, passage.stops, passage.stood, plan[at + 1])
 
     def interval(self, begin: int, end: int) -> Interval:
-        """What vehicles lost, the queues, and how far lanes were used, from one clock (not included) to another."""
+        """What vehicles lost whose passages ended from one clock (not included) to another, and the queues and how far
+        lanes were used from the one to the other."""
         found = Interval(begin, end)
         crossings = defaultdict(list)
         for one in self.crossings:

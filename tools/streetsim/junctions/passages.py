@@ -87,7 +87,9 @@ class Passages:
 
     def note(self, clock: int, car: int, link: int, lane: int, standing: bool) -> None:
         """Notes a vehicle, by its number in the file (car), on the cells of an approach at a clock, with its stops and
-        seconds of standing; standing: as `who_stand` has it."""
+        seconds of standing (none at the clock at which it is first seen there). A stop is STILL seconds of standing;
+        where vehicles move by one cell a step, only the last of these and those after it count. standing: as
+        `who_stand` has it."""
         passage = self.passage(clock, car, link)
         passage.link, passage.lane = link, lane
         if clock == passage.begin:  # who departs stands then, which is no stop
@@ -108,8 +110,9 @@ class Passages:
         return made
 
     def note_crossing(self, clock: int, car: int, link: int, lane: int) -> None:
-        """Notes a vehicle, by its number in the file (car), in the junction behind a lane at a clock; not in one
-        between two edges of an approach."""
+        """Notes a vehicle, by its number in the file (car), in the junction behind a lane at a clock: the first time
+        that it is past the stop line, and once it has been there for longer than one crosses, a second of standing each
+        time. In a junction between two edges of an approach it is noted as on the approach, no more."""
         passage = self.passage(clock, car, link)
         if link not in self.before:  # between two edges of the approach
             return

@@ -86,7 +86,7 @@ def correlation(first: Sequence[float], second: Sequence[float]) -> float | None
 
 def greatest_gap(here: Iterable[float], there: Iterable[float], vehicles: int) -> float:
     """The greatest distance between two curves of arrivals, given as clocks in any order, as a share (0 to 1) of so
-    many vehicles."""
+    many vehicles (less than 1 counts as 1); 0 where nobody arrives."""
     here, there = sorted(here), sorted(there)
     return max(
         (abs(bisect_right(here, time) - bisect_right(there, time)) for time in {*here, *there}), default=0

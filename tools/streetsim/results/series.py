@@ -1,6 +1,6 @@
 """The numbers behind the pictures, from what streetsim-run wrote; nothing here draws. Functions of a path, which is
-edges in the order of driving, raise Fault where the map has no such edge, and all where a table or the polls that they
-read are missing."""
+edges in the order of driving (a list or tuple, as it is read more than once), raise Fault where the map has no such
+edge, and all where a table or the polls that they read are missing."""
 from bisect import bisect_right
 from collections import Counter, defaultdict
 from collections.abc import Iterable, Iterator, Sequence
@@ -253,8 +253,8 @@ def middle(cells: int) -> tuple[int, int]:
 
 
 def arrival_curves(folder: Folder) -> tuple[list[int], list[int]]:
-    """(clocks of wished departures up to the run's end, clocks of arrivals), each sorted. Fault where trips.csv cannot
-    be read."""
+    """(clocks of wished departures up to the run's end, that second included, clocks of arrivals), each sorted. Fault
+    where trips.csv cannot be read."""
     trips, end = folder.trips(), folder.made.get("until", inf)
     departs = sorted(depart for row in trips if (depart := int(row["depart"])) <= end)
     return departs, sorted(int(row["arrival"]) for row in trips if row["arrival"])

@@ -12,8 +12,8 @@ MAY_GO = OPEN + "sOo"  # signs under which somebody may go, after a stop or by a
 
 
 def path_of(runs: Runs) -> str | None:
-    """The path of the kept programs, lights.json, in the folder of a run or above those of its seeds; none where there
-    is none."""
+    """The path of the kept programs, lights.json, in the folder of the first seed's run, else in the one above it; none
+    where there is none."""
     folder = os.path.normpath(runs.first.path)
     places = (f"{folder}/{LIGHTS}", f"{os.path.dirname(folder)}/{LIGHTS}")
     return next((path for path in places if os.path.exists(path)), None)

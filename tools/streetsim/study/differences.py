@@ -39,7 +39,7 @@ def differences(study: Study, results: Mapping[str, Sequence[Outcome]], precisio
     """A row for each variant: its mean trip, and its difference to the base's with two half widths of the 95 %
     interval: by runs of equal seeds (paired), and as if their seeds were others (unpaired). precision: the half width
     that runs are to reach, in percent of the base's mean trip. None stands for what the base, or one seed, does not
-    have."""
+    have, and for runs needed where 2^20 are too few (runs_needed)."""
     base = means_of(study, results, study.base)
     error = fmean(base) * precision / 100
     rows: list[Difference] = []
@@ -58,6 +58,6 @@ def differences(study: Study, results: Mapping[str, Sequence[Outcome]], precisio
 
 
 def written(row: Entry) -> Entry:
-    """A row of a table as it is written: None becomes an empty text, a number with a fraction a text with three
+    """A row of a table as it is written: None becomes an empty text, a float (a whole one too) a text with three
     decimals; all else stays."""
     return tuple("" if value is None else f"{value:.3f}" if isinstance(value, float) else value for value in row)

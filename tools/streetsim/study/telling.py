@@ -72,8 +72,8 @@ def tell_ends(study: Study, results: Mapping[str, Sequence[Outcome]]) -> None:
 
 
 def tell(rows: Sequence[Difference]) -> None:
-    """Prints for each variant its mean trip, and the difference to the base with its 95 % interval; and how many runs
-    the wanted precision needs, where that is more than were made."""
+    """Prints for each variant its mean trip, and the difference to the base with its 95 % interval; and how many paired
+    runs the wanted precision needs, where that is more than were made; nothing of these where 2^20 are too few."""
     for name, mean, difference, half, _, runs, needed, _ in rows:
         line = f"{name}: mean trip {mean:.1f} s"
         if difference is not None:

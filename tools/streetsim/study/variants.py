@@ -100,8 +100,8 @@ def naming(where: str) -> Iterator[None]:
 
 
 def read_until(path: str, until: Any) -> int | None:
-    """The last second of a study: of a number, or of a time as text (07:00); None where it names none. Fault
-    otherwise."""
+    """The last second of a study: of a number, or of a time as text (07:00), 1 to limits.CLOCK; None where it names
+    none. Fault otherwise."""
     if isinstance(until, str) and whole_seconds(until) is not None:
         until = whole_seconds(until)
     if until is not None and (type(until) is not int or not 1 <= until <= limits.CLOCK):
