@@ -19,8 +19,8 @@ FIXED = {"OGR_CURRENT_DATE": "2000-01-01T00:00:00.000Z"}  # so that equal runs g
 
 
 def told(path: str, runs: Runs, found: list) -> str:
-    """What was written to a path, and what is missing or not to be trusted in it, in one line; found: the features.
-    Fault where edges.csv, which is read without junction tables, cannot be."""
+    """What was written to a path, and what is missing or, by the first doubt of its runs, not to be trusted in it, in
+    one line; found: the features. Fault where edges.csv, which is read without junction tables, cannot be."""
     count = len(intervals_of(runs))
     text = f"{path}: {len(found):,} rows of edges and junctions in {count} interval{'s' if count > 1 else ''}"
     doubts = [doubt for folder in runs.folders.values() for doubt in folder.doubts]

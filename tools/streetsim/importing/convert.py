@@ -66,7 +66,7 @@ def convert(
     additional, routes, trips: paths. trips: files whose vehicles get ways; where there are some, those of `routes` are
     read with them. Unrouted where there are none and a vehicle has no route. What is left out or otherwise than in SUMO
     is said in the report. Fault where a file cannot be read or is not as SUMO has it, where an option names an edge or
-    lane that is not there, and where a vehicle has no way."""
+    lane that is not there, and where why_no_way raises one; vehicles without a way are else left out."""
     net = read_net(net_path, options.classes, report)
     types = Types(options.seed, report)
     demand = None if trips else Demand(net, types, options.seed, report)

@@ -11,7 +11,7 @@ BIN = 22.5  # metres of a field of the picture
 
 def draw_works(pyplot: Pyplot, folder: Folder) -> Figure:
     """A panel for each of the first six places of works: how far before them vehicles stand, and how far the queue
-    reaches, over time. Fault where the run had no works, or ended before them."""
+    reaches, over time. Fault where the run had no works, ended before them, or has no polls."""
     places = places_of(folder)[:MOST]
     figure, panels = pyplot.subplots(len(places), figsize=(10, 1 + 2.6 * len(places)), squeeze=False)
     for place, (axes,) in zip(places, panels, strict=True):

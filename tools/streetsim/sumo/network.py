@@ -360,7 +360,8 @@ def bundles_of(
     edges: Sequence[Edge], following: Targets, waiting: Targets, closing: Mapping[str, Collection[int]], report: Report
 ) -> dict[str, list[list[Lane]]]:
     """By edge its lanes in groups of one or two, which become links, from the right. Where turn lanes as links of their
-    own would make too many links, they are joined with the lanes beside them, which is reported."""
+    own would make too many links, they are joined with the lanes beside them, which is reported. following, waiting: as
+    next_edges gives them; closing: as closing_lanes does."""
     bundles = {edge.name: parallel(edge, following, waiting, closing.get(edge.name, ())) for edge in edges}
     if sum(map(len, bundles.values())) <= limits.LINKS:
         return bundles

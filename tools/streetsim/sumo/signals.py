@@ -271,8 +271,8 @@ def by_gaps(found: Mapping[int, Movement]) -> Told:
 
 def by_share(light: str, turns: Sequence[AtLight], states: Sequence[str], permissive: float | None) -> Told:
     """For each index of a light's state {first second of a permissive green: (seconds of it that are shown, 1)}, in the
-    form of by_gaps: the last share of each permissive green is shown. permissive: the share, 0 to 1; None:
-    DEFAULT_SHARE."""
+    form of by_gaps: the last share of each permissive green is shown. states: of the light, one for each second;
+    permissive: the share, 0 to 1; None: DEFAULT_SHARE."""
     share = DEFAULT_SHARE if permissive is None else permissive
     told: dict[int | None, dict[int, tuple[int, int]]] = {}
     for index in {turn.index for *_, turn in turns if turn.light == light}:

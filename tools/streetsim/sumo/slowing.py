@@ -58,7 +58,7 @@ def slow_of(text: str) -> Slow:
 
 def parts_of(slow: Slow, metres: float) -> list[Part]:
     """The parts of an edge of so many metres, in order; a part before or behind the slow one that would be shorter than
-    LEAST belongs to the slow one."""
+    LEAST belongs to the slow one. None is slow where the stretch begins at the edge's end."""
     begin = slow.begin if slow.begin >= LEAST else 0
     end = slow.end if metres - slow.end >= LEAST else metres
     places = list(dict.fromkeys((0, begin, end, metres)))

@@ -79,7 +79,7 @@ class Found:
 
 def read_bus_stop(path: FilePath, element: Element, net: SumoNet) -> None:
     """Adds a bus stop to the network (bus_stops); Fault where another one has its name, the network has no such lane,
-    or it lies beyond its lane and is not friendly."""
+    or it lies beyond its lane and is not friendly (not looked at where the lane is left out)."""
     name, lane = attribute(path, element, "id", filled), attribute(path, element, "lane", filled)
     if name in net.bus_stops:
         raise Fault(f"{told(path, element)}: a second stop of this name")
@@ -153,7 +153,8 @@ def why_not(element: Element) -> str:
 def place_of(path: FilePath, element: Element, net: SumoNet, where: str) -> BusStop:
     """The place of a stop that names a lane, or an edge: then the first lane of it that is kept. An end that is not
     told is the lane's, a begin that is not told POINT before the end. Fault where it names neither, the network does
-    not have it, or the place lies beyond the lane; where: the element, for the Fault."""
+    not have it, or the place lies beyond the lane and is not friendly (not looked at where the lane is left out);
+    where: the element, for the Fault."""
     lane = element.get("lane", "")
     if not lane:
         edge = element.get("edge", "")

@@ -170,8 +170,8 @@ def queue_seconds(foe: Movement, factor: float) -> int:
 def leaving_seconds(foe: Movement, rate: float) -> int:
     """The seconds of the cycle, as bits, from the begin of each of a foe's greens, that its queue needs to leave: who
     has come in the red before, and who comes meanwhile. They may go on beyond the green (foe.green). 0 where
-    foe.passing is 0. rate: the seconds that the vehicles which come in a second need to pass, from 0 on; above 0.99 it
-    counts as 0.99."""
+    foe.passing is 0, or no green of it follows a red. rate: the seconds that the vehicles which come in a second need
+    to pass, from 0 on; above 0.99 it counts as 0.99."""
     seconds, rate = 0, min(rate, 0.99)
     for start, red in foe.begins if foe.passing else ():
         length = round(LOST + red * rate / (1 - rate))

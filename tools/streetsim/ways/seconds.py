@@ -71,8 +71,8 @@ def reds(green: int, cycle: int) -> list[int]:
 
 def capacities(graph: Graph, mapping: Map, signals: Iterable[dict]) -> list[float]:
     """Vehicles an hour that each movement lets pass, a list by movement: at a signal SATURATION for each lane, times
-    its share of green, and LEAST_CAPACITY at least; where no signal ever shows it green SATURATION, whatever its
-    lanes."""
+    its share of green, and LEAST_CAPACITY at least; where no signal ever shows it green (as at none, or where it ends a
+    trip) SATURATION, whatever its lanes."""
     found: dict[tuple[int, int], float] = defaultdict(float)
     for command in signals:
         cycle = sum(duration for duration, _ in command["phases"])

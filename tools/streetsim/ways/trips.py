@@ -228,8 +228,8 @@ def write_routes(path: str, trips: Trips, graph: Graph) -> None:
 
 
 def attributes_in(trip: Trip) -> dict[str, str]:
-    """The attributes, {name: text}, of a trip in a file of routes; it departs on the best lane where its own file tells
-    none."""
+    """The attributes, {name: text}, of a trip in a file of routes; its departure in seconds with two decimals, no type
+    where it is the usual one (DEFAULT). It departs on the best lane where its own file tells none."""
     kind = {"type": trip.type} if trip.type != DEFAULT else {}
     line = {"line": trip.line} if trip.line else {}
     return {"id": trip.name, "depart": f"{trip.depart:.2f}", **kind, "departLane": "best", **line, **dict(trip.more)}
