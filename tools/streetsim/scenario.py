@@ -320,7 +320,8 @@ class TrafficLight(Part):
         """Sets a light's cycle from the next step on: phases of (seconds, state), and SUMO's offset in seconds, as a
         tlLogic has them; detectors drive it no more. Of permissive greens the usual share is shown, as flows are not
         known here. Gives warnings, empty where there are none. Does nothing for an unknown light. Fault
-        (streetsim.files) where a state is shorter than the light's signals, or the cycle no second long or too long."""
+        (streetsim.files) where a state is shorter than the light's signals, or the cycle rounds to 0 s or is longer
+        than 200,000 s; detectors drive the light no more after that either."""
         self.scenario.driving.driver.release(name)
         return self.scenario.show_program(name, [(seconds, state) for seconds, state in phases], offset)
 

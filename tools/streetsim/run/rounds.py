@@ -75,7 +75,7 @@ class Round(Recorder):
         return Asking(EVERY, [], 0)
 
     def is_over(self) -> bool:
-        """Whether all vehicles have entered, and arrived or been taken out."""
+        """Whether all vehicles have entered, and by the last census arrived or been taken out."""
         last = self.records.censuses[-1] if self.records.censuses else None
         return self.entered == len(self.run.enters) and last is not None and last.admitted == last.arrived + last.taken
 

@@ -20,9 +20,9 @@ class Watcher(Desk):
     """Repeats a run up to the last of some clocks, and looks at lanes at each of these; one object makes one run."""
 
     def look(self, rescued: Sequence[Rescue], clocks: Iterable[int], lanes: Sequence[Place]) -> Iterator[Frame]:
-        """What stands on lanes at each clock, a frame each, as `frame` gives it. rescued: (clock, car, enter command)
-        of the run that is repeated; clocks: rising, after the run's start, and not after its end. Fault where a line is
-        refused."""
+        """What stands on lanes at each clock, a frame each, as `frame` gives it; the run goes on as these are taken.
+        rescued: (clock, car, enter command) of the run that is repeated; clocks: rising, after the run's start, and not
+        after its end. Fault where a line is refused."""
         self.begin(Asking(0, [], 0))
         self.owners: list[int] = []  # the vehicle of the file by car number
         left, clock = list(reversed(rescued)), self.start

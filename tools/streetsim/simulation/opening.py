@@ -33,8 +33,9 @@ def open_session(words: Sequence[str]) -> Session:
 
 def opened(folder: Path, options: Options) -> Session:
     """The session of some options (long names): imports what they name into a folder, starts the program, tells what
-    differs from SUMO, and has the output files written that are asked for. FatalTraCIError where they name no network,
-    Fault where the import or the run cannot be made."""
+    differs from SUMO, and has the output files written that are asked for, edgeData by its period in whole seconds
+    (PERIOD where that is below 1). FatalTraCIError where they name no network, Fault where the import or the run cannot
+    be made."""
     names = ("route-files", "additional-files")
     routes, additional = ([part.strip() for part in options.get(name, "").split(",") if part.strip()] for name in names)
     if not options.get("net-file"):

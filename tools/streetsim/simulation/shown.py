@@ -54,8 +54,8 @@ class Shown:
     ) -> tuple[list[Command], list[str]]:
         """(commands that show a cycle of (seconds, state) at a light from a clock on; warnings). What was still to be
         sent for the light is forgotten. offset: as in a tlLogic, seconds. Of permissive greens the usual share is
-        shown, as flows are not known here. Fault where a state is shorter than the light's signals, or its cycle no
-        second long, or too long."""
+        shown, as flows are not known here. Fault where a state is shorter than the light's signals, or the cycle rounds
+        to 0 s or is longer than 200,000 s; then nothing is forgotten."""
         report, commands, coming = Report(), [], {}
         for node in self.nodes(light):
             own = self.own(light, node, phases, offset, report)

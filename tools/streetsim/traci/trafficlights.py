@@ -173,7 +173,8 @@ class TrafficLight(Domain):
         """Sets a whole program of phases of fixed seconds (minDur, maxDur and next have no effect, and detectors drive
         the light no more) and runs it from the begin of its current phase; setProgram can choose it again by its name.
         TraCIException without phases, or for wrong states, seconds not above 0 or a wrong current phase; Fault
-        (streetsim.files) where the cycle is no second long or too long."""
+        (streetsim.files) where the cycle rounds to 0 s or is longer than 200,000 s, after which the plan that was sent
+        last stays in force, and detectors drive the light no more."""
         phases = [(float(phase.duration), phase.state) for phase in logic.phases]
         if not phases:
             raise TraCIException(f"Traffic light '{name}': a program without phases")
