@@ -361,7 +361,9 @@ ENDINGS = (signal.SIGTERM, signal.SIGINT, signal.SIGHUP)
 
 @contextlib.contextmanager
 def uninterrupted() -> Iterator[None]:
-    """Holds back, while the block runs, the signals that end a tool; they come after it."""
+    """Holds back, while the block runs, the signals that end a tool (ENDINGS); they come after it. They are held back
+    from this thread alone, so where another one runs that takes them, they come in the block; and from processes begun
+    in the block for good."""
     before = signal.pthread_sigmask(signal.SIG_BLOCK, ENDINGS)
     try:
         yield

@@ -96,7 +96,8 @@ def ends_of(graph: Graph, net: SumoNet, outside: Iterable[int]) -> list[End]:
 
 
 def pairs_of_zones(graph: Graph, zones: Mapping[str, Zone], wanted: Iterable[tuple[str, str]]) -> list[Pair]:
-    """The pairs of zones that are wanted, (source, target) by name; edges of weight 0 are left out."""
+    """The pairs of zones that are wanted, (source, target) by name, in their order, maybe without any edge; edges of
+    weight 0 are left out. KeyError for a name that is no zone, or an edge that the graph does not have."""
 
     def numbers(weights: Mapping[str, float]) -> dict[int, float]:
         """{number of an edge: its weight}; those of weight 0 are left out."""

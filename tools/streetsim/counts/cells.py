@@ -80,7 +80,7 @@ def check_columns(path: FilePath, names: Sequence[str], needed: Sequence[str], m
 
 def clock_of(text: str) -> int:
     """Whole seconds, 0 to 1,000,000,000, of 3600, 01:00:00, 0:01:00:00 (with days), or 01:00 (HH:MM) as planners write
-    it; ValueError otherwise."""
+    it, with minutes and seconds below 60; ValueError otherwise."""
     parts = text.split(":")
     try:
         values = [float(part) for part in parts]

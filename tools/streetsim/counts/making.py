@@ -63,7 +63,8 @@ def tried(
     basis: Basis, asked: Asked, wanted: Running, fitted: Fitted, ends: Callable[[], bool], told: demanding.Told
 ) -> list[Attempt]:
     """Runs until the demand fits, all runs are used up, or the user asks for an end (which `ends` tells); prints a line
-    on standard error after each, and gives them all. Fault where a run cannot be made."""
+    on standard error after each, and gives them all. Each run ends correcting.AFTER seconds after the last slice at the
+    latest. Fault where a run cannot be made."""
     until = min(limits.CLOCK, basis.slices.bounds[-1] + correcting.AFTER)
     program = wanted.program
     ground = Ground(program, digest_of(program), basis.town.graph, SLICE, until, wanted.rounds)

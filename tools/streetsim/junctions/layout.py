@@ -124,8 +124,8 @@ def cut_short(mapping: Map, approaches: Mapping[str, Approach]) -> list[str]:
 
 
 def turn_name(source: Shape, target: Shape) -> str:
-    """L (left), T (through), R (right) or U (back), by the directions of the lines before and after a junction; points
-    (x, y), two at least of each."""
+    """L (left), T (through), R (right) or U (back), by the directions of the lines before and after a junction: T below
+    STRAIGHT degrees, U above BACK. Points (x, y), two at least of each."""
     turned = (heading(*target[:2]) - heading(*source[-2:]) + 180) % 360 - 180
     if abs(turned) < STRAIGHT:
         return "T"

@@ -117,8 +117,9 @@ class KeptEngine(Engine):
         return replies + list(self.client.exchange(left))
 
     def alike(self, lines: list[bytes]) -> int:
-        """How many of the lines, from the first on, change nothing or are those that come next in the file; `again`
-        counts the latter on."""
+        """How many of the lines, from the first on, change nothing or are those that come next in the file, up to the
+        file's last line: what follows it is not counted, even if it changes nothing. `again` counts those of the file
+        on."""
         for count, line in enumerate(lines):
             if self.again == len(self.kept):
                 return count

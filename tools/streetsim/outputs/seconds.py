@@ -80,9 +80,10 @@ class Follower:
         self.expected[car] = name, wished, kind
 
     def see(self, clock: int, lanes: Iterable[Sequence[Any]], arrived: Iterable[int]) -> Second:
-        """Takes the second that ends at a clock, and gives what it shows; called for every second, rising. lanes:
-        [link, lane, cells, cars in the buffer, ..] as a folder's polls have them, empty lanes left out; arrived: the
-        cars that arrived in it, a list or the like, as it is read twice."""
+        """Takes the second that ends at a clock, and gives what it shows; called for every second, rising. Its trips
+        are the follower's own, without those who arrived, and change with the next call. lanes: [link, lane, cells,
+        cars in the buffer, ..] as a folder's polls have them, empty lanes left out; arrived: the cars that arrived in
+        it, a list or the like, as it is read twice."""
         second = Second(clock, self.trips, before=self.before)
         for link, lane, cells, buffer, *_ in lanes:
             for entry in cells:

@@ -101,8 +101,8 @@ def shows_green(command: Command, second: int, links: Sequence[int], following: 
 
 
 def way_back(folder: Folder, edges: Sequence[str]) -> list[str]:
-    """The edges of a path's other direction, from its end to its begin, between the same junctions; Fault where there
-    is no edge back."""
+    """The edges of a path's other direction, from its end to its begin, between the same junctions (of several the
+    first of the map); Fault where there is no edge back."""
     mapping = folder.mapping
     found: dict[tuple[int, int], str] = {}
     for edge, links in mapping.links_of.items():

@@ -44,7 +44,8 @@ def traffic_of(rows: Iterable[dict], begin: int, end: int) -> dict[str, Traffic]
 
 def traffic(parts: Sequence[tuple[dict, float, float]]) -> Traffic:
     """The traffic of an edge in an interval; parts, one at least: (row of edges.csv, its seconds in the interval, these
-    as a share of the row's period)."""
+    as a share of the row's period). Density and speed are means of the rows that have them, by seconds and by vehicles
+    there."""
     left = sum(int(row["left"]) * share for row, _, share in parts)
     seconds = sum(those for _, those, _ in parts)
     seen = [

@@ -184,7 +184,8 @@ def within_gap(one: Diverted, before: Diverted) -> str | None:
 
 def share_rows(all_: Sequence[Diverted]) -> Iterator[tuple]:
     """The rows of knowing.csv, as SHARES has the columns: the ways without works first, then each share, with its mean
-    difference (s) to the first by equal seeds and half the width of its 95 % interval."""
+    difference (s) to the first by equal seeds and half the width of its 95 % interval. Those that know are counted of
+    the trips that may change alone."""
     before = all_[0]
     for one in all_:
         apart = [there - here for here, there in zip(before.means(), one.means(), strict=True)]

@@ -128,7 +128,7 @@ class Search:
         told: Callable[[Iteration], bool],
         closing: Closing | None = None,
     ) -> None:
-        """closing: the works of the town; None where it has none."""
+        """trips: in order of departure, one at least; closing: the works of the town; None where it has none."""
         self.town, self.ground, self.trips = town, ground, trips
         self.team, self.told, self.closing = team, told, closing
         self.iterations: list[Iteration] = []

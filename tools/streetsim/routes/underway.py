@@ -92,8 +92,8 @@ class WaysRound:
         return self.mapping.links[trip.origin].edge == self.mapping.links[trip.target].edge
 
     def shut(self, edges: Collection[str], times: tuple[float, float]) -> Shut:
-        """The seconds in which the links of edges are not to be entered, {link: [(first, last)]}: also so shortly
-        before times that one would not come past the works."""
+        """The seconds in which the links of edges are not to be entered, {link: [(first, last)]}, from first to before
+        last: also so shortly before times that one would not come past the works."""
         begin, end = times
         driving = FreeFlow(self.mapping, self.dawdle).driving
         return {

@@ -16,8 +16,9 @@ TALLIED = ("waiting", "waited", "lost", "travelled")
 
 def save_state(session: Session, path: str) -> None:
     """Writes to a file what restores a session: the lines that brought it here, and what is known of its vehicles and
-    lights, and of what drives these. From now on each step of the session is looked at; what merging holds closed is
-    opened. Fault where the file cannot be written."""
+    lights, and of what drives these. Routes and programs of lights that a script added, and travel times and parameters
+    that it set, are not kept. From now on each step of the session is looked at; what merging holds closed is opened.
+    Fault where the file cannot be written."""
     session.follow()
     session.let_go()
     fleet, types, view, lights = session.fleet, session.types, session.view, session.control.lights.items()

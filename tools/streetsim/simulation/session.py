@@ -218,7 +218,8 @@ class Session(Simulation):
 
     def replan(self, name: str, links: tuple[int, ...]) -> None:
         """Has a vehicle go on along other links; the first must be the one where it is or will depart. A vehicle on the
-        road takes them from the node behind that link on."""
+        road takes them from the node behind that link on; one that waits to depart enters anew at once, with another
+        number. The vehicle must not have ended."""
         car, plans = self.fleet.cars.get(name), self.fleet.plans
         if car is None:
             self.wishes[name] = links

@@ -99,7 +99,8 @@ class Shown:
         list(self.coming[node].due(clock))
 
     def forget(self, light: str) -> None:
-        """Has nothing more sent of what the file, or a long program, has for a light that a script sets."""
+        """Has nothing more sent of what the file, or a long program, has for a light that a script sets. Long programs
+        that a script set before at other lights are dropped too, though they should go on."""
         self.forgotten = self.forgotten | frozenset(self.nodes(light))
         self.coming = {node: phases for node, phases in self.coming.items() if node not in self.forgotten}
 

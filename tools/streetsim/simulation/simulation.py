@@ -213,7 +213,8 @@ class Simulation:
     def works_place(self, lane: str, begin: float, end: float | None) -> Command:
         """The fields link, lane, first and last (cells) of a close or reopen command for a lane from begin to end
         metres (None: its end). A lane may be closed to the whole metre in which it ends, as streetsim-run --close
-        allows; ValueError beyond that, KeyError for a lane that the import has not."""
+        allows; ValueError beyond that, below 0, and for an end not after the begin, KeyError for a lane that the import
+        has not."""
         number, index = self.lane_of[lane]
         link = self.map.links[number]
         last = link.metres if end is None else end

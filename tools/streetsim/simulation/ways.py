@@ -16,7 +16,8 @@ SLOWEST = 0.1  # metres a second that an edge counts with where all stand, as in
 
 class Ways:
     """Shortest ways over the links of a simulation's map, by the turns that its run has; no turn is added. inside:
-    metres inside junctions; view: whose speeds give the seconds."""
+    metres inside junctions; view: whose speeds give the seconds, and which must have looked at the clock before they
+    are asked for (Session.router sees to that)."""
 
     def __init__(self, simulation: Simulation, inside: Inside, view: View) -> None:
         """Builds the graph of the map's links and turns; seconds and metres are reckoned when they are asked for."""
@@ -70,7 +71,7 @@ class Ways:
 
     def seconds(self, edge: str) -> float:
         """The seconds of an edge: those that a script set, else by the mean speed of the vehicles on it, 0.1 m/s at
-        least, or its limit where it is empty."""
+        least, or its limit where it is empty. The view must have looked at this clock; KeyError for an unknown edge."""
         if edge in self.adapted:
             return float(self.adapted[edge])
         view, lanes = self.view, self.simulation.lanes_on(edge)

@@ -54,7 +54,8 @@ def doubts(study: Study, name: str, outcomes: Sequence[Outcome]) -> Iterator[str
 
 
 def tell_ends(study: Study, results: Mapping[str, Sequence[Outcome]]) -> None:
-    """Prints how runs without a last second ended; nothing where the study has one."""
+    """Prints how runs without a last second ended: those that ended otherwise than by the arrival of all, or, without
+    any such, from which clock to which all ended. Nothing where the study has a last second."""
     if study.until is not None:
         return
     clocks = []

@@ -141,8 +141,8 @@ def allows(element: Element, classes: Collection[str]) -> bool:
 
 def read_net(path: FilePath, classes: Sequence[str], report: Report) -> SumoNet:
     """The network of a .net.xml, with the lanes that at least one of the classes may use; Fault where the file cannot
-    be read or is wrong, or there are no such lanes. Elements that are not read are reported, but for <type> and
-    <request>."""
+    be read or is wrong, or there are no such lanes. Connections have the states of the file, but for those of
+    spare_main_streets (m for s). Elements that are not read are reported, but for <type> and <request>."""
     net = SumoNet()
     named: set[str] = set()
     readers = {

@@ -74,9 +74,11 @@ def movements_of_junction(
     flows: Flows,
     limits_of: Mapping[str, int],
 ) -> dict[int, Movement]:
-    """The movements of one junction, {request: movement}, with the seconds that are shown (settle); empty where no
-    light of it has a program, or it is not known who gives way to whom. flows: vehicles an hour by (edge, next edge);
-    limits_of: cells a step, by edge. Fault where each_second or check_states raises one."""
+    """The movements of one junction, {request: movement}, with the seconds that are shown (settle); of several lights
+    with a program the first by name alone counts (light_of), and connections of others are left out. Empty where no
+    light of it has a program, or it is not known who gives way to whom. connections: all of the junction, those without
+    a light too; flows: vehicles an hour by (edge, next edge); limits_of: cells a step, by edge, of each edge that leads
+    there. Fault where each_second or check_states raises one."""
     light = light_of(connections, net)
     ours = [connection for connection in connections if connection.light in (light, None)]
     if not light or not net.yields.get(junction) or any(connection.request is None for connection in ours):

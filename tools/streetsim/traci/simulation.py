@@ -200,7 +200,9 @@ class Simulation(Domain, SimulationCalls[Session]):
 
     def saveState(self, fileName: str) -> None:
         """Writes the state to a file of streetsim's own form, which loadState reads; Fault (streetsim.files) where it
-        cannot be written. Merging before works begins anew from here, and each step is looked at from now on."""
+        cannot be written. Merging before works begins anew from here, and each step is looked at from now on. Routes
+        and programs of lights that the script added, and travel times and parameters that it set, are not in the
+        file."""
         save_state(self.now(), fileName)
 
     def loadState(self, fileName: str) -> None:

@@ -178,7 +178,7 @@ class Vehicle(VehicleCalls[Session], Placed):
 
     def getAllowedSpeed(self, name: str) -> float:
         """The limit of its lane in SUMO's file, metres a second, or the greatest speed of its type where that is less;
-        in a junction, and before it departs, that of its type alone; 55.6 at most."""
+        in a junction, and before it departs, that of its type alone, 55.6 at most."""
         place = self.place(name)
         lane = self.getLaneID(name)
         limit = self.now().facts.lanes[lane].speed if place is not None and place.cell is not None else FASTEST

@@ -77,8 +77,9 @@ def with_works(
 
 def closed(run: Run, mapping: Map, works: list[Works], how: str, searched: bool = False) -> tuple[Run, Map, list[str]]:
     """(the run with works on a map whose lanes are joint where they must be, the same map, the texts on those who lose
-    their only lane). how: of movements.LOST; searched: whether ways round are searched for them, which counts for bar
-    alone."""
+    their only lane). how: of movements.LOST: with lead these are led from a lane beside, where one has the turn, else
+    they wait; with wait and with bar alike all of them wait, and who asks for bar has to give them other ways before.
+    searched: whether it does, which changes the texts of bar alone. The map must have the works' lanes."""
     sites = sites_of(works, mapping)
     closures = closures_at(sites)
     lost = lost_movements(run, mapping, closures)

@@ -74,8 +74,10 @@ class Watched:
     last: int | None = None  # look
 
     def reach(self, clock: int, lanes: Mapping[Place, Lane]) -> Reach:
-        """The queue before the works at a clock, by what lanes show; who stands before other works upstream on the lane
-        belongs to their queue alone."""
+        """The queue before the works at a clock, on whatever lane of their link, and on the lanes upstream that lead to
+        it; who stands before other works upstream on the lane belongs to their queue alone. lanes: the replies on all
+        lanes of the link, and on those of the links that `further` asks for; lanes upstream without one count as
+        empty."""
         return reach_of(lanes, self.streets, self.closure.link, self.closure.first, self.begin(clock))
 
     def begin(self, clock: int) -> int:
