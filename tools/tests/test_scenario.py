@@ -2,10 +2,12 @@
 import json
 import unittest
 
-from support import FORK, PROGRAM, Case, needs_simulator
+from support import DATA, FORK, PROGRAM, Case, needs_simulator
 from test_route import two_ways
+from streetsim.model.mapping import read_map
 from streetsim.model.tables import TRIPS, read_table
 from streetsim.scenario import NOWHERE, NotHere, Scenario
+from streetsim.simulation.shown import Shown
 
 ROUTES = '<routes><vehicle id="v" depart="0"><route edges="a b"/></vehicle></routes>'
 
@@ -211,6 +213,25 @@ class Lights(Case):
             sim.trafficlight.setProgramLogic("L", [(60, "G")])
             sim.simulationStep(30)
             self.assertNotEqual(sim.vehicle.getRoadID("v"), "a")
+
+
+class LongPrograms(Case):
+    def test_goes_on_where_another_light_is_set(self):
+        run, mapped = self.folder / "run.jsonl", self.folder / "map.json"
+        self.tool("import", DATA / "grid.net.xml.gz", "-o", run, "--map", mapped)
+        mapping = read_map(str(mapped))
+        first, second = (name for name, _ in mapping.signals[:2])
+        shown = Shown(mapping, [])
+        long, short = [(700.0, "r" * 64), (9100.0, "G" * 64)], [(60.0, "G" * 64)]
+        shown.program(first, long, 0.0, 0)
+        coming = shown.next_clock(5000)
+        self.assertLess(coming, 5000)
+        shown.program(second, short, 0.0, 0)
+        self.assertEqual(shown.next_clock(5000), coming)
+        shown.constant(second, "r" * 64, 10.0)
+        self.assertEqual(shown.next_clock(5000), coming)
+        shown.program(first, short, 0.0, 0)
+        self.assertEqual(shown.next_clock(5000), 5000)
 
 
 @needs_simulator

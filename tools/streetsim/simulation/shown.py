@@ -99,10 +99,10 @@ class Shown:
         list(self.coming[node].due(clock))
 
     def forget(self, light: str) -> None:
-        """Has nothing more sent of what the file, or a long program, has for a light that a script sets. Long programs
-        that a script set before at other lights are dropped too, though they should go on."""
-        self.forgotten = self.forgotten | frozenset(self.nodes(light))
-        self.coming = {node: phases for node, phases in self.coming.items() if node not in self.forgotten}
+        """Has nothing more sent of what the file, or a long program, has for a light that a script sets."""
+        own = frozenset(self.nodes(light))
+        self.forgotten = self.forgotten | own
+        self.coming = {node: phases for node, phases in self.coming.items() if node not in own}
 
     def due(self, clock: int) -> list[Command]:
         """The commands of the phases of long programs that have begun by a clock and were not given before."""
