@@ -9,7 +9,9 @@
 What is not understood is refused by file and line.
 """
 import argparse
+import contextlib
 import sys
+from collections.abc import Iterator
 from dataclasses import dataclass
 from pathlib import Path
 
@@ -24,8 +26,22 @@ WHOLE = Variant("Outcome.Whole")
 # A row about all states, numbers or lists is evaluated at these, as far as its premises leave them free.
 STATES = "street_base.proofs.rows.States"
 GREEN = Record({"v_link": 10, "v_lane": 0, "v_next": 20})
+# A list is evaluated by calls within calls, up to so many.
+MOST_DEEP = 100_000
 
-sys.setrecursionlimit(100_000)
+
+@contextlib.contextmanager
+def deep_calls() -> Iterator[None]:
+    """Python's limit of calls within calls, raised to what long lists take, and set back at the end.
+
+    It is the whole process's: what reads nested text in C would overflow the stack under it.
+    """
+    before = sys.getrecursionlimit()
+    sys.setrecursionlimit(max(before, MOST_DEEP))
+    try:
+        yield
+    finally:
+        sys.setrecursionlimit(before)
 
 
 def without_end(line):
@@ -223,7 +239,8 @@ def main():
     parser.add_argument("--top", type=Path, default=TOP)
     words = parser.parse_args()
     definitions = Definitions(words.top)
-    return {"rows": show_rows, "serve": serve_input, "words": show_words}[words.what](definitions)
+    with deep_calls():
+        return {"rows": show_rows, "serve": serve_input, "words": show_words}[words.what](definitions)
 
 
 if __name__ == "__main__":

@@ -23,7 +23,7 @@ import time
 from dataclasses import dataclass
 from pathlib import Path
 
-from definitions import TOP, Definitions
+from definitions import TOP, Definitions, deep_calls
 from making import Maker
 from tapes import Replay, changed_tape
 
@@ -212,19 +212,15 @@ def compare(program, top, seeds, until=None):
     return sessions, lines, None
 
 
-def main():
-    parser = argparse.ArgumentParser(description=__doc__, formatter_class=argparse.RawDescriptionHelpFormatter)
-    parser.add_argument("--count", type=int, default=300)
-    parser.add_argument("--seconds", type=float)
-    parser.add_argument("--first", type=int, default=0)
-    parser.add_argument("--file", type=Path)
-    parser.add_argument("--program", type=Path, default=PROGRAM)
-    parser.add_argument("--top", type=Path, default=TOP)
-    words = parser.parse_args()
-    if words.file:
-        found = Comparison(words.program, words.top).difference(words.file.read_bytes().splitlines())
-        print(shown(found) if found else "no difference")
-        return 1 if found else 0
+def compare_file(words):
+    """Compares the session of a file, and tells where it differs."""
+    found = Comparison(words.program, words.top).difference(words.file.read_bytes().splitlines())
+    print(shown(found) if found else "no difference")
+    return 1 if found else 0
+
+
+def compare_random(words):
+    """Compares random sessions, so many or for so many seconds, and tells the first that differs."""
     start = time.monotonic()
     count = words.count if words.seconds is None else 1_000_000_000
     until = None if words.seconds is None else start + words.seconds
@@ -236,6 +232,19 @@ def main():
         f"{'one differs' if fault else 'no difference'}"
     )
     return 1 if fault else 0
+
+
+def main():
+    parser = argparse.ArgumentParser(description=__doc__, formatter_class=argparse.RawDescriptionHelpFormatter)
+    parser.add_argument("--count", type=int, default=300)
+    parser.add_argument("--seconds", type=float)
+    parser.add_argument("--first", type=int, default=0)
+    parser.add_argument("--file", type=Path)
+    parser.add_argument("--program", type=Path, default=PROGRAM)
+    parser.add_argument("--top", type=Path, default=TOP)
+    words = parser.parse_args()
+    with deep_calls():
+        return compare_file(words) if words.file else compare_random(words)
 
 
 if __name__ == "__main__":

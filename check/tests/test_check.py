@@ -5,6 +5,7 @@ import os
 import re
 import shutil
 import stat
+import subprocess
 import sys
 import tempfile
 import time
@@ -14,7 +15,7 @@ from pathlib import Path
 CHECK = Path(__file__).resolve().parents[1]
 sys.path.insert(0, str(CHECK))
 
-from definitions import TOP, Definitions  # noqa: E402
+from definitions import TOP, Definitions, deep_calls  # noqa: E402
 from making import Maker  # noqa: E402
 from sessions import PROGRAM, Comparison, compare, shown  # noqa: E402
 from stored import MOST_CELLS, cells_of, session_and_tape_of_page, session_fault, stored_sessions  # noqa: E402
@@ -112,6 +113,10 @@ def fault_of_stored(session):
     return session_fault(Definitions(), *session)
 
 
+def setUpModule():
+    unittest.enterModuleContext(deep_calls())
+
+
 class Timed(unittest.TestCase):
     """A test whose seconds are printed."""
 
@@ -140,6 +145,18 @@ class Rows(Timed):
         ]
         self.assertGreater(len(claimed), 0)
         self.assertEqual([(path, name) for path, name, _ in Definitions().rows()], claimed)
+
+
+class Limits(Timed):
+    def test_the_limit_of_calls_is_raised_for_the_definitions_alone(self):
+        """Whoever reads nested text in the same process, as the tools' tests do, keeps the limit of before."""
+        told = "import sys; before = sys.getrecursionlimit(); import definitions, sessions, stored, tests.test_check; "
+        after = "print(before, sys.getrecursionlimit())"
+        done = subprocess.run([sys.executable, "-Bc", told + after], cwd=CHECK, capture_output=True, text=True, check=True)
+        before, imported = done.stdout.split()
+        self.assertEqual(imported, before)
+        with deep_calls():
+            self.assertGreaterEqual(sys.getrecursionlimit(), 100_000)
 
 
 class Stored(Timed):
