@@ -57,7 +57,7 @@ class Waiting:
         rows = [(one.duration, one.state, *both) for one, both in zip(program.phases, ends, strict=True)]
         self.phases = [bounded(row, SEEN) for row in rows]
         self.logic, self.since, self.at = Coordinated(self.phases, ()), 0, 0
-        self.logic.start(0, offset or 0)
+        self.logic.begin_at(0, offset or 0)
 
     def step(self, clock, indexes):
         """Acts by the places in its state that buses call."""
@@ -66,7 +66,7 @@ class Waiting:
             if called != set(self.logic.called):
                 self.logic.call(clock, called)
             if self.logic.due <= clock:
-                self.logic.look(clock, lambda _: 0.0)
+                self.logic.moves_on(clock, lambda _: 0.0)
                 self.lights.setPhase(self.name, self.logic.at)
             return
         at = self.lights.getPhase(self.name)

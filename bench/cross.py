@@ -18,7 +18,7 @@ from shared import TOP, run
 sys.path.insert(0, str(TOP / "tools/tests"))
 from crosses import LAST, a_green, cases, demand  # noqa: E402
 from streetsim.model.folder import read_folder  # noqa: E402
-from streetsim.results.compare import read_tripinfo, trips_of  # noqa: E402
+from streetsim.results.compare import read_tripinfo, trip_times_of  # noqa: E402
 
 
 def in_sumo(net, routes, folder):
@@ -36,7 +36,7 @@ def here(net, routes, folder, args):
     run([TOP / "tools/streetsim-import", *words], folder)
     words = ["x.jsonl", "--map", "x.map.json", "--until", LAST, "--every", 900, "--rescue", 0, "--out", "out"]
     run([TOP / "tools/streetsim-run", *words, "--program", args.program], folder)
-    return a_green(trips_of(read_folder(str(folder / "out"))))
+    return a_green(trip_times_of(read_folder(str(folder / "out"))))
 
 
 def main():

@@ -25,17 +25,17 @@ from shared import SAMPLES, SUMO_HOME, TOP, parser_of, run, with_sumo, work_of
 
 from streetsim.base.report import Report
 from streetsim.counts.judging import judged
-from streetsim.counts.passing import Places
+from streetsim.counts.passing import CountsByEdges
 from streetsim.counts.reading import read_counts
-from streetsim.counts.running import passed, ran
+from streetsim.counts.running import passed_by_count, run_demand
 from streetsim.counts.values import Count
 from streetsim.routes.loading import read_town
 from streetsim.routes.watching import Ground
-from streetsim.sessions.prepared import digest_of
+from streetsim.sessions.prepared import program_digest
 from streetsim.sumo.network import Options
 from streetsim.ways.costs import flat_costs
-from streetsim.ways.empty import times_without_routes
-from streetsim.ways.trips import connected, read_trips
+from streetsim.ways.empty import times_and_capacities_without_routes
+from streetsim.ways.trips import connected_trips, read_trips
 
 HOUR, SHARE, ERROR = 3600, 0.4, 0.05
 TRUE_SEED, JUDGE_SEED = 11, 101
@@ -61,7 +61,7 @@ class Case:
         folder.mkdir(parents=True, exist_ok=True)
         self.options = Options()
         self.town = self.read()
-        free, _ = times_without_routes(self.town.net, self.town.graph, self.options)
+        free, _ = times_and_capacities_without_routes(self.town.net, self.town.graph, self.options)
         self.costs = flat_costs(self.town.graph, list(free))
 
     def read(self):
@@ -71,11 +71,12 @@ class Case:
         """How many pass each count in a run of some routes, and how many vehicles there are."""
         town = self.read()
         trips = read_trips([str(one) for one in routes], town.net, town.graph, town.types, self.options, Report())
-        all_ = connected(trips.all, town.net, town.graph, True, Report())
-        ground = Ground(self.program, digest_of(self.program), town.graph, 300, 2 * HOUR + 7200, 2)
-        done = ran(ground, town.loaded(all_), self.costs, seed)
-        places = Places(counts, town.graph)
-        return passed(places, [trip.path for trip in all_], [""] * len(all_), done.left), len(all_), done.rescues
+        all_ = connected_trips(trips.all, town.net, town.graph, True, Report())
+        ground = Ground(self.program, program_digest(self.program), town.graph, 300, 2 * HOUR + 7200, 2)
+        done = run_demand(ground, town.loaded(all_), self.costs, seed)
+        by_edges, kinds = CountsByEdges(counts, town.graph), [""] * len(all_)
+        values = passed_by_count(by_edges, [trip.path for trip in all_], kinds, done.left)
+        return values, len(all_), done.rescues
 
     def turns(self):
         """All turns of junctions where there is a choice, by junction."""

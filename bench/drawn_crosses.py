@@ -23,13 +23,13 @@ import lone
 import shared
 from lone import Junction, Stream, Trips
 from shared import TOP, run
-from streetsim.base.serving import serving
+from streetsim.base.serving import serving_client
 from streetsim.model.folder import read_folder
 from streetsim.model.mapping import read_map
 from streetsim.model.runs import read_run
-from streetsim.results.compare import read_tripinfo, trips_of
-from streetsim.run.crowded import uses
-from streetsim.run.gaps import lines_of, reds_of
+from streetsim.results.compare import read_tripinfo, trip_times_of
+from streetsim.run.crowded import used_shares
+from streetsim.run.gaps import reds_of, signal_lines
 from streetsim.run.rounds import Round, places_of, with_lines
 from streetsim.run.settings import Settings
 
@@ -97,7 +97,7 @@ def here(net: Path, routes: Path, folder: Path, program: str) -> tuple[Trips, di
     run([TOP / "tools/streetsim-import", net, "--routes", routes, "-o", "run.jsonl", "--map", "run.map.json"], folder)
     words = ["run.jsonl", "--map", "run.map.json", "--until", END, "--every", 0, "--rescue", 0, "--counted", "busiest"]
     run([TOP / "tools/streetsim-run", *words, "--out", "out", "--program", program], folder)
-    return trips_of(read_folder(str(folder / "out"))), shares_of(folder, program)
+    return trip_times_of(read_folder(str(folder / "out"))), shares_of(folder, program)
 
 
 def shares_of(folder: Path, program: str) -> dict[str, float]:
@@ -105,12 +105,12 @@ def shares_of(folder: Path, program: str) -> dict[str, float]:
     given, mapping = read_run(folder / "run.jsonl"), read_map(folder / "run.map.json")
     made, settings, places = given, Settings(END, rescue=0), places_of(mapping)
     for _ in range(2):
-        with partial(serving, program, given.path, 1)() as sim:
-            passed = Round(sim, made, mapping, settings, places, lambda *_: None).record()
+        with partial(serving_client, program, given.path, 1)() as sim:
+            passed = Round(sim, made, mapping, settings, places, lambda *_: None).make_round()
         reds = reds_of(mapping, passed, given.start())
-        made = with_lines(given, lines_of(mapping, reds, given.start()))
+        made = with_lines(given, signal_lines(mapping, reds, given.start()))
     found: dict[str, float] = defaultdict(float)
-    for (link, _), _, share in uses(reds, passed, given.start()):
+    for (link, _), _, share in used_shares(reds, passed, given.start()):
         found[mapping.links[link].edge] = max(found[mapping.links[link].edge], share)
     return found
 

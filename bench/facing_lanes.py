@@ -17,7 +17,7 @@ from statistics import fmean, median
 import shared
 from shared import TOP, run
 from streetsim.model.folder import read_folder
-from streetsim.results.compare import read_tripinfo, trips_of
+from streetsim.results.compare import read_tripinfo, trip_times_of
 
 LAST, END = 3600, 7200  # seconds: of departures, of the run
 ARM, OUT, APART = 500, 300, 2500  # metres of an arm that leads to a junction, of one from it, between junctions
@@ -112,7 +112,7 @@ def both(seed, folder, program):
     run([TOP / "tools/streetsim-import", *words], folder)
     words = ["run.jsonl", "--map", "run.map.json", "--until", END, "--every", 0, "--rescue", 0, "--out", "out"]
     run([TOP / "tools/streetsim-run", *words, "--program", program], folder)
-    return legs(read_tripinfo(str(trips))), legs(trips_of(read_folder(str(folder / "out"))))
+    return legs(read_tripinfo(str(trips))), legs(trip_times_of(read_folder(str(folder / "out"))))
 
 
 def main():

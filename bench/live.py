@@ -25,7 +25,7 @@ import steps
 from selenium import webdriver
 from streetsim.live.bridge import Bridge
 from streetsim.live.engine import Engine
-from streetsim.live.page import own_lines, page_of
+from streetsim.live.page import live_page, own_lines
 from streetsim.model.mapping import Map, MapLink, read_map
 from streetsim.model.runs import Run, read_run
 
@@ -90,7 +90,7 @@ def browser() -> Iterator[webdriver.Chrome]:
 def served(run: Run, mapping: Map, program: str) -> Iterator[str]:
     """The address of a page that the bridge serves."""
     engines = [Engine(program, own_lines(run)) for _ in range(2)]
-    with Bridge(engines, page_of(run, mapping)) as bridge:
+    with Bridge(engines, live_page(run, mapping)) as bridge:
         threading.Thread(target=bridge.serve_forever, daemon=True).start()
         yield bridge.address
         bridge.shutdown()
@@ -130,7 +130,7 @@ def measure_all(
     ):
         if module:
             path = folder / "page.html"
-            path.write_bytes(page_of(run, mapping, module))
+            path.write_bytes(live_page(run, mapping, module))
             opened(page, path.as_uri(), begin)
         else:
             context = served(run, mapping, words.program)

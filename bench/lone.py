@@ -12,7 +12,7 @@ from dataclasses import dataclass
 from pathlib import Path
 
 from shared import TOP, run
-from streetsim.results.compare import read_tripinfo, trips_of
+from streetsim.results.compare import read_tripinfo, trip_times_of
 from streetsim.model.folder import read_folder
 
 FIRST, LAST = 600, 3900  # seconds of the count
@@ -161,7 +161,7 @@ def here(net: Path, routes: Path, folder: Path, program: str) -> Trips:
         "--out", "out",
     ]
     run([TOP / "tools/streetsim-run", *words, "--program", program], folder)
-    return trips_of(read_folder(str(folder / "out")))
+    return trip_times_of(read_folder(str(folder / "out")))
 
 
 def capacities(trips: Trips) -> dict[str, float]:

@@ -15,7 +15,7 @@ from statistics import fmean
 import shared
 from shared import SAMPLES, TOP, run
 from streetsim.model.folder import read_folder
-from streetsim.results.compare import counts_of, geh, read_edgedata, read_tripinfo, trips_of
+from streetsim.results.compare import edge_counts_of, geh, read_edgedata, read_tripinfo, trip_times_of
 
 PLAIN, LIT = "priority", "traffic_light"
 NODES = ("a", -800, 0, PLAIN), ("b", 0, 0, LIT), ("c", 400, 0, PLAIN), ("d", 0, -400, PLAIN), ("e", 0, 400, PLAIN)
@@ -78,7 +78,7 @@ def full_approach(folder, program):
             )
             _, counts = sumo(folder, "x.net.xml", "x.rou.xml", ["x.add.xml"], LAST, 900)
             one = here(folder, "x.net.xml", "x.rou.xml", ["x.add.xml"], LAST, 900, program)
-            there, ours = counts[key], counts_of(one)[key]
+            there, ours = counts[key], edge_counts_of(one)[key]
             yield f"{share} % of {metres} m", there, ours
 
 
@@ -91,7 +91,7 @@ def long_grid(folder, program):
     net = SAMPLES / "grid.net.xml.gz"
     trips, counts = sumo(folder, net, "grid.rou.xml", [], 6000, 900)
     one = here(folder, net, "grid.rou.xml", [], 6000, 900, program)
-    own, ours = trips_of(one), counts_of(one)
+    own, ours = trip_times_of(one), edge_counts_of(one)
     both = own.keys() & trips.keys()
     means = [fmean(each[name][1] - each[name][0] for name in both) for each in (trips, own)]
     keys = [key for key in ours if key[1] <= 3600]

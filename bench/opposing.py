@@ -14,7 +14,7 @@ from pathlib import Path
 import shared
 from shared import TOP, run
 from streetsim.model.folder import read_folder
-from streetsim.results.compare import read_tripinfo, trips_of
+from streetsim.results.compare import read_tripinfo, trip_times_of
 
 FLOWS = (200, 400, 600, 800)  # vehicles an hour of the main street
 KINDS = {"both sides, none left": ("sn", 0.0), "one side, 20 % left": ("s", 0.2), "both sides, 20 % left": ("sn", 0.2)}
@@ -85,7 +85,7 @@ def main():
         "--out", "out",
     ]
     run([TOP / "tools/streetsim-run", *words, "--program", Path(args.program).resolve()], folder)
-    theirs, ours = passed(read_tripinfo(str(trips))), passed(trips_of(read_folder(str(folder / "out"))))
+    theirs, ours = passed(read_tripinfo(str(trips))), passed(trip_times_of(read_folder(str(folder / "out"))))
     print(f"| SUMO / here, main street | {' | '.join(map(str, FLOWS))} |\n|{'---|' * (len(FLOWS) + 1)}")
     for at, title in enumerate(KINDS):
         cells = (f"{theirs[f'j{at}_{flow}']:,.0f} / {ours[f'j{at}_{flow}']:,.0f}" for flow in FLOWS)

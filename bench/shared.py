@@ -73,9 +73,9 @@ def numbers(seeds):
 
 def spread(values):
     """A mean and half the width of its 95 % interval, in whole numbers."""
-    from streetsim.base.seeds import interval
+    from streetsim.base.seeds import mean_and_half_width
 
-    mean, half = interval(values)
+    mean, half = mean_and_half_width(values)
     return f"{mean:,.0f}" + (f" ± {half:,.0f}" if half is not None else "")
 
 

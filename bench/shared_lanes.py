@@ -20,7 +20,7 @@ from shared import TOP, run
 sys.path.insert(0, str(TOP / "tools/tests"))
 from crosses import FIRST, FULL, LAST, demand  # noqa: E402
 from streetsim.model.folder import read_folder  # noqa: E402
-from streetsim.results.compare import read_tripinfo, trips_of  # noqa: E402
+from streetsim.results.compare import read_tripinfo, trip_times_of  # noqa: E402
 
 NET = TOP / "tools/tests/data/cross1.net.xml.gz"
 # Greens of the other street and of this one, shares that turn left in percent, vehicles an hour against them, and the
@@ -63,7 +63,7 @@ def both(greens, flows, seed, folder, program):
     run([TOP / "tools/streetsim-import", *words], folder)
     words = ["x.jsonl", "--map", "x.map.json", "--until", LAST, "--every", 900, "--rescue", 0, "--out", "out"]
     run([TOP / "tools/streetsim-run", *words, "--program", program], folder)
-    return json.loads(kept.read_text()), passed(trips_of(read_folder(str(folder / "out"))), cycle)
+    return json.loads(kept.read_text()), passed(trip_times_of(read_folder(str(folder / "out"))), cycle)
 
 
 def main():

@@ -16,7 +16,7 @@ from dataclasses import dataclass
 import shared
 from shared import TOP, run
 from streetsim.model.folder import read_folder
-from streetsim.results.compare import read_tripinfo, trips_of
+from streetsim.results.compare import read_tripinfo, trip_times_of
 
 METRES, APART, LAST = 400, 3000, 3600
 FREE = [(limit - 0.17) * 7.5 for limit in (1, 2, 3)]  # metres a second when free, of limits
@@ -124,7 +124,7 @@ def here(made, folder, program):
     for link, _, cells, buffer, *_ in list(results.polls())[-1]["lanes"]:
         street, number = links[link].edge.split(".")
         held[street] += len(cells) * (0 < int(number)) + len(buffer)
-    return told(made, trips_of(results), held)
+    return told(made, trip_times_of(results), held)
 
 
 def main():

@@ -10,7 +10,7 @@ from importlib.util import find_spec
 from support import MAP, NUMBERED, PAGE_PROGRAM, RED, Case, needs_package
 from streetsim.live.bridge import Bridge
 from streetsim.live.engine import Engine
-from streetsim.live.page import own_lines, page_of
+from streetsim.live.page import live_page, own_lines
 from streetsim.model.mapping import read_map
 from streetsim.model.runs import read_run
 
@@ -34,7 +34,7 @@ class LiveCase(Case):
     @contextmanager
     def bridge(self):
         engines = [Engine(PAGE_PROGRAM, own_lines(self.run_file)) for _ in range(2)]
-        with Bridge(engines, page_of(self.run_file, self.mapping)) as bridge:
+        with Bridge(engines, live_page(self.run_file, self.mapping)) as bridge:
             thread = threading.Thread(target=bridge.serve_forever, daemon=True)
             thread.start()
             try:

@@ -2,15 +2,16 @@
 import csv
 import json
 import unittest
+from functools import partial
 from math import inf
 from types import SimpleNamespace
 
 from support import PROGRAM, Case, lane, needs_simulator, net
-from streetsim.actuated.detectors import Layout, LitLane, Spot, Stretch, Way, extending, spots
-from streetsim.actuated.driver import gap_by
+from streetsim.actuated.detectors import Layout, LitLane, LitTurn, Spot, Stretch, extending, spots
+from streetsim.actuated.driver import Driver, gap_at
 from streetsim.actuated.lights import Driven, driven_lights, phase_of
 from streetsim.actuated.logic import Actuated, Ended, Phase
-from streetsim.actuated.showing import Shown, lasting, plan_of
+from streetsim.actuated.showing import Shown, lasting, plan_command
 from streetsim.base.client import Row, Rows
 from streetsim.base.report import Report
 from streetsim.importing.convert import convert
@@ -25,7 +26,7 @@ TWO = [Phase("Gr", 42, 5, 50, (0,)), Phase("yr", 3, 3, 3), Phase("rG", 42, 5, 50
 
 def drive(light, seen, until, offset=0):
     """What ended until a second: (phase, seconds, why). seen: by detector when vehicles left it."""
-    light.start(0, offset)
+    light.begin_at(0, offset)
     while light.due <= until:
         clock = light.due
 
@@ -33,7 +34,7 @@ def drive(light, seen, until, offset=0):
             left = [second for second in seen.get(detector, ()) if second <= clock]
             return clock - max(left) if left else inf
 
-        light.look(clock, gap)
+        light.moves_on(clock, gap)
     return [(row.phase, row.seconds, row.why) for row in light.ended]
 
 
@@ -90,19 +91,19 @@ class Logic(unittest.TestCase):
     def test_it_begins_where_the_listed_seconds_are(self):
         # A cycle of 90 s that began at -20 s, 10 s of the second green are gone at 55 - 20 s.
         light = Actuated(TWO, (3.0, 3.0))
-        light.start(100, 45)
+        light.begin_at(100, 45)
         self.assertEqual((light.at, light.due), (2, 100 + 42 - 10))
         # With an offset of 10 the last 10 s of the cycle come first.
-        light.start(0, 10)
+        light.begin_at(0, 10)
         self.assertEqual((light.at, light.due), (2, 7))
 
     def test_few_questions(self):
         asked = []
         light = self.two()
-        light.start(0)
+        light.begin_at(0)
         while not light.ended:
             now = light.due
-            light.look(now, lambda detector: asked.append(detector) or (0.5 if now < 40 else 3.0))
+            light.moves_on(now, lambda detector: asked.append(detector) or (0.5 if now < 40 else 3.0))
         self.assertEqual(light.ended[0].seconds, 41)
         self.assertLessEqual(len(asked), 14)
 
@@ -119,7 +120,7 @@ def layout(ways, speeds=(10.0, 10.0), parameters=None, alone=True, metres=100.0)
     return Layout(ways, lanes, parameters or {})
 
 
-PLAIN = [Way(0, "a_0", "x_0"), Way(1, "b_0", "y_0")]
+PLAIN = [LitTurn(0, "a_0", "x_0"), LitTurn(1, "b_0", "y_0")]
 
 
 class Detectors(unittest.TestCase):
@@ -146,12 +147,12 @@ class Detectors(unittest.TestCase):
         return extending(layout(ways, alone=alone), phases, ("a_0", "b_0"))
 
     def test_all_ways_of_a_lane_must_be_green(self):
-        both = [Way(0, "a_0", "x_0"), Way(1, "a_0", "y_0"), Way(2, "b_0", "z_0")]
+        both = [LitTurn(0, "a_0", "x_0"), LitTurn(1, "a_0", "y_0"), LitTurn(2, "b_0", "z_0")]
         self.assertEqual(self.extended(both, ["GrG", "GGr", "rrG"]), [["b_0"], ["a_0"], ["b_0"]])
 
     def test_who_gives_way_extends_beside_one_that_goes_first(self):
         # The left turn of a_0 gives way in all phases: it counts beside the straight one, alone it does not.
-        both = [Way(0, "a_0", "x_0"), Way(1, "a_0", "y_0"), Way(2, "b_0", "z_0")]
+        both = [LitTurn(0, "a_0", "x_0"), LitTurn(1, "a_0", "y_0"), LitTurn(2, "b_0", "z_0")]
         self.assertEqual(self.extended(both, ["Ggr", "rrG"]), [["a_0"], ["b_0"]])
         self.assertEqual(self.extended(both, ["ggr", "rrG"]), [[], ["b_0"]])
         # It goes first in another phase: then it does not count where it gives way.
@@ -162,7 +163,7 @@ class Detectors(unittest.TestCase):
         self.assertEqual(self.extended(PLAIN, ["gr", "rG"]), [[], ["b_0"]])
 
     def test_a_lane_that_leads_to_a_red_one_of_the_same_light_does_not(self):
-        row = [Way(0, "a_0", "b_0"), Way(1, "b_0", "y_0")]
+        row = [LitTurn(0, "a_0", "b_0"), LitTurn(1, "b_0", "y_0")]
         self.assertEqual(self.extended(row, ["Gr", "GG"]), [[], ["a_0", "b_0"]])
 
 
@@ -173,7 +174,7 @@ class Reading(unittest.TestCase):
             5: (Row(10, 1, 0, 0, 1), Row(11, 1, 0, 0, 0)),
             6: (Row(11, 1, 0, 0, 0),),
         }
-        gap = gap_by(12, lambda meter: Rows(Row(12, 0, 0, 0, 0), rows[meter]), 4)
+        gap = partial(gap_at, 12, lambda meter: Rows(Row(12, 0, 0, 0, 0), rows[meter]), 4)
         self.assertEqual([gap(at) for at in range(3)], [1.5, 1.0, inf])
 
     def test_bounds_as_sumo_reads_them(self):
@@ -196,10 +197,28 @@ class Reading(unittest.TestCase):
 
     def test_a_plan_begins_now_and_stays(self):
         rows = [frozenset({(0, 0, 1)})] * 3 + [frozenset()] * 2
-        command = plan_of(7, rows, 1000)
+        command = plan_command(7, rows, 1000)
         self.assertEqual(command["phases"], [[3, [[0, 0, 1]]], [600, []]])
         self.assertEqual((1000 + command["offset"]) % 603, 0)
         self.assertEqual(lasting(command)["phases"], [[600, []]])
+
+    def test_a_plan_of_a_green_that_lasts_longer_than_a_phase_may(self):
+        """A phase has 600 s at most (docs/LINES.md); what it shows there goes on."""
+        first, last = frozenset({(0, 0, 1)}), frozenset()
+        self.assertEqual(plan_command(7, [first] * 700 + [last], 0)["phases"], [[600, [[0, 0, 1]]]])
+        command = plan_command(7, [last] * 5 + [first] * 700, 0)
+        self.assertEqual(command["phases"], [[5, []], [600, [[0, 0, 1]]]])
+
+
+class Released(unittest.TestCase):
+    def test_the_rows_of_a_released_light_end_there(self):
+        phases = Phase("G", 30, 5, 40), Phase("y", 3, 3, 3)
+        driver = Driver([Driven("L", 0, phases, 2.0, (), (), ())], SimpleNamespace(links=[]))
+        list(driver.begin_lights(100))
+        driver.release("other", 110)
+        self.assertEqual(driver.phase_rows(115), [(100, "L", 0, "G", 15, "")])
+        driver.release("L", 120)
+        self.assertEqual(driver.phase_rows(130), [(100, "L", 0, "G", 20, "")])
 
 
 def street(program, kind="actuated"):
@@ -248,14 +267,16 @@ class Runs(Case):
     def test_what_is_not_driven_is_told(self):
         fixed, several = PHASES.replace("/>", ' earliestEnd="9"/>', 1), PHASES.replace("/>", ' next="1 2"/>', 1)
         link, gap = (f'{PHASES}<param key="{key}" value="40"/>' for key in ("linkMaxDur:0", "max-gap"))
-        text = PHASES + '<param key="max-gap" value="soon"/>'
+        text, unknown = (f'{PHASES}<param key="max-gap" value="{value}"/>' for value in ("soon", "nan"))
         for program, kind, told in (
             (PHASES, "delay_based", "delay_based is not driven here"),
             (fixed, "actuated", "earliestEnd of their programs is not driven here"),
             (link, "actuated", "linkMaxDur:0=40 is not driven here"),
             (gap, "actuated", "detectors keep 32 s and max-gap=40"),
             (several, "actuated", "phases with several next ones are not driven here"),
+            (several.replace("1 2", "3"), "actuated", "they have no phase 3, which one names as its next"),
             (text, "actuated", "'soon' of their parameters is no number"),
+            (unknown, "actuated", "'nan' of their parameters is no number"),
         ):
             with self.subTest(told):
                 found, why = self.lights(program, kind), f"as {told}"
@@ -270,7 +291,7 @@ class Runs(Case):
         # Two lights with one detector each, and room for one: the others of the 1,024 are the user's own.
         found = self.lights()
         [light] = found.driven
-        self.assertEqual(found.meters, 1)
+        self.assertEqual(found.detector_count, 1)
         routes = '<routes><vehicle id="v" depart="0"><route edges="a b"/></vehicle></routes>'
         loops = "".join(f'<inductionLoop id="d{at}" lane="a_0" pos="9" freq="60" file="x"/>' for at in range(1024))
         paths = self.write("x.net.xml", street(PHASES)), [self.write("x.add.xml", f"<additional>{loops}</additional>")]
@@ -279,7 +300,7 @@ class Runs(Case):
         )
         none = driven_lights(run_of_texts("run", lines), mapping)
         self.assertEqual((none.driven, none.listed), ((), {"L": "as no more than 1,024 detectors are to be had"}))
-        self.assertEqual(none.going_by(mapping), [light.name])
+        self.assertEqual(none.listed_lights(mapping), [light.name])
 
     def rows(self, folder):
         with open(folder / "phases.csv", encoding="utf-8") as file:

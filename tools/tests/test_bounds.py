@@ -1,12 +1,15 @@
 """Bounds and gaps of actuated lights: what a search changes, and what it writes."""
 import csv
 import unittest
+from dataclasses import replace
 from types import SimpleNamespace
 
 from support import PROGRAM, Case, needs_simulator
 from test_actuated import PHASES, street
 from test_nema import street as ringed
-from streetsim.actuated.lights import driven_lights
+from streetsim.actuated.kept import Cell
+from streetsim.actuated.lights import Driven, Lights, driven_lights
+from streetsim.actuated.logic import Phase
 from streetsim.base.files import Fault
 from streetsim.model.mapping import read_map
 from streetsim.model.runs import read_run
@@ -28,6 +31,13 @@ class Changing(unittest.TestCase):
         # One that was lower before stays as it is allowed.
         low = Bounds(((0, 3, 40),), (3.0,))
         self.assertEqual(low.with_green(0, 3, 50, 5), Bounds(((0, 3, 50),), (3.0,)))
+
+    def test_what_no_detector_extends_is_not_searched(self):
+        """It ends at its least, whatever its most and the gap are."""
+        phases = Phase("Gr", 30, 5, 40, (0,)), Phase("rG", 30, 5, 40)
+        light = Driven("L", 0, phases, 2.0, (Cell(0, 0, 3),), (4.0,), ())
+        self.assertEqual(given_bounds(Lights((light,)), ()), {"L": Bounds(((0, 5, 40),), (4.0,))})
+        self.assertEqual(given_bounds(Lights((replace(light, phases=phases[1:], cells=(), gaps=()),)), ()), {})
 
     def test_the_search_finds_the_least_of_a_bowl(self):
         # The value is least at a gap of 2 s, a most of 55 s and a least of 9 s.
@@ -89,7 +99,7 @@ class Runs(Case):
         self.assertEqual(given_bounds(lights, ()), {"L": given})
         found = Bounds(((2, 5, 40), (4, 7, 40), (6, 5, 30), (8, 5, 40)), (2.0, 2.0, 3.5, 2.0))
         [made] = with_bounds(lights, mapping, {"L": found}).driven
-        phases = [(one.name, one.least, one.most, one.extension) for one in made.rings.phases]
+        phases = [(one.number, one.least, one.most, one.extension) for one in made.rings.phases]
         self.assertEqual(phases, [(2, 5, 40, 2.0), (4, 7, 40, 2.0), (6, 5, 30, 3.5), (8, 5, 40, 2.0)])
         self.write("x.add.xml", bounds_text(mapping, {"L": found}))
         text = (self.folder / "x.add.xml").read_text(encoding="utf-8")

@@ -126,6 +126,8 @@ class Files(Case):
             ('lane="x_0" duration="9"', "<vehicle 'v'>: <stop>: the network has no lane 'x_0'"),
             ('duration="9"', "<vehicle 'v'>: <stop>: without busStop, lane or edge"),
             ('busStop="first" duration="soon"', "duration='soon' cannot be read"),
+            ('busStop="first" duration="-5"', "duration='-5' cannot be read"),
+            ('lane="a_0" until="-5"', "until='-5' cannot be read"),
             ('lane="a_0" endPos="400" duration="9"', "from 399.8 to 400 m does not lie on lane 'a_0' of 300 m"),
         ):
             with self.subTest(why), self.assertRaises(Fault) as fault:
@@ -156,7 +158,7 @@ class Files(Case):
         enter.command["plan"][0] = mapping.links_of["way"][0]
         plan = planned(run, mapping)
         self.assertEqual([one.stop for one in plan.visits], ["second"])
-        records = SimpleNamespace(stops=Fleet(plan, run, mapping).all())
+        records = SimpleNamespace(stops=Fleet(plan, run, mapping).stop_outcomes())
         found = [(row[2], row[3], row[4], row[-1]) for row in rows.stops(records, run, mapping)]
         self.assertEqual(found, [("first", "a", 0, "not made"), ("second", "b", 0, "not reached")])
 
@@ -177,7 +179,7 @@ class OneStop(unittest.TestCase):
         return Stopping(visit(**more), Road(lanes, 2, 40), lane)
 
     def closed(self, stopping, one, own=(), other=(), clock=100):
-        stopping.look(clock, one, {stopping.lane: [*own, one], 1 - stopping.lane: [*other]})
+        stopping.decide_closed(clock, one, {stopping.lane: [*own, one], 1 - stopping.lane: [*other]})
         return stopping.closed
 
     def test_the_cell_beyond_is_closed_in_the_step_in_which_it_would_pass(self):
@@ -190,25 +192,25 @@ class OneStop(unittest.TestCase):
     def test_its_time_at_the_stop(self):
         one = self.stopping()
         # Braking takes SUMO's bus 2 s more, then 20 s of stop, then 5 s until it is as far as one that starts here.
-        self.assertEqual(one.look(100, bus(19, 2), {0: [bus(19, 2)]}), 22)
+        self.assertEqual(one.decide_closed(100, bus(19, 2), {0: [bus(19, 2)]}), 22)
         self.assertEqual((one.state, one.arrived, one.leaves, one.closed), (STANDING, 102, 122, {(0, 20)}))
-        self.assertEqual(one.look(122, bus(19, 0), {0: [bus(19, 0)]}), 5)
-        one.look(127, bus(19, 0), {})
+        self.assertEqual(one.decide_closed(122, bus(19, 0), {0: [bus(19, 0)]}), 5)
+        one.decide_closed(127, bus(19, 0), {})
         self.assertEqual((one.state, one.closed), (MADE, set()))
 
     def test_until(self):
         one = self.stopping(until=300)
-        one.look(100, bus(19, 2), {})
+        one.decide_closed(100, bus(19, 2), {})
         self.assertEqual((one.arrived, one.leaves), (102, 300))
         late = self.stopping(until=90)
-        late.look(100, bus(19, 2), {})
+        late.decide_closed(100, bus(19, 2), {})
         self.assertEqual(late.leaves, 122)
 
     def test_it_goes_earlier_for_those_who_stand_behind(self):
         one = self.stopping()
-        one.look(100, bus(19, 2), {})
+        one.decide_closed(100, bus(19, 2), {})
         queue = [Seen(at, 17 - at, 0) for at in range(8)]  # 0.2 s each: 5.29 - 1.6 = 3.69
-        self.assertEqual(one.look(122, bus(19, 0), {0: [bus(19, 0), *queue]}), 4)
+        self.assertEqual(one.decide_closed(122, bus(19, 0), {0: [bus(19, 0), *queue]}), 4)
 
     def test_in_a_queue_beside_the_stop_it_has_come(self):
         one = self.stopping()
@@ -370,13 +372,13 @@ class Planned(unittest.TestCase):
 
     def ended(self, until, calls=(), offset=0):
         light = Coordinated(self.PHASES, ())
-        light.start(0, offset)
+        light.begin_at(0, offset)
         calls = dict(calls)
         for clock in range(1, until + 1):
             if clock in calls:
                 light.call(clock, calls[clock])
             if light.due <= clock:
-                light.look(clock, lambda _: 0.0)
+                light.moves_on(clock, lambda _: 0.0)
         return [(row.phase, row.begin, row.seconds, row.why) for row in light.ended]
 
     def test_without_buses_it_is_its_plan(self):
@@ -407,13 +409,13 @@ class Planned(unittest.TestCase):
         # A green of 5 to 50 s that detectors would end at 5 s.
         phases = [Phase("Gr", 5, 5, 50, (0,)), Phase("yr", 3, 3, 3), Phase("rG", 5, 5, 50, (1,)), Phase("ry", 3, 3, 3)]
         light = Actuated(phases, (3.0, 3.0))
-        light.start(0)
+        light.begin_at(0)
         light.call(2, (0,))
         for clock in range(1, 31):
             if clock == 20:
                 light.call(clock, ())
             if light.due <= clock:
-                light.look(clock, lambda _: 99.0)
+                light.moves_on(clock, lambda _: 99.0)
         self.assertEqual([(row.phase, row.seconds) for row in light.ended], [(0, 20), (1, 3), (2, 5)])
 
 
@@ -422,13 +424,13 @@ class Planned(unittest.TestCase):
         # its green to the most.
         phases = [Phase("Gr", 5, 5, 50, (0,)), Phase("yr", 3, 3, 3), Phase("rG", 5, 5, 50, (1,)), Phase("ry", 3, 3, 3)]
         light = Actuated(phases, (3.0, 3.0))
-        light.start(0)
+        light.begin_at(0)
         calls = {12: (2,), 20: ()}
         for clock in range(1, 66):
             if clock in calls:
                 light.call(clock, calls[clock])
             if light.due <= clock:
-                light.look(clock, lambda _: 0.0)
+                light.moves_on(clock, lambda _: 0.0)
         self.assertEqual([(row.phase, row.seconds, row.why) for row in light.ended], [
             (0, 12, "bus"), (1, 3, "listed"), (2, 50, "most"),
         ])

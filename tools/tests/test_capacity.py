@@ -6,7 +6,7 @@ from support import DATA, PROGRAM, Case, lane, needs_simulator, net
 from streetsim.base.report import Report
 from streetsim.importing.convert import convert
 from streetsim.model.folder import read_folder
-from streetsim.results.compare import trips_of
+from streetsim.results.compare import trip_times_of
 from streetsim.sumo.crossing import Movement, set_heads, set_lane, wait_together
 from streetsim.sumo.gaps import gap_capacity, gap_wait, until_first
 from streetsim.sumo.greens import green_here, hidden_middle, hidden_start, leaving, passing_here
@@ -39,7 +39,7 @@ class Cross(Case):
         self.tool("import", DATA / f"{network}.net.xml.gz", "--routes", routes, "-o", run, "--map", mapped)
         words = ["--until", LAST, "--every", 900, "--rescue", 0, "--out", out, "--program", PROGRAM]
         self.tool("run", run, "--map", mapped, *words)
-        return a_green(trips_of(read_folder(out)))
+        return a_green(trip_times_of(read_folder(out)))
 
     def test_vehicles_a_green(self):
         for name, network, flows in cases():

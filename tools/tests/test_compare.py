@@ -5,6 +5,7 @@ import time
 import unittest
 
 from support import MAP, Case
+from streetsim.base.files import Fault
 from streetsim.base.progress import Slow
 from streetsim.model.tables import EDGES, TRIPS
 from streetsim.results import compare
@@ -41,6 +42,18 @@ class Compare(Case):
             '<edge id="a" left="3" arrived="2" entered="9" sampledSeconds="71.5"/><edge id="b"/></interval></meandata>',
         )
         self.assertEqual(compare.read_edges(path), {(0.0, 900.0, "a"): (5, 71.5), (0.0, 900.0, "b"): (0, 0.0)})
+
+    def test_a_count_that_is_no_number(self):
+        edge = '<edge id="a" left="x"/>'
+        path = self.write("e.xml", f'<meandata><interval begin="0" end="9">{edge}</interval></meandata>')
+        with self.assertRaisesRegex(Fault, "<edge 'a'>: left='x' cannot be read"):
+            compare.read_edges(path)
+
+    def test_no_period_and_edge_in_common(self):
+        """Though one edge and one period are in both."""
+        here = {(0, 9, "a"): (1, None), (9, 18, "b"): (1, None)}
+        told = list(compare.compare_edges(here, {(0, 9, "b"): (1, 1.0)}, 9, 2))
+        self.assertEqual(told, ["counts: no period of 9 s and edge in common"])
 
     def test_lines(self):
         here, there = {"v": (0, 90), "w": (0, 50)}, {"v": (0, 100), "w": (0, 60), "x": (0, 5)}

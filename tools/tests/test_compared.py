@@ -7,7 +7,7 @@ import unittest
 from support import PROGRAM, Case, needs_package, needs_simulator
 from test_page_works import DRIVE, NODE, in_node, street
 from streetsim.live.facts import departures_and_ends
-from streetsim.live.page import data_of, own_lines
+from streetsim.live.page import own_lines, page_data
 
 ENGINE = DRIVE[: DRIVE.index("(async () => {")]
 ACT = """
@@ -64,7 +64,7 @@ class Compared(Case):
         run, mapping = street()
         given = {
             "program": PROGRAM, "lines": [line.decode().rstrip("\n") for line in own_lines(run)],
-            "data": data_of(run, mapping),
+            "data": page_data(run, mapping),
         }  # fmt: skip
         told = in_node(ACT, given, ENGINE)
         was, now = (lost_and_ended(text, run, mapping) for text in told["saved"])

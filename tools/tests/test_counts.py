@@ -1,25 +1,36 @@
 """Counts, zones, matrices and turn ratios as planners and SUMO write them, the fit and its whole vehicles."""
 import gzip
 import io
+import json
+import random
 import sys
 import unittest
 from contextlib import redirect_stderr, redirect_stdout
+from types import SimpleNamespace
 from unittest import mock
 
-from support import FORK, Case, lane, needs_package, needs_simulator, net
+from support import FORK, MAP, Case, lane, needs_package, needs_simulator, net
 from streetsim.base.files import Fault
 from streetsim.base.report import Report
 from streetsim.cli import compare, demand
 from streetsim.counts import checking, demanding, judging, matrices, ratios, reading, science, zones
+from streetsim.counts.candidates import Pair, Way, with_given_routes
 from streetsim.counts.cells import clock_of
-from streetsim.counts.judging import Compared, differences_of, each_once
-from streetsim.counts.seen import fewest
-from streetsim.counts.values import Count
+from streetsim.counts.fitting import Expecting
+from streetsim.counts.judging import Compared, differences_of, without_parts
+from streetsim.counts.passing import CountsByEdges, Slices
+from streetsim.counts.seen import Driven, Traces, fewest_links, passed_in
+from streetsim.counts.values import Count, Ratio
+from streetsim.counts.walking import Turns
+from streetsim.model.folder import read_folder
+from streetsim.model.tables import EDGES, TRIPS
 from streetsim.routes.loading import read_town
 from streetsim.sumo.network import Options
+from streetsim.ways.costs import TURN_BACK
+from streetsim.ways.graph import Graph
 
 try:
-    science.needed()
+    science.numpy_and_scipy()
     SCIPY = True
 except Fault:
     SCIPY = False
@@ -80,6 +91,12 @@ class Inputs(Case):
                 Count(26_100, 27_000, ("a",), 3.0, f"{path}: line 4"),
             ],
         )
+
+    def test_lines_of_rows(self):
+        """Blank lines and remarks stand before the columns, a value goes over two lines, and a remark has a quote."""
+        path = self.write("z.csv", '\n# of "1\nzone,edges\n1,"a\nb"\n#,"\n2,c\n')
+        found = [(zone.name, list(zone.sources), zone.where) for zone in zones.read_zones([path]).values()]
+        self.assertEqual(found, [("1", ["a", "b"], f"{path}: line 4"), ("2", ["c"], f"{path}: line 7")])
 
     def test_sumo(self):
         text = (
@@ -145,6 +162,21 @@ class Inputs(Case):
             self.assertEqual(known, [("a", "b", 0.7), ("a", "c", 0.3)])
             self.assertEqual(sinks, {"b", "c"})
 
+    def test_what_stands_behind_an_interval(self):
+        interval, turn = '<interval begin="0" end="900"/>', '<edgeRelation from="a" to="b" probability="1"/>'
+        [one], _ = ratios.read_ratios([self.write("r.xml", f"<turns>{interval}{turn}</turns>")])
+        self.assertGreater(one.end, 100 * 86_400)
+        with self.assertRaisesRegex(Fault, "<edge> stands in no <interval>"):
+            reading.read_counts([self.write("c.xml", f'<data>{interval}<edge id="a" count="3"/></data>')])
+
+    def test_ratios_whose_intervals_overlap_hold_together(self):
+        """As in SUMO's jtrrouter, which looks at each turn by itself: to b in the whole time, to c in a part of it."""
+        town = read_town(self.write("n.net.xml", FORK), [], Options(), Report())
+        some = [Ratio(0, 900, "a", "b", 1.0, ""), Ratio(300, 600, "a", "c", 1.0, "")]
+        turns, draws = Turns(some, set(), town.net, town.graph), random.Random(1)
+        for clock, ends in ((100, {"b"}), (400, {"b", "c"}), (700, {"b"})):
+            self.assertEqual({town.graph.edges[turns.next_edge(0, clock, draws)] for _ in range(50)}, ends)
+
     def test_ratios_before_any_interval_hold_at_any_time(self):
         # As jtrrouter takes them, which leads vehicles of each second of a run on by them.
         text = '<turns><edgeRelation from="a" to="b" probability="1"/></turns>'
@@ -154,13 +186,32 @@ class Inputs(Case):
     def test_a_map_has_each_vehicle_once(self):
         # At a all vehicles and the trucks among them are counted, at b trucks alone, at a in another hour too.
         hourly = [
-            Compared(begin, begin + 3600, (edge,), kind, "", 9.0, 8.0)
+            Compared(begin, begin + 3600, (edge,), kind, "", 9.0, 8.0, 3600)
             for begin, edge, kind in ((0, "a", ""), (0, "a", "truck"), (0, "b", "truck"), (3600, "a", "truck"))
         ]
-        found = [(one.begin, one.edges[0], one.kind) for one in each_once(hourly)]
+        found = [(one.begin, one.edges[0], one.kind) for one in without_parts(hourly)]
         self.assertEqual(found, [(0, "a", ""), (0, "b", "truck"), (3600, "a", "truck")])
         # One fewer in each of two hours at a, and in one of the two at b.
         self.assertEqual(differences_of(hourly), {"a": -1.0, "b": -0.5})
+
+    def test_a_map_has_turns_where_their_edge_is_not_counted(self):
+        # The edge is counted in the first hour, a turn in both, and ways over that turn as well.
+        hourly = [
+            Compared(begin, begin + 3600, tuple(edges), "", "", 9.0, passed, 3600)
+            for begin, edges, passed in ((0, "a", 8.0), (0, "ab", 2.0), (3600, "ab", 5.0), (3600, "abc", 1.0))
+        ]
+        self.assertEqual([one.passed for one in without_parts(hourly)], [8.0, 5.0])
+        self.assertEqual(differences_of(hourly), {"a": (-1 - 4) / 2})
+        self.assertEqual(differences_of([]), {})
+
+    def test_a_map_of_periods_of_other_lengths(self):
+        # Ten fewer in two hours, of all vehicles: five an hour. The trucks of the second hour are among these.
+        both = Compared(0, 7200, ("a",), "", "", 90.0, 80.0, 7200)
+        hourly = [both, *(Compared(at, at + 3600, ("b",), "", "", 9.0, 8.0, 3600) for at in (0, 3600))]
+        hourly.append(Compared(3600, 7200, ("a",), "truck", "", 9.0, 0.0, 3600))
+        self.assertEqual(differences_of(hourly), {"a": -5.0, "b": -1.0})
+        # Ten fewer in a quarter of an hour.
+        self.assertEqual(differences_of([Compared(0, 900, ("a",), "", "", 90.0, 80.0, 900)]), {"a": -40.0})
 
     def test_flows_begin_at_times_as_sumo_writes_them(self):
         flow = '<routes><flow id="f" from="a" begin="00:30:00" end="01:00:00" number="{}"/></routes>'
@@ -172,7 +223,12 @@ class Inputs(Case):
     def test_slices_begin_with_the_soonest_departure(self):
         # Two flows, the second of which begins first; the count is of 900 to 1800 s.
         counts = [Count(900, 1800, ("a",), 5.0, "")]
-        self.assertEqual(demanding.bounds_of(counts, [], [(950.0, 0), (300.5, 1)]), [300, 900, 1800])
+        self.assertEqual(demanding.slice_bounds(counts, [], [(950.0, 0), (300.5, 1)]), [300, 900, 1800])
+
+    def test_slices_end_with_the_latest_departure(self):
+        """It departs after the counts, and not among those who are counted."""
+        self.assertEqual(demanding.slice_bounds([Count(0, 900, ("a",), 5.0, "")], [], [(2700.5, 0)]), [0, 900, 2701])
+        self.assertEqual(demanding.slice_bounds([], [], [(2700.5, 0)]), [2700, 2701])
 
 
 class Contradictions(Case):
@@ -211,7 +267,8 @@ class Judging(Case):
         fit = judging.judged(counts, [90, 110, 100, 104, 500, 0])
         # GEH of 404 and 400 is 0.2; of 500 and 400 it is sqrt(2 * 100^2 / 900) = 4.71.
         self.assertEqual([round(one.geh, 2) for one in fit.hourly], [0.2, 4.71, 0])
-        self.assertEqual([(one.counts, one.good, one.fits) for one in fit.hours], [(2, 2, False), (1, 1, True)])
+        hours = [(one.counts, one.good, one.meets_criteria) for one in fit.hours]
+        self.assertEqual(hours, [(2, 2, False), (1, 1, True)])
         self.assertEqual([(one.group, one.counted, one.passed) for one in fit.groups], [("north", 800, 904)])
         # GEH of 904 and 800 is sqrt(2 * 104^2 / 1704) = 3.56.
         self.assertEqual(fit.groups[0].group_row(), (0, 3600, "north", 2, "800", "904", "13.0", "3.56"))
@@ -219,16 +276,85 @@ class Judging(Case):
         # A quarter of an hour: 90 of 100 are 360 of 400 an hour, sqrt(2 * 40^2 / 760) = 2.05.
         self.assertEqual(round(fit.each[0].geh, 2), 2.05)
 
+    def test_quarters_of_an_hour_with_one_between_that_is_not_counted(self):
+        # 100 in each of two quarters are 400 an hour, and 120 are 480: sqrt(2 * 80^2 / 880) = 3.81.
+        counts = [Count(at, at + 900, ("a",), 100, "", group="north") for at in (0, 1800)]
+        fit = judging.judged(counts, [120, 120])
+        self.assertEqual([(one.begin, one.end, round(one.geh, 2)) for one in fit.hourly], [(0, 2700, 3.81)])
+        self.assertEqual(fit.groups[0].group_row(), (0, 2700, "north", 1, "200", "240", "20.0", "3.81"))
+
     def test_slope(self):
         counts = [Count(0, 3600, (name,), value, "") for name, value in (("a", 100), ("b", 200), ("c", 300))]
-        r, slope = judging.line_through(judging.judged(counts, [110, 210, 310]).each)
+        r, slope = judging.correlation_and_slope(judging.judged(counts, [110, 210, 310]).each)
         self.assertEqual((round(r, 6), round(slope, 6)), (1, 1))
-        self.assertIsNone(judging.line_through(judging.judged(counts[:1], [1]).each))
+        self.assertIsNone(judging.correlation_and_slope(judging.judged(counts[:1], [1]).each))
 
     def test_fewest_links(self):
         ways = {0: [1, 2], 1: [3], 2: [3], 3: [4]}
-        self.assertEqual(fewest(ways, 0, 4), [0, 1, 3, 4])
-        self.assertEqual(fewest(ways, 4, 0), [])
+        self.assertEqual(fewest_links(ways, 0, 4), [0, 1, 3, 4])
+        self.assertEqual(fewest_links(ways, 4, 0), [])
+
+
+class Passing(unittest.TestCase):
+    """Edges a, b, .. have the numbers 0, 1, .."""
+
+    def shares(self, counts, path, begin, end):
+        """(place of the count, share) of those who pass all places of a path between two clocks."""
+        made = CountsByEdges(counts, SimpleNamespace(number={name: at for at, name in enumerate("abc")}))
+        return [pair for some, _ in made.counts_along(path) for pair in made.shares_in_periods(some, begin, end)]
+
+    def test_trucks_by_the_quarter_of_an_hour_and_all_by_the_hour(self):
+        trucks = [Count(900 * at, 900 * at + 900, ("a",), 1, "", "truck") for at in range(4)]
+        counts = [Count(0, 3600, ("a",), 9, ""), *trucks]
+        self.assertEqual(sorted(self.shares(counts, (0,), 1000, 2000)), [(0, 1.0), (2, 0.8), (3, 0.2)])
+
+    def test_a_place_that_is_passed_twice_or_never_or_at_once(self):
+        counts = [Count(0, 900, ("a",), 9, ""), Count(0, 900, ("a", "b"), 9, "")]
+        self.assertEqual(self.shares(counts, (0, 2, 0, 1), 0, 900), [(0, 1.0), (0, 1.0), (1, 1.0)])
+        self.assertEqual(self.shares(counts, (1, 0, 2), 900, 1800), [])
+        self.assertEqual(self.shares(counts, (1, 2), 0, 900), [])
+        self.assertEqual(self.shares(counts, (0,), 899.5, 899.5), [(0, 0.5)])
+
+
+class Following(Case):
+    """Vehicles followed from poll to poll on a network of edges a, b, c, d, of a link each; d is beside b."""
+
+    def passed(self, driven, polls):
+        """How many passed each edge, by (clock, {link: vehicle}) of each poll."""
+        turns = [SimpleNamespace(link=link, next=following) for link, following in ((0, 1), (1, 2), (0, 3), (3, 2))]
+        links = [SimpleNamespace(edge=name) for name in "abcd"]
+        frames = [
+            {"clock": clock, "lanes": [[link, 0, [[car, 5, 1]], [], []] for link, car in there.items()]}
+            for clock, there in polls
+        ]
+        mapping = SimpleNamespace(links=links, turns=turns, kinds={}, cars=[])
+        folder = SimpleNamespace(path="run", mapping=mapping, every=10, polls=lambda: iter(frames))
+        return Traces(folder, [Count(0, 100, (name,), 1, "") for name in "abcd"], driven).passed_by_count()
+
+    def test_who_has_not_arrived_at_the_end(self):
+        self.assertEqual(self.passed([Driven((), 0, None)], [(10, {0: 0}), (20, {1: 0})]), [1, 0, 0, 0])
+        self.assertEqual(self.passed([Driven((), 0, 25)], [(10, {0: 0}), (20, {1: 0})]), [1, 1, 0, 0])
+
+    def test_who_is_not_seen_at_each_poll(self):
+        """Link b is not polled (--edges)."""
+        plan = Driven((0, 1, 2), 0, 40)
+        self.assertEqual(self.passed([plan], [(10, {0: 0}), (20, {}), (30, {2: 0})]), [1, 1, 1, 0])
+        self.assertEqual(self.passed([plan], []), [1, 1, 1, 0])
+
+    def test_a_turn_that_nobody_takes_for_a_while(self):
+        """movements.csv has no row of that turn then, and there are no polls."""
+        path, setting = str(self.folder), {"map": MAP, "signals": [], "dawdle": 0, "every": 0, "period": 900}
+        self.write("setting.json", json.dumps(setting))
+        self.write("trips.csv", ",".join(TRIPS) + "\n")
+        self.write("edges.csv", ",".join(EDGES) + "\n0,1800,a,1,1,0.50,40.50,6.67\n")
+        self.write("movements.csv", "begin,end,approach,to,vehicles\n0,900,a,b,3\n900,1800,b,a,2\n")
+        counts = [Count(begin, begin + 900, ("a", "b"), 1, "") for begin in (0, 900)]
+        self.assertEqual(passed_in(read_folder(path), counts), [3, 0])
+
+    def test_who_leaves_the_plan(self):
+        self.assertEqual(self.passed([Driven((0, 1), 0, 40)], [(10, {0: 0}), (20, {3: 0})]), [1, 0, 0, 1])
+        polls = [(10, {0: 0}), (20, {3: 0}), (30, {2: 0})]
+        self.assertEqual(self.passed([Driven((0, 1, 2), 0, 40)], polls), [1, 0, 1, 1])
 
 
 class Missing(Tool):
@@ -266,6 +392,12 @@ class Fit(Tool):
         wanted = [tuple(row.split(",")) for row in rows.split()]
         self.assertEqual(pairs, {(source, target): int(vehicles) for source, target, vehicles in wanted})
         self.assertEqual(len(self.edges()), 100)
+
+    def test_a_pair_without_a_way_is_told(self):
+        matrix = self.write("m.csv", "begin,end,from,to,vehicles\n0,900,w,e,40\n0,900,e,w,10\n0,900,e,n,0\n")
+        _, error = self.demand(HOURGLASS, "--matrix", matrix)
+        self.assertEqual(error, "warning: no way leads from e to w: vehicles of the matrix are left out\n")
+        self.assertEqual(self.edges(), ["w m e"] * 40)
 
     def test_near_a_matrix(self):
         # 120 are counted on the street between, and the matrix has 100: each pair gets some more.
@@ -313,13 +445,45 @@ class Fit(Tool):
         self.demand(HOURGLASS, "--counts", counts, "--seed", 2)
         self.assertNotEqual((self.folder / "o.rou.xml").read_bytes(), first)
 
-    def test_whole_vehicles_keep_sums(self):
-        from streetsim.counts.rounding import rounded
+    def test_trucks_by_the_quarter_of_an_hour_among_all_by_the_hour(self):
+        """Of 400 vehicles 100 are trucks, so that 300 of no class are expected."""
+        numpy, _ = science.numpy_and_scipy()
+        trucks = [Count(900 * at, 900 * at + 900, ("a",), 25, "", "truck") for at in range(4)]
+        counts = [Count(0, 3600, ("a",), 400, ""), *trucks]
+        basis = SimpleNamespace(given={}, counts=counts, ways=[], pairs=[], slices=[])
+        with mock.patch.object(demanding, "Expecting") as made:
+            counted = numpy.array([count.vehicles for count in counts])
+            demanding.expected_vehicles(basis, demanding.Asked(), "", numpy.eye(5), counted)
+        _, own = made.return_value.vehicles_by_counts.call_args.args
+        self.assertEqual(own.tolist(), [300.0])
 
-        numpy, scipy = science.needed()
+    def test_drivers_who_do_not_reckon_with_waits(self):
+        """Each pair has a way of 60 s with 40 s at signals, and one of 90 s without any. Of the first pair nine in ten
+        are counted on the former; of the second one both ways together."""
+        numpy, scipy = science.numpy_and_scipy()
+        pairs = [Pair(source, target, {}, {}) for source, target in ("ab", "cd")]
+        ways = [
+            Way(at, (4 * at, 4 * at + between, 4 * at + 3), seconds, 0.5, driven, 1.0)
+            for at in range(2) for between, seconds, driven in ((1, 100.0, 60.0), (2, 90.0, 90.0))
+        ]  # fmt: skip
+        passing = scipy.sparse.csr_matrix([[1.0, 0, 0, 0], [0, 1, 0, 0], [0, 0, 1, 1]])
+        expecting = Expecting(ways, pairs, Slices((0, 900), False), 0.05)
+        found = expecting.vehicles_by_counts(passing, numpy.array([90.0, 10.0, 100.0]))
+        self.assertGreater(found[2], 2 * found[3])
+
+    def test_a_route_of_a_file_that_turns_back(self):
+        """10 s on each of both edges, and TURN_BACK between, as by the costs of the fit."""
+        graph = Graph("ab", [("a", "b")], {"a": ("P", "Q"), "b": ("Q", "P")})
+        [pair], [way] = with_given_routes(graph, [], [], [("a", "b")], [10.0] * 3)
+        self.assertEqual((pair.source, pair.target, way.seconds), ("a", "b", 20 + TURN_BACK))
+
+    def test_whole_vehicles_keep_sums(self):
+        from streetsim.counts.rounding import whole_vehicles
+
+        numpy, scipy = science.numpy_and_scipy()
         values = numpy.random.default_rng(4).random(2000) * 0.3
         passing = scipy.sparse.csr_matrix((numpy.random.default_rng(5).random((40, 2000)) < 0.2).astype(float))
-        whole = rounded(values, passing, 1, 0.05)
+        whole = whole_vehicles(values, passing, 1, 0.05)
         self.assertTrue((numpy.abs(whole - values) < 1).all())
         self.assertLess(abs(whole.sum() - values.sum()), 1)
         # By chance alone they would differ by 8 or so.

@@ -2,7 +2,7 @@
 import json
 import unittest
 
-from support import FORK, MAP
+from support import FORK, MAP, lane, net
 from test_counts import HEAD, HOURGLASS, Tool, needs_scipy
 from streetsim.base.files import Fault
 from streetsim.cli import compare
@@ -18,6 +18,8 @@ COUNTS = (
     ("begin,end,from,to,vehicles,clas\n0,900,a,b,3,x\n", "line 1: column 'clas' is none of .*: 'class'\\?"),
     ("", "nothing is in it; expected the columns begin,end,from,to,vehicles"),
     (HEAD, "no count is in it"),
+    (HEAD + '0,900,a,b,3\n0,900,a,"c,3\n0,900,b,,3\n', "line 3: not CSV: unexpected end of data"),
+    ("\n" + HEAD + '"0",900,a,b,"3\n"\n0,900,aa,b,3\n', "line 5: the network has no edge 'aa'"),
     (HEAD + "0,900,a,b\n", "line 2: 4 values, and the first line has 5 columns"),
     (HEAD + "0,900,aa,b,3\n", "line 2: the network has no edge 'aa': 'a'\\?"),
     (HEAD + "0,900,b,c,3\n", "line 2: no connection leads from edge 'b' to edge 'c'"),
@@ -55,6 +57,7 @@ MATRICES = (
 ZONES = (
     ("zone,edges\n1,a\n1,b\n", "line 3: a second zone '1'"),
     ("zone,edges\n1,q\n", "line 2: the network has no edge 'q'"),
+    ("<tazs>\n<tazSource id='a' weight='1'/><taz id='1' edges='a'/></tazs>", "line 2: <tazSource> is no zone"),
     ("<additional><taz id='1'/></additional>", "line 1: zone '1' has no edges"),
     ("<additional>\n<poly id='1'/></additional>", "line 2: <poly> is no zone"),
 )
@@ -92,6 +95,11 @@ class Faults(Tool):
         loose = self.write("m.xml", '<data><tazRelation from="1" to="2" count="5"/></data>')
         self.assertIn("line 1: <tazRelation> stands in no <interval>", self.fault("--matrix", loose))
 
+    def test_a_network_without_a_connection(self):
+        network = net([("a", "A", "B", [lane("a", 0)]), ("b", "B", "C", [lane("b", 0)])], [])
+        told = self.fault("--counts", self.write("c.csv", HEAD + "0,900,a,,3\n"), network=network)
+        self.assertIn("no way leads from any place where trips begin to one where they end", told)
+
     def test_ratios(self):
         flow = '<routes><flow id="f" from="{}" begin="0" end="900" number="9" {}/></routes>'
         turns = (
@@ -120,7 +128,8 @@ class Faults(Tool):
         files = "--counts", counts, "--candidates", routes
         self.assertIn("no connection leads from edge 'b' to 'a'", self.fault(*files))
         self.assertIn("No such file", self.fault("--counts", self.folder / "none.csv"))
-        self.assertIn("-o names a file that is read", self.fault("--counts", self.folder / "o.rou.xml"))
+        for read in (self.folder / "o.rou.xml", f"{counts},{self.folder / 'o.rou.xml'}"):
+            self.assertIn("-o names a file that is read", self.fault("--counts", read))
         many = "".join(f"{at},{at + 1},a,b,1\n" for at in range(200))
         self.assertIn("unknowns", self.huge(self.write("c.csv", HEAD + many)))
 
@@ -133,7 +142,6 @@ class Faults(Tool):
             passing.MOST_UNKNOWNS = most
 
     def test_compare(self):
-
         self.write("setting.json", json.dumps({"map": MAP, "signals": [], "dawdle": 0, "every": 0, "period": 900}))
         self.write("trips.csv", ",".join(TRIPS) + "\n")
         self.write("edges.csv", ",".join(EDGES) + "\n0,900,a,1,1,0.50,40.50,6.67\n")

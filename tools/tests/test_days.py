@@ -21,7 +21,7 @@ class Schedules(Case):
         """As many in each period, one in each equal part, and no two parts at the same place."""
         samples = Samples(0, 900, 5)
         times, clock = [], 0
-        while (clock := samples.after(clock)) <= 9000:
+        while (clock := samples.next_clock(clock)) <= 9000:
             times.append(clock)
         self.assertEqual(
             [sum(begin < time <= begin + 180 for time in times) for begin in range(0, 9000, 180)], [1] * 50
@@ -36,12 +36,12 @@ class Schedules(Case):
         Samples saw 2 and 4 vehicles on 75 m, which are 40 a kilometre, at 18 cells a step in all: 3 cells a step or
         22.5 m/s, so 75 m take 10 / 3 s."""
         data = Edgedata(0, 900)
-        data.end(900, [(0, ((7, 3, 2),))])
-        data.sample(1000, [(0, ((7, 3, 2), (8, 2, 4)))])
-        data.sample(1100, [(0, ((7, 3, 3), (8, 2, 3), (9, 1, 3), (10, 0, 3)))])
-        data.take(950, 0)
-        data.end(1800, [(0, ((1, 1, 1), (2, 2, 2), (3, 3, 3)))])
-        data.finish([(0, 0)])
+        data.note_period_end(900, [(0, ((7, 3, 2),))])
+        data.note_sample(1000, [(0, ((7, 3, 2), (8, 2, 4)))])
+        data.note_sample(1100, [(0, ((7, 3, 3), (8, 2, 3), (9, 1, 3), (10, 0, 3)))])
+        data.note_taken_out(950, 0)
+        data.note_period_end(1800, [(0, ((1, 1, 1), (2, 2, 2), (3, 3, 3)))])
+        data.turn_into_means([(0, 0)])
         counts = {(0, 0): {900: Row(900, 900, 9, 0, 0)}}
         [row] = edge_rows(counts, data, map_from("map", MAP))
         self.assertEqual(row[:5], (900, 1800, "a", 12, 9))

@@ -32,6 +32,11 @@ class Demand(Case):
         self.assertEqual(self.flow('begin="0" end="50" period="9.5"'), [0, 10, 19, 29, 38, 48])
         self.assertEqual(self.flow('begin="0" end="3" probability="1"'), [0, 1, 2])
         self.assertEqual(self.flow('begin="5" period="10" number="3"'), [5, 15, 25])
+        self.assertEqual(self.flow('begin="5" end="5" number="3"'), [5, 5, 5])
+
+    def test_a_chance_that_hardly_ever_comes(self):
+        for chance in ("1e-17", "1e-300"):
+            self.assertEqual(self.flow(f'end="3600" probability="{chance}"'), [])
 
     def test_flow_by_draws_repeats(self):
         drawn = self.flow('begin="0" end="1000" probability="0.1"')
@@ -109,10 +114,12 @@ class Demand(Case):
             [("a", 0, "b", 0, ""), ("b", 0, "a", 0, "")],
         )
         route = '<routes><vehicle id="v" depart="0"><route edges="a b" repeat="2"/></vehicle></routes>'
-        _, _, commands, _ = convert(
-            self.write("x.net.xml", ring), [], [self.write("r.rou.xml", route)], Options(), Report()
-        )
+        street, report = self.write("x.net.xml", ring), Report()
+        _, _, commands, _ = convert(street, [], [self.write("r.rou.xml", route)], Options(), report)
         self.assertEqual([one["plan"] for one in commands if one["cmd"] == "enter"], [[0, 1, 0, 1, 0, 1]])
+        for_ever = self.write("r.rou.xml", route.replace('"2"', '"999999999999"'))
+        self.assertEqual(convert(street, [], [for_ever], Options(), report)[3], [])
+        self.assertEqual(report.skipped, {"a route of more than 1,024 edges": 1})
 
     def test_distributions_of_routes(self):
         # 2 of 3 by weights: of 3,000 vehicles 2,000, with a standard deviation of 26.
@@ -133,6 +140,11 @@ class Demand(Case):
         )
         self.assertEqual(self.enters(f'<vehicle id="v" depart="1">{inside}</vehicle>'), [("v", 1)])
         self.assertEqual(self.network.kinds["route"], ["!v#1"])
+        # The name of a route in a distribution is not read.
+        other = '<route id="r" edges="a b"/><routeDistribution id="d"><route id="r" edges="a c"/></routeDistribution>'
+        self.enters(f'{other}<vehicle id="v" depart="1" route="r"/><vehicle id="w" depart="2" route="d"/>')
+        self.assertEqual([one["plan"][-1] for one in self.commands if one["cmd"] == "enter"], [2, 3])
+        self.assertEqual(self.network.kinds["route"], ["r", "d#0"])
         both = '<route id="r" edges="a b"/><routeDistribution id="d"><route refId="r"/></routeDistribution>'
         self.assertEqual(self.enters(f'{both}<vehicle id="v" depart="1" route="d"/>'), [("v", 1)])
 
@@ -185,6 +197,14 @@ class Demand(Case):
             ('<routeDistribution id="d"/>', r"<routeDistribution 'd'>: a distribution without a route"),
             ('<routeDistribution id="d" routes="q"/>', r"<routeDistribution 'd'>: there is no route 'q'"),
             (
+                '<routeDistribution id="d"><route edges="a b" probability="1 2"/></routeDistribution>',
+                "<route>: probability='1 2' cannot be read",
+            ),
+            (
+                '<vTypeDistribution id="d"><vType id="t" probability="1 2"/></vTypeDistribution>',
+                "<vType 't'>: probability='1 2' cannot be read",
+            ),
+            (
                 '<routeDistribution id="d"><route edges="a z"/></routeDistribution>',
                 r"'d'>: the network has no edge 'z'",
             ),
@@ -205,6 +225,8 @@ class Demand(Case):
             ('end="9" period="3" vehsPerHour="60"', "period and vehsPerHour are two rates, of which a flow has one"),
             ('end="9" number="3" period="1"', "beside period a flow has an end or a number, not both"),
             ('begin="" end="9" period="1"', "begin='' cannot be read"),
+            ('end="9" number="3000000000"', "number='3000000000' cannot be read"),
+            ('end="9" number="99999999999999999999"', "number='99999999999999999999' cannot be read"),
         ):
             with self.subTest(rate), self.assertRaisesRegex(Fault, f"<flow 'f'>: {words}"):
                 self.enters(f'<flow id="f" {rate}><route edges="a"/></flow>')
@@ -232,6 +254,11 @@ class Demand(Case):
         self.assertEqual([one["size"] for one in commands if one["cmd"] == "enter"], [2])
         with self.assertRaisesRegex(Fault, "<vType 'DEFAULT_VEHTYPE'>: a second vehicle type of this name"):
             self.enters(usual + usual)
+
+    def test_the_usual_type_may_be_a_distribution(self):
+        usual = '<vTypeDistribution id="DEFAULT_VEHTYPE"><vType id="long" length="12.5"/></vTypeDistribution>'
+        self.enters(f'{usual}<vehicle id="v" depart="0"><route edges="a b"/></vehicle>')
+        self.assertEqual([one["size"] for one in self.commands if one["cmd"] == "enter"], [2])
 
     def test_the_route_that_is_named_counts(self):
         """SUMO leaves out a route that stands in a vehicle which names another one, and says so."""

@@ -9,8 +9,9 @@ from test_nema import street as ringed
 from test_page_works import NODE, in_node
 from streetsim import traci
 from streetsim.base.client import line_of
+from streetsim.base.files import Fault
 from streetsim.live.driven import DrivenEngine
-from streetsim.live.page import data_of, own_lines
+from streetsim.live.page import own_lines, page_data
 from streetsim.model.mapping import Map, read_map
 from streetsim.model.runs import Run, read_run
 from streetsim.routes.watching import Ground
@@ -48,6 +49,30 @@ class Scripts(Case):
         self.assertEqual(traci.trafficlight.getPhaseDuration("L"), 30.0)  # as listed, as in SUMO
         [logic] = traci.trafficlight.getAllProgramLogics("L")
         self.assertEqual((logic.type, logic.phases[0].minDur, logic.phases[0].maxDur), (3, 5, 40))
+
+    def test_detectors_go_on_after_a_program_that_is_refused(self):
+        self.start(street(PHASES))
+        light = traci.trafficlight
+        with self.assertRaisesRegex(traci.TraCIException, "at most 200,000 s"):
+            light.setProgramLogic("L", light.Logic("mine", 0, 0, [light.Phase(300_000, "G")]))
+        traci.simulationStep(53)
+        self.assertEqual((light.getProgram("L"), self.told()), ("0", (0, "G", 58.0)))
+
+    def test_a_script_changes_a_program_that_detectors_drive(self):
+        self.start(street(PHASES))
+        light = traci.trafficlight
+        [logic] = light.getAllProgramLogics("L")
+        logic.phases = [light.Phase(10, "G"), light.Phase(10, "r")]
+        light.setProgramLogic("L", logic)
+        state = str(self.folder / "state.json")
+        traci.simulation.saveState(state)
+        for _ in range(2):
+            [found] = light.getAllProgramLogics("L")
+            self.assertEqual((found.type, [(one.minDur, one.maxDur) for one in found.phases]), (0, [(10, 10)] * 2))
+            light.setProgram("L", "0")
+            traci.simulationStep(15)
+            self.assertEqual(self.told(), (1, "r", 20.0))
+            traci.simulation.loadState(state)
 
     def test_a_phase_that_a_script_chooses(self):
         # When the light is looked at next stays, as in SUMO: at 58 s it ends the phase that was set at 54.
@@ -143,6 +168,9 @@ class Runs(Case):
 
     def test_a_scenario(self):
         with Scenario(*self.imported(), PROGRAM) as sim:
+            sim.simulationStep(58)
+            with self.assertRaisesRegex(Fault, "at most 200,000 s"):
+                sim.trafficlight.setProgramLogic("L", [(300_000, "G"), (30, "r")])
             sim.simulationStep(59)
             self.assertEqual(sim.trafficlight.getRedYellowGreenState("L"), "y")
             sim.trafficlight.setProgramLogic("L", [(30, "G"), (30, "r")])
@@ -157,7 +185,7 @@ class Runs(Case):
         ground = Ground(PROGRAM, None, None, 300, 3600)
         self.assertEqual([one.name for one in ground.lights(read, found).driven], ["L"])
         listed = Ground(PROGRAM, None, None, 300, 3600, driven=False)
-        self.assertEqual(listed.lights(read, found).going_by(found), ["L"])
+        self.assertEqual(listed.lights(read, found).listed_lights(found), ["L"])
 
     def test_a_plan_by_time_of_day_takes_the_place_of_detectors(self):
         # A line of the run's own at 60 s: until then the light is driven, as above.
@@ -179,7 +207,7 @@ class Runs(Case):
         read = read_run(run), read_map(mapping)
         engine = DrivenEngine(PROGRAM, own_lines(read[0]), lambda: (*read, []))
         self.addCleanup(engine.close)
-        self.assertNotIn(b"error", b"".join(engine.begin()))
+        self.assertNotIn(b"error", b"".join(engine.begin_run()))
         step, count, shown = b'{"cmd":"advance","steps":1}\n', b'{"cmd":"count"}\n', []
         for _ in range(6):
             replies = [*map(json.loads, engine.ask([step, count] * 10))]
@@ -195,6 +223,20 @@ class Runs(Case):
         self.assertNotIn(b"error", engine.ask([line_of({**plan, "phases": [[60, []]]})])[0])
         self.assertNotIn(b"shown", engine.ask([b'{"cmd":"advance","steps":300}\n'])[0])
 
+    def test_a_page_whose_run_cannot_be_joint_runs_nothing(self):
+        run, mapping = map(str, self.imported())
+        read = read_run(run), read_map(mapping)
+        made = iter([(*read, []), None])
+        engine = DrivenEngine(PROGRAM, own_lines(read[0]), lambda: next(made) or self.refuse())
+        engine.begin_run()
+        with self.assertRaisesRegex(Fault, "not joint"):
+            engine.begin_run()
+        with self.assertRaisesRegex(Fault, "nothing is running"):
+            engine.ask([b'{"cmd":"count"}\n'])
+
+    def refuse(self):
+        raise Fault("not joint")
+
     def test_a_page_that_cannot_drive_says_so(self):
         run, mapping = self.imported()
         out = self.folder / "page.html"
@@ -202,8 +244,8 @@ class Runs(Case):
         _, told = self.tool("live", run, "--map", mapping, "--program", module, "-o", out)
         self.assertIn("lights show their listed seconds, as nobody looks at detectors", told)
         read = read_run(str(run)), read_map(str(mapping))
-        self.assertEqual((data_of(*read)["driven"], data_of(*read)["listed"]), ([], ["L"]))
-        self.assertEqual(data_of(*read, driven=True)["driven"], ["L"])
+        self.assertEqual((page_data(*read)["driven"], page_data(*read)["listed"]), ([], ["L"]))
+        self.assertEqual(page_data(*read, driven=True)["driven"], ["L"])
 
 
 class Memory:
@@ -232,10 +274,10 @@ class Lights:
     def __init__(self):
         self.looks = []
 
-    def due(self):
+    def next_clock(self):
         return self.looks[-1] + 10 if self.looks else 10
 
-    def look(self, clock, _senses):
+    def commands_after_look(self, clock, _senses):
         self.looks.append(clock)
         return ()
 

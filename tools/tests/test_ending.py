@@ -2,8 +2,32 @@
 import csv
 import json
 import unittest
+from types import SimpleNamespace
 
 from support import MAP, NUMBERED, PROGRAM, RED, Case, lane, needs_simulator, net
+from streetsim.base.client import Census
+from streetsim.model.runs import Line, Run
+from streetsim.run.ending import Ending
+
+
+class Still(unittest.TestCase):
+    def test_a_standstill_lasts_longer_than_all_phases_of_a_light_that_detectors_drive(self):
+        """The run has no signal lines; all phases of its light, at their greatest length, last 700 s."""
+        settings = SimpleNamespace(lights=SimpleNamespace(longest=700), until=10_000)
+        records = SimpleNamespace(censuses=[Census(1, 0, 0, 1, 0, 0, 0)], ended="")
+        run = Run("run", Line(1, "", {}))
+        desk = SimpleNamespace(
+            run=run, settings=settings, records=records, entered=0, sent=0, places=[], poll_lanes=lambda places: {},
+            fleet=SimpleNamespace(is_holding=False), has_ended=lambda clock: False, end_at=lambda clock: None,
+        )  # fmt: skip
+        ending = Ending(run)
+        for clock in range(60, 1_561, 60):
+            ending.decide_end(desk, clock)
+            self.assertEqual(bool(records.ended), clock >= 1_500, clock)
+            if records.ended:
+                break
+        still = "no vehicle has changed its cell for 720 s, longer than the longest cycle, 700 s"
+        self.assertEqual(records.ended, f"ended at 1,500 s: {still}")
 
 
 @needs_simulator

@@ -36,7 +36,7 @@ class Environment(Case):
             observations, _ = env.reset(seed=1)
             self.assertEqual(observations["J"][:3], [1.0, 0.0, 0.0])
             self.assertEqual(len(observations["J"]), 2 + 1 + 2 * 4)
-            light, greens = env.session.control.lights["J"], env.signals["J"].greens
+            light, greens = env.session.control.lights["J"], env.agents["J"].greens
             env.step({"J": 1})
             self.assertEqual(light.phases[0][1], greens[0])
             observations, *_ = env.step({})
@@ -54,7 +54,7 @@ class Environment(Case):
             env.reset(seed=1)
             total = sum(env.step({})[1]["J"] for _ in range(30))
             session = env.session
-            lanes = env.signals["J"].lanes
+            lanes = env.agents["J"].lanes
             there = [car for lane in lanes for car in session.view.on_lane.get(session.lane_of[lane], ())]
             waited = sum(session.tally.waited.get(car, 0) for car in there)
         self.assertGreater(waited, 0)
@@ -74,6 +74,17 @@ class Environment(Case):
             env.reset()
             with self.assertRaisesRegex(ValueError, "light 'J' has no green phase 2"):
                 env.step({"J": 2})
+
+    def test_a_step_that_is_refused_changes_no_light(self):
+        with SignalEnv(WORDS) as env:
+            env.reset()
+            env.step({})
+            light, green = env.session.control.lights["J"], env.agents["J"].greens[0]
+            for other, error in (({"K": 0}, KeyError), ({"J": 1.0}, TypeError), ({"J": -1}, ValueError)):
+                with self.subTest(other), self.assertRaises(error):
+                    env.step({"J": 1} | other)
+                self.assertEqual((light.phases[0][1], env.figures()["time"]), (green, 5))
+            self.assertEqual(env.step({"J": 1})[0]["J"][:2], [0.0, 1.0])
 
     def test_policies(self):
         """Max-pressure leaves fewer standing than greens in turn."""

@@ -111,7 +111,8 @@ class Files(Given):
                 "the network has no projection: say where it lies by --projection",
             ),
             ({}, (), "import again"),
-            (LOCATION, ("--projection", "+proj=none"), "'+proj=none' is no projection that pyproj knows"),
+            (LOCATION, ("--projection", "+proj=none"), "'+proj=none' is no projection of points that pyproj knows"),
+            (LOCATION, ("--projection", "EPSG:5773"), "'EPSG:5773' is no projection of points that pyproj knows"),
             ({"offset": [-9e9, 0], "projection": UTM}, (), "nowhere on Earth"),
         ):
             with self.subTest(told):
@@ -206,3 +207,11 @@ class Maps(Given):
         (self.folder / "junctions.csv").unlink()
         said = self.tool("plot", "map", self.folder, "--what", "los", "-o", self.folder / "x.png", status=2)[1]
         self.assertIn("a map of los needs streetsim-run --junctions", said)
+        write_table(f"{self.folder}/edges.csv", EDGES, [])
+        said = self.tool("plot", "map", self.folder, "--what", "flow", "-o", self.folder / "x.png", status=2)[1]
+        self.assertIn("nothing is known of any interval", said)
+
+    def test_an_interval_below_a_minute(self):
+        (self.folder / "junctions.csv").unlink()
+        write_table(f"{self.folder}/edges.csv", EDGES, [(0, 30, "a", 5, 10, "4.00", "30.00", "9.0")])
+        self.assertIn("0:00 to 0:00:30", self.drawn("flow"))

@@ -6,12 +6,14 @@ import signal
 import stat
 import subprocess
 import sys
+import threading
 import time
 import unittest
 from pathlib import Path
 
 from support import FORK, MAP, NUMBERED, PROGRAM, TOOLS, Case, lane, needs_simulator, net
 from streetsim.base.files import Fault, refuse_equal, whole_file, whole_folder, whole_path
+from streetsim.base.jobs import side_by_side
 
 STREET = net([("a", "A", "B", [lane("a", 0)])], [])
 
@@ -58,6 +60,62 @@ class Written(Case):
         with self.assertRaisesRegex(Fault, "-o names a file that is read"):
             refuse_equal({"-o": one}, [link])
         refuse_equal({"-o": one, "--map": self.folder / "other"}, [self.folder / "third"])
+
+
+    def test_one_output_within_another_of_the_same_path(self):
+        """Each is whole when it ends, so that what ends last stays; in threads of one process, too."""
+        path, both = self.folder / "x.txt", threading.Barrier(2)
+
+        def within():
+            with whole_file(path) as outer:
+                outer.write("outer")
+                with whole_file(path) as inner:
+                    inner.write("inner")
+                found.append(path.read_text())
+            found.append(path.read_text())
+
+        def beside(text):
+            with whole_file(path) as file:
+                both.wait(20)
+                file.write(text)
+            found.append(path.read_text())
+
+        for works, told in (([within], ["inner", "outer"]), ([lambda: beside("one"), lambda: beside("two")], None)):
+            found = []
+            threads = [threading.Thread(target=work, daemon=True) for work in works]
+            for thread in threads:
+                thread.start()
+            for thread in threads:
+                thread.join(30)
+            if told:
+                self.assertEqual(found, told)
+            else:
+                self.assertTrue(len(found) == 2 and {*found} <= {"one", "two"}, found)
+        self.assertEqual([one.name for one in self.folder.iterdir()], ["x.txt"])
+
+
+class SideBySide(unittest.TestCase):
+    def test_one_at_least(self):
+        """Whatever number is wanted, all is done, in order; what is told comes with the place of its item."""
+        for jobs in (-1, 0, 1, 2, 9):
+            with self.subTest(jobs):
+                heard = []
+                found = side_by_side(doubled, [5, 6, 7], jobs, lambda place, value: heard.append((place, value)))
+                self.assertEqual((found, sorted(heard)), ([10, 12, 14], [(0, "5"), (1, "6"), (2, "7")]))
+
+    def test_a_fault_ends_all(self):
+        with self.assertRaisesRegex(Fault, "6 is even"):
+            side_by_side(odd, [5, 6, 7], 1)
+
+
+def doubled(item, tell):
+    tell(str(item))
+    return 2 * item
+
+
+def odd(item, tell):
+    if item % 2 == 0:
+        raise Fault(f"{item} is even")
 
 
 class Folders(Case):

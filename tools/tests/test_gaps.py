@@ -8,11 +8,11 @@ from streetsim.base.report import Report
 from streetsim.importing.convert import convert
 from streetsim.model.mapping import MapLink, MapTurn
 from streetsim.model.runs import Line
-from streetsim.model.waiting import Foe, Gap, Pace, Waiting, waiting_of
-from streetsim.run.crowded import crowded, uses
+from streetsim.model.waiting import Foe, Gap, GivingWay, Pace, giving_way_of
+from streetsim.run.crowded import crowded_edges, used_shares
 from streetsim.run.gaps import (
-    MOST_SEEN, PATIENCE, Counts, be_patient, followings, gap_lines, phases_of, red_seconds, slow_down, standing,
-    stands_of,
+    MOST_SEEN, PATIENCE, Counts, be_patient, followings, gap_lines, mark, phases_of_reds, red_seconds, slow_down,
+    standing_seconds, stands_of,
 )
 from streetsim.run.passings import Passings
 from streetsim.sumo.conflicts import CROSSING, JOINING, foes
@@ -69,13 +69,21 @@ class When(unittest.TestCase):
         self.assertEqual(dict(passings.found), {})
 
 
+class Marks(unittest.TestCase):
+    def test_seconds_that_are_not_there_are_passed_over(self):
+        for first, last, left in ((-2, 2, "1100"), (3, 9, "0001"), (-9, -1, "0000"), (9, 12, "0000"), (2, 1, "0000")):
+            seconds = bytearray(4)
+            mark(seconds, first, last)
+            self.assertEqual("".join(map(str, seconds)), left)
+
+
 def foe(gap, slow=False):
     return Foe(0, 0, 1, gap, slow)
 
 
 class Reds(unittest.TestCase):
     def test_red_before_and_after_who_goes_first(self):
-        waiting = Waiting(1, ((2, 0, 1),), (foe(Gap(5.5, 0.0, 3.5)),))
+        waiting = GivingWay(1, ((2, 0, 1),), (foe(Gap(5.5, 0.0, 3.5)),))
         red = red_seconds(waiting, {(0, 0, 1): [30.0]}, 0, 60)
         self.assertEqual([at for at, closed in enumerate(red) if closed], list(range(24, 31)))
         self.assertIsNone(red_seconds(waiting, {}, 0, 60))
@@ -84,7 +92,7 @@ class Reds(unittest.TestCase):
         """The first comes at 10 s and passes at 18; the second, due at 12, is the first 2 s later, at 20 s; the third
         comes when nobody is there."""
         passing = [(18.0, 1, 10.0), (25.0, 2, 12.0), (60.0, 1, 60.0)]
-        self.assertEqual(list(standing(passing[::-1])), [(18.0, 1, 8.0), (25.0, 2, 5.0), (60.0, 1, 0.0)])
+        self.assertEqual(list(standing_seconds(passing[::-1])), [(18.0, 1, 8.0), (25.0, 2, 5.0), (60.0, 1, 0.0)])
         found = stands_of({(0, 0): [*passing, (200.0, 1, 90.0)]}, {(0, 0, 1)})
         self.assertEqual(found, {((0, 0, 1), 18.0): 5.0, ((0, 0, 1), 200.0): MOST_SEEN})
 
@@ -96,8 +104,8 @@ class Reds(unittest.TestCase):
             links = [link(0, 1), link(0, 1), link(1, 2), link(0, 1)]
             turns = [MapTurn(at, 0, 2, 0, None, 0, False) for at in (0, 1, 3)]
             yields = [
-                Waiting(1, ((1, 0, 2),), (Foe(0, 0, 2, Gap(5.5, 0.0, 3.5), False),)),
-                Waiting(1, ((3, 0, 2),), (Foe(1, 0, 2, Gap(5.5, 0.0, 3.5), False),)),
+                GivingWay(1, ((1, 0, 2),), (Foe(0, 0, 2, Gap(5.5, 0.0, 3.5), False),)),
+                GivingWay(1, ((3, 0, 2),), (Foe(1, 0, 2, Gap(5.5, 0.0, 3.5), False),)),
             ]
 
         def seconds_red(turn, passing):
@@ -111,20 +119,20 @@ class Reds(unittest.TestCase):
 
     def test_who_starts_from_a_stand_is_out_of_the_way_later(self):
         gap = Gap(5.5, 0.0, 3.5).later(1.0)
-        red = red_seconds(Waiting(1, ((2, 0, 1),), (foe(gap),)), {(0, 0, 1): [30.0]}, 0, 60)
+        red = red_seconds(GivingWay(1, ((2, 0, 1),), (foe(gap),)), {(0, 0, 1): [30.0]}, 0, 60)
         self.assertEqual([at for at, closed in enumerate(red) if closed], list(range(24, 32)))
 
     def test_how_far_a_lane_is_used(self):
         """Green 10 s of each minute lets some 5 pass, so 40 in a quarter of an hour take half of its time and more."""
         red = bytearray(b"\1" * 50 + b"\0" * 10) * 15
         passing = {(0, 0): [(22.0 * at, 1, 22.0 * at) for at in range(40)]}
-        ((place, vehicles, share),) = uses([(Waiting(1, ((0, 0, 1),), ()), red)], passing, 0)
+        ((place, vehicles, share),) = used_shares([(GivingWay(1, ((0, 0, 1),), ()), red)], passing, 0)
         self.assertEqual((place, vehicles), ((0, 0), 40))
         self.assertTrue(0.45 < share < 0.6, share)
-        self.assertEqual(crowded(Links, [(Waiting(1, ((0, 0, 1),), ()), bytearray(900))], passing, 0), {})
+        self.assertEqual(crowded_edges(Links, [(GivingWay(1, ((0, 0, 1),), ()), bytearray(900))], passing, 0), {})
 
     def test_more_traffic_shorter_red(self):
-        waiting = Waiting(1, ((2, 0, 1),), (foe(CROSSING),))
+        waiting = GivingWay(1, ((2, 0, 1),), (foe(CROSSING),))
         few = sum(red_seconds(waiting, {(0, 0, 1): [300.0]}, 0, 600))
         many = sum(red_seconds(waiting, {(0, 0, 1): [20.0 * at for at in range(1, 30)]}, 0, 600)) / 29
         self.assertGreater(few, many)
@@ -134,22 +142,22 @@ class Reds(unittest.TestCase):
         red = bytearray(12)
         slow_down(red, 0, 12)
         self.assertEqual(list(red), [0, 0, 0, 1, 1, 0, 0, 0, 1, 1, 0, 0])
-        waiting = Waiting(1, ((2, 0, 1),), (foe(JOINING, True),))
+        waiting = GivingWay(1, ((2, 0, 1),), (foe(JOINING, True),))
         alone = red_seconds(waiting, {(0, 0, 1): [30.0], (2, 0, 1): [60.0]}, 0, 90)
         two = red_seconds(waiting, {(0, 0, 1): [30.0], (2, 0, 1): [60.0, 63.0]}, 0, 90)
         self.assertEqual([at for at in range(90) if two[at] > alone[at]], [at for at in range(45, 80) if at % 5 > 2])
 
     def test_who_has_to_stop_follows_slowly(self):
         # Two seconds of eight are green near those who pass, whether or not others come.
-        waiting = Waiting(1, ((2, 0, 1),), (), Pace(2, 6.0))
+        waiting = GivingWay(1, ((2, 0, 1),), (), Pace(2, 6.0))
         red = red_seconds(waiting, {(2, 0, 1): [60.0], (2, 0, 3): [100.0]}, 0, 200)
         near = [*range(45, 75), *range(85, 115)]
         self.assertEqual([at for at in range(200) if red[at]], [at for at in near if at % 8 > 1])
-        self.assertEqual(waiting_of([waiting.written()]), [waiting])
+        self.assertEqual(giving_way_of([waiting.written()]), [waiting])
 
     def test_where_all_stop_more_traffic_makes_it_slower(self):
         foes = (Foe(0, 0, 1, Gap(0.0, 0.0, 0.0), False),)
-        waiting, own = Waiting(1, ((2, 0, 1),), foes, Pace(2, 4.0, 10.0)), [float(at) for at in range(0, 600, 10)]
+        waiting, own = GivingWay(1, ((2, 0, 1),), foes, Pace(2, 4.0, 10.0)), [float(at) for at in range(0, 600, 10)]
         alone = red_seconds(waiting, {(2, 0, 1): own, (0, 0, 1): [1.0]}, 0, 600)
         many = red_seconds(waiting, {(2, 0, 1): own, (0, 0, 1): own}, 0, 600)  # 360 an hour: 3.6 s more
         self.assertAlmostEqual(sum(alone) / 600, 4 / 6, delta=0.02)
@@ -160,7 +168,7 @@ class Reds(unittest.TestCase):
         foes = tuple(Foe(link, lane, 9, gap, False, street) for link, lane, street in ((0, 0, 0), (0, 1, 0), (1, 0, 1)))
         times = [(100.0 + at, foe) for at in range(50) for foe in foes]
         counts = Counts(times)
-        lane, street, every = counts.around(100.0, foes[0])
+        lane, street, every = counts.flows_around(100.0, foes[0])
         self.assertEqual((lane, street, every), (300.0, 600.0, 900.0))
         self.assertAlmostEqual(gap.before(lane, street, every), 7.0 - 10.0 * (0.3 + 0.5 * 0.3))
         self.assertEqual(CROSSING.across(1), CROSSING)
@@ -198,14 +206,14 @@ class Conflicts(unittest.TestCase):
 class Lines(unittest.TestCase):
     def test_phases(self):
         reds = [bytearray([0, 0, 1, 1]), bytearray([0, 1, 1, 0])]
-        self.assertEqual(phases_of(reds), [(1, (0, 0)), (1, (0, 1)), (1, (1, 1)), (1, (1, 0))])
-        self.assertEqual([length for length, _ in phases_of([bytearray(1300)])], [600, 600, 100])
+        self.assertEqual(phases_of_reds(reds), [(1, (0, 0)), (1, (0, 1)), (1, (1, 1)), (1, (1, 0))])
+        self.assertEqual([length for length, _ in phases_of_reds([bytearray(1300)])], [600, 600, 100])
 
     def test_a_signal_line(self):
         # Link 0 gives way at node 1 to one who comes from link 1 at second 130:
         # red from 130 - 4 on, with what rounding owes.
         class Yielding(Links):
-            yields = [Waiting(1, ((0, 0, 1),), (Foe(1, 0, 2, Gap(4.0, 0.0, 0.0), False),))]
+            yields = [GivingWay(1, ((0, 0, 1),), (Foe(1, 0, 2, Gap(4.0, 0.0, 0.0), False),))]
 
         [(clock, line)] = gap_lines(Yielding, {(1, 0): [(130.0, 2, 130.0)]}, 100)
         self.assertEqual(json.loads(json.dumps(line.command)), json.loads(line.text))

@@ -55,7 +55,7 @@ class Networks(Case):
         network, *_ = self.network(net(edges, [("a", 0, "b", 0, "")]))
         usual, street = Options().buffer, network.links[1]
         self.assertEqual(network.buffers, [usual, usual + 40 - street.cells, usual])
-        self.assertEqual([node[2] for node in network.load()["nodes"]], network.buffers)
+        self.assertEqual([node[2] for node in network.load_command()["nodes"]], network.buffers)
 
     def test_what_is_not_modelled_is_named(self):
         ends = [("a", "A", "C", [lane("a", 0)]), ("b", "B", "C", [lane("b", 0)]), ("c", "C", "D", [lane("c", 0)])]
@@ -64,7 +64,7 @@ class Networks(Case):
         self.network(made.replace('state="M"', 'state="Z"'))
         self.assertIn("1 junctions are of type zipper, which does nothing here: C", self.said.warnings)
         told = next(text for text in self.said.warnings if "the state 'Z', which does nothing here" in text)
-        self.assertEqual(sorted(self.said.more[told][1]), ["a", "b"])
+        self.assertEqual(sorted(self.said.alike[told][0].names), ["a", "b"])
         self.network(made.replace("zipper", "priority_stop"))
         self.assertFalse([text for text in self.said.warnings if "does nothing here" in text])
 
@@ -128,7 +128,7 @@ class Networks(Case):
             self.assertEqual(len(merges), count)
             longer = "1 edges are longer here than in SUMO by more than a tenth, as lengths are whole cells: a"
             self.assertIn(longer, self.said.warnings)
-            self.assertEqual(self.said.more[longer][1], ("a",))
+            self.assertEqual(self.said.alike[longer][0].names, ("a",))
 
     def test_turns_for_both_lanes(self):
         network, *_ = self.network(SHARED)

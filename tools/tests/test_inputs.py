@@ -6,7 +6,11 @@ import unittest
 
 from support import FORK, MAP, NUMBERED, Case
 from streetsim.base.files import Fault, elements, open_text, read_json
+from streetsim.base.seeds import seeds_of
+from streetsim.model.mapping import map_from
+from streetsim.model.names import read_own
 from streetsim.model.runs import read_run
+from streetsim.model.tables import SEEDS, read_table
 from streetsim.study.variants import read_study
 
 MARK = b"\xef\xbb\xbf"  # a byte order mark
@@ -32,6 +36,27 @@ class Bytes(Case):
     def test_half_a_gzip_file_is_a_fault(self):
         with self.assertRaisesRegex(Fault, "x.net.xml: cannot be read"):
             list(elements(self.put("x.net.xml", gzip.compress(FORK.encode())[:-20]), ["net"]))
+
+    def test_what_no_reader_takes_is_a_fault(self):
+        """A cell of a table above 131,072 letters, as an open quotation mark makes one; a number of more digits than
+        Python reads; lists within lists without an end; a row with more cells than its table has columns."""
+        row = "1,2,1,30.0,0\n"
+        self.assertEqual(len(read_table(self.put("s.csv", f"{','.join(SEEDS)}\n{row}".encode()), SEEDS)), 1)
+        mapping = map_from("m", MAP)
+        for read, text in (
+            (lambda path: read_table(path, SEEDS), f"{','.join(SEEDS)}\n\"{row * 20_000}"),
+            (lambda path: read_table(path, SEEDS), f"{','.join(SEEDS)}\n7,{row}"),
+            (lambda path: read_own(path, mapping), f"id,name\na,\"{'a,b' * 50_000}"),
+            (lambda path: read_json(path, ()), f'{{"a": {"7" * 5000}}}'),
+            (lambda path: read_json(path, ()), "[" * 100_000),
+            (read_run, f'{{"cmd":"load","seed":{"[" * 100_000}}}'),
+        ):
+            path = self.put("x", text.encode())
+            with self.subTest(text[:40]), self.assertRaisesRegex(Fault, f"{path}: (cannot be read|line 2)"):
+                read(path)
+        for text in ("7" * 5000, f"1-{'7' * 5000}"):
+            with self.assertRaisesRegex(Fault, "--seeds '.*': expected FIRST-LAST"):
+                seeds_of(text, "--seeds")
 
     def test_byte_order_marks(self):
         self.assertEqual(len(read_run(self.put("r.jsonl", MARK + RUN)).enters), 1)

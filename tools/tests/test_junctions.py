@@ -9,17 +9,17 @@ from support import MAP, NUMBERED, PROGRAM, TOOLS, Case, needs_simulator
 from streetsim.buses.fleet import Dwell
 from streetsim.junctions import reporting
 from streetsim.junctions.capacity import usual_flow
-from streetsim.junctions.facing import facing
-from streetsim.junctions.layout import Approach, Greens, approaches_of, turn_name, ways_that_stop
-from streetsim.junctions.measures import Measures, Losses, stop_loss, together
+from streetsim.junctions.facing import junctions_with_facing_streets
+from streetsim.junctions.layout import Approach, Greens, approaches_of, turn_name, movements_that_stop
+from streetsim.junctions.measures import Measures, Losses, stop_loss, weighted_mean_losses
 from streetsim.junctions.passages import Passages, discharges, queue_metres, who_stand
 from streetsim.junctions.rows import Tables
-from streetsim.junctions.sampling import LOOKS, Ends, Sampled, moments
+from streetsim.junctions.sampling import LOOKS, Ends, Sampled, clocks_of_looks
 from streetsim.model.mapping import map_from
 from streetsim.model.runs import run_of_texts
 from streetsim.model.service import PRIORITY, ROUNDABOUT, SIGNALS, STOP_LOSS, level, percentile
 from streetsim.model.tables import APPROACHES, JUNCTIONS, MOVEMENTS, read_table
-from streetsim.model.waiting import Foe, Gap, Waiting
+from streetsim.model.waiting import Foe, Gap, GivingWay
 
 CORRIDOR = TOOLS / "examples/corridor"
 # The light is red in steps 0 to 4 of each 10, then green.
@@ -56,7 +56,7 @@ def cross(left):
     other = Foe(at["ec"], 0, at["cw"], gap, False)
     ways = {"wc ce": main, "ec cw": main, "wc cn": [*main, other]}
     turns = {way: tuple(at[name] for name in way.split()) for way in ways}
-    waiting = [Waiting(0, ((turns[way][0], 0, turns[way][1]),), tuple(foes)) for way, foes in ways.items()]
+    waiting = [GivingWay(0, ((turns[way][0], 0, turns[way][1]),), tuple(foes)) for way, foes in ways.items()]
     links = [SimpleNamespace(edge=name) for name in names]
     plans = [turns["wc ce"], turns["ec cw"], (at["nc"], at["cs"])] * 100 + [turns["wc cn"]] * left
     return SimpleNamespace(links=links, nodes=[["C"]], yields=waiting), plans
@@ -102,7 +102,7 @@ class Approaches(unittest.TestCase):
     def test_who_has_to_stop(self):
         for pace, ways in (([2, 4.15, 0.0], {("a", "b")}), ([], set())):
             mapping = street(a=(0, 1), b=(1, 2), also={"yields": [[1, [[0, 0, 1]], [], pace]]})
-            self.assertEqual(ways_that_stop(mapping), ways)
+            self.assertEqual(movements_that_stop(mapping), ways)
 
 
 class Standing(unittest.TestCase):
@@ -118,10 +118,10 @@ class Standing(unittest.TestCase):
 class Definitions(unittest.TestCase):
     def test_minor_streets_that_wait_for_each_other(self):
         for left, hours, found in ((60, 1, ["C"]), (20, 1, []), (60, 4, []), (0, 1, [])):
-            self.assertEqual(facing(*cross(left), hours), found, (left, hours))
+            self.assertEqual(junctions_with_facing_streets(*cross(left), hours), found, (left, hours))
         # Where vehicles from the east turn right, and need not wait, theirs is no minor street.
         mapping, plans = cross(60)
-        self.assertEqual(facing(mapping, [*plans, (2, 5)], 1), [])
+        self.assertEqual(junctions_with_facing_streets(mapping, [*plans, (2, 5)], 1), [])
 
     def test_turns(self):
         north = [(0, 0), (0, 10)]
@@ -164,7 +164,8 @@ class Definitions(unittest.TestCase):
 
     def test_several_movements_together(self):
         """10 vehicles that lose 20 s and 30 that lose 40 s; errors of independent means."""
-        made = together([Losses(10, 20.0, 10.0, 1.0, 4.0), Losses(30, 40.0, 30.0, 2.0, 1.0), Losses(0, 0.0, 0.0, 0.0)])
+        parts = Losses(10, 20.0, 10.0, 1.0, 4.0), Losses(30, 40.0, 30.0, 2.0, 1.0), Losses(0, 0.0, 0.0, 0.0)
+        made = weighted_mean_losses(parts)
         self.assertEqual((made.vehicles, made.delay, made.stood, made.stops), (40, 35.0, 25.0, 1.75))
         self.assertAlmostEqual(made.error, (40**2 + 30**2) ** 0.5 / 40)
 
@@ -173,10 +174,10 @@ class Definitions(unittest.TestCase):
 
     def test_greens(self):
         greens = Greens(map_from("", MAP), [[0, SIGNAL]])
-        self.assertEqual([greens.at(0, 0, step)[0] for step in (4, 5, 9, 10)], [set(), {1}, {1}, set()])
+        self.assertEqual([greens.green_and_cycle_at(0, 0, step)[0] for step in (4, 5, 9, 10)], [set(), {1}, {1}, set()])
         self.assertEqual(greens.begin_of(0, 0, 17), 15)
         self.assertIsNone(greens.begin_of(0, 0, 12))
-        self.assertIsNone(greens.at(1, 0, 3)[0])
+        self.assertIsNone(greens.green_and_cycle_at(1, 0, 3)[0])
 
     def test_plans_one_after_another(self):
         """As of a light that detectors drive: red from 0 s, green from 4 s, red from 9 s and green from 12 s on. A plan
@@ -184,13 +185,13 @@ class Definitions(unittest.TestCase):
         parts = [(0, []), (4, [[0, 0, 1]]), (9, []), (12, [[0, 0, 1]])]
         plans = [[clock, {**SIGNAL, "offset": -clock % 600, "phases": [[600, green]]}] for clock, green in parts]
         greens = Greens(map_from("", MAP), plans[1:])
-        self.assertEqual([greens.at(0, 0, step)[0] for step in (3, 4, 8, 9, 11, 12, 99)],
+        self.assertEqual([greens.green_and_cycle_at(0, 0, step)[0] for step in (3, 4, 8, 9, 11, 12, 99)],
                          [None, {1}, {1}, set(), set(), {1}, {1}])
         self.assertEqual((greens.begin_of(0, 0, 8), greens.begin_of(0, 0, 20)), (None, 12))
         # Of the queues those at the begins of greens count, 4 and 12 s, not one of each plan.
         mapping = map_from("", MAP)
         measures = Measures(mapping, approaches_of(mapping), plans, 0, [[1, *plan] for plan in PLANS], passages(FRAMES))
-        self.assertEqual(measures.queues((0, 0), 0, 10), [0.0, 12.5])
+        self.assertEqual(measures.longest_queues((0, 0), 0, 10), [0.0, 12.5])
 
     def test_saturation_headways(self):
         """Ten vehicles pass from step 5 on: the first four in every third step, the others in every second."""
@@ -264,7 +265,7 @@ class ByHand(unittest.TestCase):
 
     def test_queues(self):
         """Of one cycle of 10 steps: at clock 7 the second vehicle has stood for two."""
-        self.assertEqual(self.measures.queues((0, 0), 0, 10), [12.5])
+        self.assertEqual(self.measures.longest_queues((0, 0), 0, 10), [12.5])
 
     def test_a_second_of_standing_is_no_stop(self):
         frames = [
@@ -291,7 +292,7 @@ class ByHand(unittest.TestCase):
 
 class Sampling(unittest.TestCase):
     def test_moments(self):
-        found = moments(0, 1800)
+        found = clocks_of_looks(0, 1800)
         self.assertEqual(len(found), 2 * LOOKS)
         part = 900 / LOOKS
         self.assertEqual([int((clock - 1) // part) for clock in found], list(range(2 * LOOKS)))
@@ -307,12 +308,14 @@ class Sampling(unittest.TestCase):
         made = Sampled(mapping, approaches_of(mapping), run, Ends([10, 12, 12]), 20)
         for clock, lanes in [*FRAMES, *((clock, []) for clock in range(11, 21))]:
             made.see({"clock": clock, "lanes": lanes})
-        lost = made.finish().interval(0, 20).lost["a", "b"]
+        made.add_ends_and_stops()
+        lost = made.interval(0, 20).lost["a", "b"]
         self.assertEqual((lost.vehicles, lost.stood, lost.stops), (2, 2.5, None))
         self.assertAlmostEqual(lost.delay, 2 + STOP_LOSS[0] * 0.5 / (1 - 360 / 2400))
         # With a stop of 2 s of one of both, at which it stood for 3.
         made.ends = Ends([], {0: [Dwell(0, 4, 6, 3)]})
-        less = made.finish().interval(0, 20).lost["a", "b"]
+        made.add_ends_and_stops()
+        less = made.interval(0, 20).lost["a", "b"]
         self.assertEqual(less.stood, 1.0)
         self.assertAlmostEqual(less.delay, lost.delay - 1)
 

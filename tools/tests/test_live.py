@@ -7,7 +7,7 @@ import unittest
 from pages import LiveCase, PageCase, needs_driver, needs_selenium
 from support import BUILT_PAGE, MAP, PAGE_MODULE, PROGRAM, needs_page_module, needs_page_program, needs_simulator
 from streetsim.live.bridge import MOST_LINE
-from streetsim.live.page import data_of, page_of
+from streetsim.live.page import live_page, page_data
 from streetsim.model.mapping import read_map
 
 # Changes of a page by its buttons: each that was not refused counts.
@@ -33,7 +33,7 @@ for (let i = 0; changes() < count && i < 3 * count; i++) await changeOnce(i); };
 
 class Data(LiveCase):
     def test_what_a_page_knows(self):
-        data = data_of(self.run_file, self.mapping)
+        data = page_data(self.run_file, self.mapping)
         self.assertEqual(
             [(link["name"], link["begin"], link["end"], link["cells"]) for link in data["links"]],
             [("a", 0, 1, 10), ("b", 1, 2, 10)],
@@ -45,11 +45,11 @@ class Data(LiveCase):
         """Those of the map: a junction goes by its own name, by its streets, or by its id."""
         names = {"edges": {"a": "Hill Street", "b": "Market Street"}, "junctions": {"A": "Old Gate"}}
         named = read_map(self.write("named.json", json.dumps({**MAP, "names": names})))
-        data = data_of(self.run_file, named, map_path=self.folder / "named.json")
+        data = page_data(self.run_file, named, map_path=self.folder / "named.json")
         self.assertEqual([link["street"] for link in data["links"]], ["Hill Street", "Market Street"])
         streets = ["Old Gate", "Hill Street / Market Street", "Market Street"]
         self.assertEqual([node["name"] for node in data["nodes"]], streets)
-        self.assertEqual([node["name"] for node in data_of(self.run_file, self.mapping)["nodes"]], ["A", "B", "C"])
+        self.assertEqual([node["name"] for node in page_data(self.run_file, self.mapping)["nodes"]], ["A", "B", "C"])
 
     def test_a_map_of_another_run(self):
         path = self.write("other.json", json.dumps({**MAP, "links": MAP["links"][:1]}))
@@ -234,7 +234,7 @@ class Page(PageCase):
 
     def test_a_browser_that_lacks_something_is_told_what(self):
         page = self.folder / "page.html"
-        page.write_bytes(page_of(self.run_file, self.mapping, b"never compiled"))
+        page.write_bytes(live_page(self.run_file, self.mapping, b"never compiled"))
         for taken, named in (
             (
                 "delete WebAssembly.Suspending",

@@ -18,11 +18,11 @@ from test_rounds import junction, routes
 from test_works import fan, flows
 from streetsim.base import limits
 from streetsim.base.files import Fault
-from streetsim.base.serving import serving
+from streetsim.base.serving import serving_client
 from streetsim.live.bridge import Bridge
 from streetsim.live.engine import Engine
 from streetsim.live.joining import Joining
-from streetsim.live.page import data_of, page_of
+from streetsim.live.page import live_page, page_data
 from streetsim.model.mapping import read_map
 from streetsim.model.runs import read_run, read_with_map
 from streetsim.run.rounds import giving_way
@@ -346,12 +346,12 @@ class Joined(ImportCase):
         engines = [Engine(PAGE_PROGRAM, lines) for _ in range(2)]
         with Bridge(engines, page, join=joining.join) as bridge:
             bridge.join_lanes(["a_0"])
-            replies = engines[0].begin()
+            replies = engines[0].begin_run()
             self.assertEqual(json.loads(replies[0])["links"], 4)
             self.assertNotEqual(bridge.page, page)
             with self.assertRaisesRegex(Fault, "no edge or lane 'x'"):
                 bridge.join_lanes(["x"])
-            self.assertEqual(engines[0].begin(), replies)
+            self.assertEqual(engines[0].begin_run(), replies)
         for engine in engines:
             engine.close()
 
@@ -369,16 +369,16 @@ class GivingWay(ImportCase):
         self.tool("import", *words, "-o", run, "--map", mapped)
         read = read_with_map(run, mapped)
         settings = Settings(limits.CLOCK, rescue=0)
-        wanted, _ = giving_way(*read, settings, 2, partial(serving, PAGE_PROGRAM, run), lambda *_: None)
+        wanted, _ = giving_way(*read, settings, 2, partial(serving_client, PAGE_PROGRAM, run), lambda *_: None)
         self.assertGreater(len(wanted.timed), 1)
         joining = Joining(*read, mapped, rounds=2, program=PAGE_PROGRAM)
-        made, mapping, told = joining.giving_way(*joining.made())
+        made, mapping, told = joining.giving_way(*joining.joint_run())
         sent = [[(at, line.command) for at, line in one.timed] for one in (made, wanted)]
         self.assertEqual(*sent)
         self.assertIn("1 junctions without a light give way", told[0])
         [node] = {one.node for one in mapping.yields}
-        self.assertEqual(data_of(made, mapping)["giving"], [node])
-        self.assertEqual(data_of(*joining.made()[:2])["giving"], [])
+        self.assertEqual(page_data(made, mapping)["giving"], [node])
+        self.assertEqual(page_data(*joining.joint_run()[:2])["giving"], [])
 
 
 @needs_simulator
@@ -388,11 +388,11 @@ class GivingWay(ImportCase):
 class OneFile(HandCase):
     def test_by_hand(self):
         page = self.folder / "page.html"
-        page.write_bytes(page_of(self.run_file, self.mapping, PAGE_MODULE.read_bytes()))
+        page.write_bytes(live_page(self.run_file, self.mapping, PAGE_MODULE.read_bytes()))
         with self.browser() as browser:
             self.check_all(browser, page.as_uri())
             self.check_wave(browser)
-            page.write_bytes(page_of(*self.without_light(), PAGE_MODULE.read_bytes()))
+            page.write_bytes(live_page(*self.without_light(), PAGE_MODULE.read_bytes()))
             self.check_junction(browser, page.as_uri())
 
 

@@ -17,7 +17,10 @@ from pages import LiveCase
 from support import PROGRAM, TOOLS, needs_package, needs_simulator
 from test_page_works import LIVE, NODE, in_node
 from streetsim.base.client import Client
-from streetsim.live.page import data_of, own_lines
+from streetsim.base.files import Fault
+from streetsim.live.kept import KeptEngine
+from streetsim.live.page import own_lines, page_data
+from streetsim.model.runs import read_run
 
 STEP, COUNT = '{"cmd":"advance","steps":1}', '{"cmd":"count"}'
 CLOSE = '{"cmd":"close","link":1,"lane":0,"first":4,"last":5}'
@@ -98,7 +101,7 @@ class KeptCase(LiveCase):
 class Script(KeptCase):
     def page(self, *deeds):
         """What the page's own script knows after it has gone on and done something."""
-        data = data_of(self.run_file, self.mapping, kept=True)
+        data = page_data(self.run_file, self.mapping, kept=True)
         given = {"address": self.address.geturl(), "data": data, "deeds": deeds}
         return in_node(SCRIPT, given, BROWSER, (LIVE / "engines.js").read_text(encoding="utf-8"))
 
@@ -246,6 +249,31 @@ class Kept(KeptCase):
         done = subprocess.run(self.command(*words), capture_output=True, text=True, timeout=30, check=False)
         self.assertEqual((done.returncode, done.stderr.count("\n")), (2, 1), done.stderr)
         self.assertIn(fault, done.stderr)
+
+    def test_a_session_that_is_refused_leaves_the_file_free(self):
+        run = own_lines(read_run(str(self.run_path)))
+        self.file.write_text('{"cmd":"load"}\n')
+        try:
+            KeptEngine(PROGRAM, run, self.file, 0)
+        except Fault as fault:
+            refused = fault  # which holds the engine
+        self.assertIn("line 1 is not of this run", str(refused))
+        self.file.unlink()
+        engine = KeptEngine(PROGRAM, run, self.file, 0)
+        self.addCleanup(engine.close)
+        with self.assertRaisesRegex(Fault, "nothing is running"):
+            engine.ask([b'{"cmd":"count"}\n'])
+        self.assertEqual(len(engine.begin_run()), len(run))
+
+    def test_notes_that_are_spoilt(self):
+        self.file.with_name("day.jsonl.page").write_text("{changes\n")
+        self.refused("--keep", self.file, fault="day.jsonl.page: not JSON")
+
+    def test_nothing_was_begun_anew(self):
+        self.do()
+        told = json.loads(self.post("settle/0", "[]", 500))["fault"]
+        self.assertIn("day.jsonl: no session was begun anew", told)
+        self.assertEqual(self.known(), {"changes": [WORKS], "clock": 5})
 
     def test_what_is_refused(self):
         self.refused("--keep", self.folder / "no/day", fault="No such file or directory")

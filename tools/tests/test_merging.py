@@ -8,7 +8,7 @@ import unittest
 from support import PROGRAM, TOOLS, Case, needs_package, needs_simulator
 from streetsim.client import Client, Lane
 from streetsim.works.merges import Merges
-from streetsim.works.merging import AHEAD, BEHIND, EVERY, MOST_HELD, PATIENCE, Change, Merging, Place, Seen, Side
+from streetsim.works.merging import AHEAD, BEHIND, EVERY, MOST_WAIT, PATIENCE, Change, MergePoint, Merging, Seen, Side
 
 NODE = shutil.which("node")
 WORKS = (40, 49)
@@ -37,7 +37,7 @@ class Turns(unittest.TestCase):
 
     def told(self, merging, clock, closed, other):
         beside = [(min(cells), max(cells)) for cells in [merging.held[1]] if cells]
-        return merging.told(clock, sides(closed, other, beside))
+        return merging.changes_by_turns(clock, sides(closed, other, beside))
 
     def held(self, closed=((39, 0),)):
         """Merging that holds the other lane since second 10."""
@@ -55,16 +55,16 @@ class Turns(unittest.TestCase):
 
     def test_it_is_opened_when_nobody_is_beside_them(self):
         merging, _ = self.held()
-        self.assertEqual(merging.seconds(), 1)
+        self.assertEqual(merging.seconds_to_next_look(), 1)
         self.assertEqual(self.told(merging, 11, [(39, 0)], [(39 + AHEAD, 2)]), [])
         beside = [(39 + AHEAD + 1, 2), (32, 0)]
         self.assertEqual(self.told(merging, 12, [(39, 0)], beside), [Change("reopen", 1, 33, 39)])
-        self.assertEqual(merging.seconds(), EVERY)
+        self.assertEqual(merging.seconds_to_next_look(), EVERY)
 
     def test_it_is_opened_where_they_do_not_drive_out(self):
         merging, _ = self.held()
-        self.assertEqual(self.told(merging, MOST_HELD, [(39, 0)], [(38, 0)]), [])
-        self.assertEqual(self.told(merging, MOST_HELD + 1, [(39, 0)], [(38, 0)]), [Change("reopen", 1, 33, 39)])
+        self.assertEqual(self.told(merging, MOST_WAIT, [(39, 0)], [(38, 0)]), [])
+        self.assertEqual(self.told(merging, MOST_WAIT + 1, [(39, 0)], [(38, 0)]), [Change("reopen", 1, 33, 39)])
 
     def test_it_is_opened_where_nobody_stands_first_any_more(self):
         merging, _ = self.held()
@@ -74,29 +74,29 @@ class Turns(unittest.TestCase):
         merging = Merging(60)
         for clock, car in ((0, 1), (9, 2), (18, 2)):
             lanes = [Side([Seen(car, 39, 0)], [WORKS]), Side([], [])]
-            self.assertEqual(merging.told(clock, lanes), [])
-        self.assertEqual(len(merging.told(19, lanes)), 1)
+            self.assertEqual(merging.changes_by_turns(clock, lanes), [])
+        self.assertEqual(len(merging.changes_by_turns(19, lanes)), 1)
 
     def test_long_vehicles_are_beside_and_stand_with_all_their_cells(self):
         merging = Merging(60)
         lanes = [Side([Seen(1, 39, 0, 3)], [WORKS]), Side([Seen(2, 44, 0, 3)], [])]
-        merging.told(0, lanes)
-        self.assertEqual(merging.told(10, lanes), [Change("close", 1, 37 - BEHIND, 39)])
+        merging.changes_by_turns(0, lanes)
+        self.assertEqual(merging.changes_by_turns(10, lanes), [Change("close", 1, 37 - BEHIND, 39)])
         lanes = [lanes[0], Side(lanes[1].vehicles, [(31, 39)])]
-        self.assertEqual(merging.told(11, lanes), [Change("reopen", 1, 31, 39)])
+        self.assertEqual(merging.changes_by_turns(11, lanes), [Change("reopen", 1, 31, 39)])
 
     def test_end_leaves_nothing_of_its_own_closed(self):
         merging, _ = self.held()
-        self.assertEqual(merging.end(), [Change("reopen", 1, 33, 39)])
-        self.assertEqual((merging.end(), merging.seconds()), ([], EVERY))
+        self.assertEqual(merging.reopening_changes(), [Change("reopen", 1, 33, 39)])
+        self.assertEqual((merging.reopening_changes(), merging.seconds_to_next_look()), ([], EVERY))
 
     def test_where_one_may_merge(self):
-        places = lambda *closed: list(Merging(100).places(closed))  # noqa: E731
-        self.assertEqual(places([(30, 39)], [(60, 69)]), [Place(0, 0, 30), Place(1, 40, 60)])
+        places = lambda *closed: list(Merging(100).merge_points(closed))  # noqa: E731
+        self.assertEqual(places([(30, 39)], [(60, 69)]), [MergePoint(0, 0, 30), MergePoint(1, 40, 60)])
         self.assertEqual(places([(30, 39)], [(20, 35)]), [], "no way through")
         self.assertEqual(places([(30, 39)], [(30, 39)]), [], "closed on both lanes")
         self.assertEqual(places([(0, 9)], []), [], "works at the link's begin")
-        self.assertEqual(places([(10, 19), (50, 59)], []), [Place(0, 0, 10), Place(0, 20, 50)])
+        self.assertEqual(places([(10, 19), (50, 59)], []), [MergePoint(0, 0, 10), MergePoint(0, 20, 50)])
 
 
 def session(draws):
@@ -107,14 +107,14 @@ def session(draws):
         clock += draws.choice((1, 1, 5))
         if turn == 0 or draws.random() < 0.05:
             command = closing(draws, closed)
-            own.before(command)
-            own.done(clock, command)
+            own.commands_before(command)
+            own.note_sent(clock, command)
             events.append({"clock": clock, "command": command})
             continue
         standing = [vehicles(draws, closed[lane]) if draws.random() < 0.15 else standing[lane] for lane in (0, 1)]
         lanes = [{"cells": standing[lane], "closed": shut(own, lane, closed[lane])} for lane in (0, 1)]
-        for link in own.due(clock):
-            own.told(clock, link, tuple(lane_of(lane) for lane in lanes))
+        for link in own.due_links(clock):
+            own.commands_by_turns(clock, link, tuple(lane_of(lane) for lane in lanes))
         events.append({"clock": clock, "lanes": lanes})
     return {"cells": [[0, 60], [7, 30]], "events": events}
 
@@ -158,12 +158,13 @@ def said(session):
     merges, found = Merges(dict(session["cells"])), []
     for event in session["events"]:
         if "command" in event:
-            found.append(merges.before(event["command"]))
-            merges.done(event["clock"], event["command"])
+            found.append(merges.commands_before(event["command"]))
+            merges.note_sent(event["clock"], event["command"])
         else:
             lanes = tuple(map(lane_of, event["lanes"]))
-            found.append([merges.told(event["clock"], link, lanes) for link in merges.due(event["clock"])])
-        found.append(merges.next())
+            clock = event["clock"]
+            found.append([merges.commands_by_turns(clock, link, lanes) for link in merges.due_links(clock)])
+        found.append(merges.next_clock())
     return found
 
 
@@ -192,12 +193,12 @@ class InTheSimulator(unittest.TestCase):
                 sim.enter([0], depart // 2 % 2, depart)
             merges, sent, since, longest = Merges({0: 80} if closing else {}), [], {}, 0
             sim.ask("close", link=0, lane=0, first=50, last=60)
-            merges.done(0, {"cmd": "close", "link": 0, "lane": 0, "first": 50, "last": 60})
+            merges.note_sent(0, {"cmd": "close", "link": 0, "lane": 0, "first": 50, "last": 60})
             for clock in range(1, until):
                 sim.advance(1)
                 lanes = tuple(sim.lane(0, lane) for lane in (0, 1))
-                for link in merges.due(clock):
-                    for command in merges.told(clock, link, lanes):
+                for link in merges.due_links(clock):
+                    for command in merges.commands_by_turns(clock, link, lanes):
                         sim.ask(command.pop("cmd"), **command)
                         sent.append((clock, command))
                 standing = {(car, cell) for car, cell, speed, *_ in lanes[0].cells if cell < 50 and not speed}

@@ -9,8 +9,8 @@ from streetsim.model.folder import read_folder
 from streetsim.model.mapping import read_map
 from streetsim.model.names import Names, read_own, wind
 from streetsim.model.tables import QUEUES, write_table
-from streetsim.pictures.playing import data_of
-from streetsim.results.series import crossed, longest_queues
+from streetsim.pictures.playing import player_data
+from streetsim.results.series import junction_name_on_path, longest_queues
 
 # A cross, y to the north: Hill Street from the north to the south, Market Street to the east, no name to the west.
 EDGES = (
@@ -138,12 +138,12 @@ class Written(Crossing):
         """A path along Hill Street crosses Market Street; queues and the player's streets go by their names."""
         folder = read_folder(str(self.out))
         names = Names(folder.mapping)
-        self.assertEqual(crossed(names, "M", ["n", "s"]), "Market Street")
-        self.assertEqual(crossed(names, "W", ["n", "s"]), "W")
+        self.assertEqual(junction_name_on_path(names, "M", ["n", "s"]), "Market Street")
+        self.assertEqual(junction_name_on_path(names, "W", ["n", "s"]), "W")
         rows = [(10, "n", 0, 2, 15.0, "stop line"), (10, "w", 0, 2, 9.0, "stop line")]
         write_table(f"{self.out}/queues.csv", QUEUES, rows)
         self.assertEqual([lane for lane, _ in longest_queues(folder, 9)[0]], ["Hill Street n_0", "w_0"])
-        shown = [link["name"] for link in data_of(folder, 0, 100)["links"]]
+        shown = [link["name"] for link in player_data(folder, 0, 100)["links"]]
         self.assertEqual(sorted(shown), ["Hill Street", "Hill Street", "Market Street", "i", "w"])
 
     def test_the_page(self):
@@ -156,16 +156,16 @@ class Written(Crossing):
 class Exported(Crossing):
     def test_properties(self):
         """By the functions of the export, without pyproj."""
-        from streetsim.gis.exporting import named, of_edge
+        from streetsim.gis.exporting import edge_properties, name_property
 
         mapping = read_map(self.imported()[1])
         names = Names(mapping)
-        self.assertEqual(of_edge(mapping, "n") | named("street", names.street("n"), names), {
+        self.assertEqual(edge_properties(mapping, "n") | name_property("street", names.street("n"), names), {
             "name": "n", "from": "N", "to": "M", "lanes": 1, "metres": 195.0, "street": "Hill Street",
         })
-        self.assertEqual(named("street", names.street("w"), names), {"street": None})
+        self.assertEqual(name_property("street", names.street("w"), names), {"street": None})
         mapping.names = {}
-        self.assertEqual(named("street", "", Names(mapping)), {})
+        self.assertEqual(name_property("street", "", Names(mapping)), {})
 
 
 if __name__ == "__main__":

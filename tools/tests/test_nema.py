@@ -11,9 +11,9 @@ from streetsim.actuated.driver import present_by
 from streetsim.actuated.kept import Area
 from streetsim.actuated.lights import driven_lights
 from streetsim.actuated.nema import Nema
-from streetsim.actuated.ring_phases import GREEN, YELLOW, RingPhase, Rings, together
-from streetsim.actuated.rings import barriers_of, digits, phases_of
-from streetsim.actuated.showing_rings import cycle_of, of_green
+from streetsim.actuated.ring_phases import GREEN, YELLOW, RingPhase, Rings, letters_together
+from streetsim.actuated.rings import barriers_of, digits, phases_with_areas
+from streetsim.actuated.showing_rings import cycle_of, green_in_remaining_seconds
 from streetsim.base.client import Lane
 from streetsim.base.report import Report
 from streetsim.importing.convert import convert
@@ -40,12 +40,12 @@ def drive(program, seen, until, calls=()):
     """The greens that ended until a second: (phase, begin, seconds, why). seen: by area the seconds in which somebody
     is on it; calls: by second the phases that buses call from then on."""
     light, calls = Nema(program), dict(calls)
-    light.start(0)
+    light.begin_at(0)
     for clock in range(1, until + 1):
         if clock in calls:
             light.call(clock, calls[clock])
         if light.due <= clock:
-            light.look(clock, lambda area, now=clock: now in seen.get(area, ()))
+            light.moves_on(clock, lambda area, now=clock: now in seen.get(area, ()))
     return [tuple(row) for row in light.ended]
 
 
@@ -124,23 +124,23 @@ class Logic(unittest.TestCase):
     def test_what_two_phases_show_together(self):
         program = rings()
         first, left = program.phase(2), program.phase(1)
-        self.assertEqual(together([(first, GREEN), (program.phase(6), GREEN)]), "GrGg")
-        self.assertEqual(together([(first, YELLOW), (program.phase(6), GREEN)]), "yrGy")
+        self.assertEqual(letters_together([(first, GREEN), (program.phase(6), GREEN)]), "GrGg")
+        self.assertEqual(letters_together([(first, YELLOW), (program.phase(6), GREEN)]), "yrGy")
         # Signal 3 is green in phase 1 first: phase 1 alone says what it shows, also in its yellow.
-        self.assertEqual(together([(left, YELLOW), (first, GREEN)])[3], "y")
+        self.assertEqual(letters_together([(left, YELLOW), (first, GREEN)])[3], "y")
 
     def test_states_of_sumo(self):
         with open(DATA / "nema.json", encoding="utf-8") as file:
             kept = json.load(file)
         program, number = kept["program"], {name: at for at, name in enumerate(kept["lanes"])}
         orders = tuple(digits(program["parameters"][f"ring{ring}"]) for ring in (1, 2))
-        light = Nema(Rings(phases_of(program, number), orders, barriers_of(program["parameters"], orders)))
-        light.start(0)
+        light = Nema(Rings(phases_with_areas(program, number), orders, barriers_of(program["parameters"], orders)))
+        light.begin_at(0)
         seen = chain.from_iterable(repeat(lanes, count) for lanes, count in kept["seen"])
         states = chain.from_iterable(repeat(state, count) for state, count in kept["states"])
         for clock, (lanes, state) in enumerate(zip(seen, states, strict=True)):
             if light.due <= clock:
-                light.look(clock, lambda area: lanes[area] == "1")
+                light.moves_on(clock, lambda area: lanes[area] == "1")
             self.assertEqual(light.state(), state, clock)
         self.assertGreater(len(light.ended), 50)
 
@@ -155,8 +155,8 @@ class Showing(unittest.TestCase):
 
     def test_a_green_goes_on_where_it_is_and_stays(self):
         shown = [True, True, False, True, False, False]
-        self.assertEqual(of_green("GGGGrr", shown, "G", 1), [True, False, True])
-        self.assertEqual(of_green("GGGGrr", shown, "G", 9), [True])
+        self.assertEqual(green_in_remaining_seconds("GGGGrr", shown, "G", 1), [True, False, True])
+        self.assertEqual(green_in_remaining_seconds("GGGGrr", shown, "G", 9), [True])
 
 
 def street(kind="NEMA", parameters=""):
@@ -186,6 +186,8 @@ class Runs(Case):
         self.assertEqual(self.lights().driven[0].areas, (Area(0, 0, 24, 26),))
         shorter = '<param key="detector-length" value="10"/>'
         self.assertEqual(self.lights(shorter).driven[0].areas, (Area(0, 0, 25, 26),))
+        longer = '<param key="detector-length" value="1e308"/>'
+        self.assertEqual(self.lights(longer).driven[0].areas, (Area(0, 0, 0, 26),), "the whole lane")
 
     def test_parameters_that_change_its_phases_are_told(self):
         for parameter, why in (
@@ -193,7 +195,10 @@ class Runs(Case):
             ('key="crossPhaseSwitching:2" value="4"', "crossPhaseSwitching:2=4 is not driven here"),
             ('key="ring1" value="0,3,0,4"', "they have no phase 3, which SUMO asks for"),
             ('key="barrierPhases" value="2,6"', "both their barriers are on one side, which SUMO refuses"),
+            ('key="barrier2Phases" value="0,6"', "their barriers do not have a phase of each ring"),
             ('key="a_0" value="mine"', "the map has no laneAreaDetector mine"),
+            ('key="detector-length" value="inf"', "'inf' of their parameters is no number"),
+            ('key="detector-length" value="nan"', "'nan' of their parameters is no number"),
         ):
             with self.subTest(why):
                 found = self.lights(f"<param {parameter}/>")

@@ -82,10 +82,10 @@ class ByHand(Case):
         super().setUp()
         paths = {kind: str(self.folder / f"{kind}.xml") for kind in KINDS}
         with Outputs(paths, map_from("", MAPPING), 0.0, period=4) as outputs:
-            outputs.expect(0, "v", 0)
-            outputs.expect(1, "w", 0)
+            outputs.expect_vehicle(0, "v", 0)
+            outputs.expect_vehicle(1, "w", 0)
             for clock, lanes, arrived in FRAMES:
-                outputs.step(clock, lanes, arrived)
+                outputs.add_second(clock, lanes, arrived)
 
     def rows(self, kind, tag):
         root = ElementTree.parse(self.folder / f"{kind}.xml").getroot()
@@ -104,9 +104,9 @@ class ByHand(Case):
         """In second 2 it stands at a bus stop for a second."""
         with Outputs({"tripinfo": str(self.folder / "tripinfo.xml")}, map_from("", MAPPING), 0.0) as outputs:
             outputs.dwells[0] = [Dwell(0, 2, 3, 1)]
-            outputs.expect(0, "v", 0)
+            outputs.expect_vehicle(0, "v", 0)
             for clock, lanes, arrived in FRAMES:
-                outputs.step(clock, lanes, arrived)
+                outputs.add_second(clock, lanes, arrived)
         [row] = self.rows("tripinfo", "tripinfo")
         self.assertEqual([float(row[name]) for name in ("stopTime", "waitingTime", "timeLoss")], [1, 1, 2])
         self.assertEqual(row["waitingCount"], "1")
@@ -127,9 +127,19 @@ class ByHand(Case):
         """Who is taken out of a junction looks as if it drove on."""
         with Outputs({"summary": f"{self.folder}/x.xml"}, map_from("", MAPPING), 0.0, rescued=[5]) as outputs:
             for clock, lanes, arrived in FRAMES:
-                outputs.step(clock, lanes, arrived)
+                outputs.add_second(clock, lanes, arrived)
         self.assertEqual([row["teleports"] for row in self.rows("x", "step")], [*"00000111"])
         self.assertEqual({row["teleports"] for row in self.rows("summary", "step")}, {"0"})
+
+    def test_who_is_taken_out_has_not_passed_the_loop(self):
+        """Vehicle 0 stood on it and is on the next edge a second later, 1 stood before it and is nowhere; 2 arrives."""
+        paths = {kind: f"{self.folder}/{kind}.xml" for kind in ("e1", "edgedata")}
+        with Outputs(paths, map_from("", MAPPING), 0.0) as outputs:
+            outputs.add_second(1, [[0, 0, [[2, 3, 2], [0, 3, 0], [1, 2, 0]], []]], ())
+            outputs.add_second(2, [[1, 0, [[0, 0, 0]], []]], (2,))
+        [row] = self.rows("e1", "interval")
+        self.assertEqual((row["nVehContrib"], row["speed"]), ("1", "15.00"))
+        self.assertEqual(self.rows("edgedata", "edge")[0]["teleported"], "2")
 
     def test_fcd(self):
         times = ElementTree.parse(self.folder / "fcd.xml").getroot()
@@ -173,7 +183,7 @@ class ByHand(Case):
         before = sorted(self.folder.iterdir())
         paths = {"fcd": str(self.folder / "y.xml")}
         with self.assertRaises(ZeroDivisionError), Outputs(paths, map_from("", MAPPING), 0.0) as outputs:
-            outputs.step(1, [], ())
+            outputs.add_second(1, [], ())
             raise ZeroDivisionError
         self.assertEqual(sorted(self.folder.iterdir()), before)
 
@@ -188,8 +198,9 @@ class Faults(Case):
         run = self.write("x.jsonl", json.dumps({"cmd": "load", **NUMBERED}))
         mapped = self.write("x.json", json.dumps(MAP))
         words = (run, "--map", mapped, "--until", 10, "--out", self.folder / "out", "--program", "/bin/true")
-        told = self.tool("run", *words, "--sumo-output", "e2", status=2)[1]
-        self.assertIn("--sumo-output e2: the map has no laneAreaDetector: import an additional file that has one", told)
+        missing = "--sumo-output e2: the map has no laneAreaDetector: import an additional file that has one"
+        for kinds in ("e2", "fcd,e2,e1"):
+            self.assertIn(missing, self.tool("run", *words, "--sumo-output", kinds, status=2)[1])
         self.assertFalse((self.folder / "out").exists())
 
 
@@ -262,7 +273,7 @@ class OfARun(Case):
     def test_a_folder_with_every_second_gives_the_same(self):
         polled, paths = read_folder(self.base / "polled"), {kind: self.folder / f"{kind}.xml" for kind in KINDS}
         with Outputs(paths, polled.mapping, polled.dawdle / 1000, polled.period) as outputs:
-            outputs.write(polled.trips(), polled.polls())
+            outputs.write_run(polled.trips(), polled.polls())
         for kind, path in paths.items():
             self.assertEqual(path.read_text(), (self.sumo / f"{kind}.xml").read_text(), kind)
 

@@ -6,7 +6,7 @@ import unittest
 
 from support import PROGRAM, TOOLS, Case, needs_package, needs_simulator
 from streetsim.base.client import Client
-from streetsim.live.page import data_of, own_lines
+from streetsim.live.page import own_lines, page_data
 from streetsim.model.mapping import Map, MapLink
 from streetsim.model.runs import Line, Run
 from streetsim.run.record import Recorder, Settings
@@ -108,7 +108,7 @@ class ByHand(Case):
         that is one file."""
         given = {
             "program": PROGRAM, "lines": [line.decode().rstrip("\n") for line in own_lines(run)],
-            "data": data_of(run, mapping, single), "deeds": deeds, "until": until, "stride": stride, "back": back,
+            "data": page_data(run, mapping, single), "deeds": deeds, "until": until, "stride": stride, "back": back,
         }  # fmt: skip
         told = in_node(DRIVE, given)
         return [(clock, command) for clock, command in told["sent"]], told["why"]

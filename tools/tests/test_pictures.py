@@ -11,8 +11,9 @@ from unittest import mock
 from support import DATA, MAP, PROGRAM, Case, needs_package, needs_simulator
 from streetsim.base.files import Fault
 from streetsim.model.folder import read_folder
-from streetsim.model.tables import COUNTS, QUEUES, TRIPS
+from streetsim.model.tables import COUNTS, PHASES, QUEUES, TRIPS
 from streetsim.pictures import ring
+from streetsim.pictures.greens import draw_greens, ended_greens
 from streetsim.results import series
 
 CHROMIUM = shutil.which("chromium") or shutil.which("chromium-browser")
@@ -67,8 +68,26 @@ class Numbers(Given):
             series.trajectories(self.given, ["a", "b"], 0, 10),
             [((1, 7.5), (2, 15.0), 1, 7.5), ((2, 7.5), (3, 15.0), 1, 7.5)],
         )
-        self.assertEqual(series.stretches(self.given, ["a", "b"]), ({0: (0.0, 75.0, 10), 1: (75.0, 75.0, 10)}, 150.0))
-        self.assertEqual(series.reds(self.given, ["a", "b"], 0, 40), [(75.0, 5, 15), (75.0, 25, 35)])
+        self.assertEqual(
+            series.links_and_length(self.given, ["a", "b"]), ({0: (0.0, 75.0, 10), 1: (75.0, 75.0, 10)}, 150.0)
+        )
+        self.assertEqual(series.red_times(self.given, ["a", "b"], 0, 40), [(75.0, 5, 15), (75.0, 25, 35)])
+
+    def test_greens_that_have_ended(self):
+        """Of lights with several greens; yellow, and what the end of the run cut off, is left out."""
+        head, rows = ",".join(PHASES), ["0,L,0,Gr,30,", "0,M,1,yr,3,listed"]
+        self.write("phases.csv", "\n".join([head, *rows, ""]))
+        for lights, told in (
+            ([], "no green had ended when the run did"),
+            (["M"], "no green had ended when the run did"),
+            (["N"], "detectors drive no light 'N' in this run"),
+        ):
+            with self.subTest(lights=lights), self.assertRaisesRegex(Fault, told):
+                draw_greens(None, self.given, lights)
+        self.write("phases.csv", "\n".join([head, *rows, "3,M,2,rG,9,gap", ""]))
+        self.assertEqual([*ended_greens(self.given, [])], ["M"])
+        with self.assertRaisesRegex(Fault, "no green of light 'L' had ended when the run did"):
+            draw_greens(None, self.given, ["M", "L"])
 
     def test_green_band(self):
         """Green 10 of 20 seconds, from 15 of one cycle to 4 of the next: alone the signal's band is its green. A
@@ -79,7 +98,7 @@ class Numbers(Given):
         command = self.given.signals[0][1]
         stops = {gap: [(0.0, 1, [0], [1]), (gap, 1, [0], [1])] for gap in (10.0, 20.0, 23.0)}
         for gap, width in ((10.0, 0), (20.0, 10), (23.0, 7)):
-            with mock.patch.object(series, "stop_lines", return_value=stops[gap]):
+            with mock.patch.object(series, "edge_ends_along", return_value=stops[gap]):
                 self.assertEqual(
                     series.green_band(self.given, ["a", "b"], 0),
                     (width, sum(seconds for seconds, _ in command["phases"])),
@@ -99,7 +118,7 @@ class Numbers(Given):
 
     def test_fundamental(self):
         # 15 % of the time a vehicle of 7.5 m: 20 a kilometre. The short last period and the empty lane are left out.
-        self.assertEqual(series.flows(self.given, []), [(20.0, 360.0)])
+        self.assertEqual(series.counted_densities_and_flows(self.given, []), [(20.0, 360.0)])
 
     def test_fundamental_at_mid_link(self):
         """Cells 3 to 6 of ten are the middle. In a period of two looks vehicle 0 is there once, at 2 cells a
@@ -109,13 +128,13 @@ class Numbers(Given):
         looks = [[[0, 5, 2], [1, 3, 1]], [[0, 7, 2], [1, 6, 0], [2, 2, 1]], [[1, 5, 1]]]
         self.write_polls([{"clock": clock, "lanes": [[0, 0, cells, [], []]]} for clock, cells in enumerate(looks, 1)])
         self.given.period, self.given.made = 2, {"start": 0, "until": 3}
-        self.assertEqual(series.middle_flows(self.given, []), [(50.0, 1350.0)])
-        self.assertEqual(series.middle_flows(self.given, ["b"]), [])
-        self.assertEqual([series.middle(cells) for cells in (1, 2, 3, 10)], [(0, 1), (0, 2), (1, 2), (3, 7)])
+        self.assertEqual(series.middle_densities_and_flows(self.given, []), [(50.0, 1350.0)])
+        self.assertEqual(series.middle_densities_and_flows(self.given, ["b"]), [])
+        self.assertEqual([series.middle_third(cells) for cells in (1, 2, 3, 10)], [(0, 1), (0, 2), (1, 2), (3, 7)])
 
     def test_difference(self):
         # Two of the first curve at 1, one of the second at 2, one of each at 3.
-        self.assertEqual(series.difference([1, 1, 3], [2, 3]), ([1, 2, 3], [2, 1, 1]))
+        self.assertEqual(series.curve_difference([1, 1, 3], [2, 3]), ([1, 2, 3], [2, 1, 1]))
 
     def test_scale(self):
         self.assertEqual(

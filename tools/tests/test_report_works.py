@@ -9,7 +9,8 @@ from streetsim.counts.judging import judged
 from streetsim.counts.reporting import counts_section
 from streetsim.counts.values import Count
 from streetsim.model.tables import EDGES, QUEUES, WORKS, write_table
-from streetsim.reports.works import along, part_of, seen_in, stretches
+from streetsim.base.shapes import point_along
+from streetsim.reports.works import closed_shape, closed_shapes, seen_in
 from streetsim.results.reading import read_runs
 
 PLACE = {"edge": "a", "lane": 0, "from_m": "30.0", "to_m": "60.0"}
@@ -44,11 +45,11 @@ class Works(Given):
 
     def test_where_it_is(self):
         """A third of the way along a line of 75 m is at 25 m; 30 to 60 m of edge a lie on its line."""
-        self.assertEqual(along([(0, 0), (75, 0)], 1 / 3), (25, 0))
-        self.assertEqual(along([(0, 0), (0, 10), (30, 10)], 0.5), (10, 10))
+        self.assertEqual(point_along([(0, 0), (75, 0)], 1 / 3), (25, 0))
+        self.assertEqual(point_along([(0, 0), (0, 10), (30, 10)], 0.5), (10, 10))
         runs = read_runs(str(self.folder / "after"))
-        self.assertEqual(stretches(runs), [part_of(runs.first.mapping, ("a", "0", "30.0", "60.0"))])
-        begin, _, end = stretches(runs)[0]
+        self.assertEqual(closed_shapes(runs), [closed_shape(runs.first.mapping, ("a", "0", "30.0", "60.0"))])
+        begin, _, end = closed_shapes(runs)[0]
         self.assertEqual((round(begin[0]), round(end[0])), (30, 60))
 
     def test_queues_over_time(self):

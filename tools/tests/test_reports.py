@@ -6,14 +6,20 @@ import re
 import shutil
 import subprocess
 import unittest
+from dataclasses import replace
+from importlib.util import find_spec
+from unittest import mock
 
 from support import MAP, PROGRAM, TOOLS, Case, needs_package, needs_simulator
-from streetsim.cli.report import leads_back
+from streetsim.base.files import Fault
+from streetsim.cli import report
+from streetsim.cli.report import path_and_way_back
 from streetsim.junctions.passages import queue_metres
 from streetsim.model.mapping import MapLink
-from streetsim.model.service import COLOURS, LIGHT
+from streetsim.model.names import Names
+from streetsim.model.service import COLOURS, WHITE_LETTERS
 from streetsim.model.tables import APPROACHES, JUNCTIONS, MOVEMENTS, SEEDS, TRIPS, write_table
-from streetsim.reports.comparing import paired, mean_delay
+from streetsim.reports.comparing import difference_of, mean_delays
 from streetsim.reports.drawing import anchor, queue_picture
 from streetsim.results.reading import read_runs
 
@@ -44,12 +50,12 @@ def luminance(colour):
 class Numbers(unittest.TestCase):
     def test_paired_differences(self):
         """Changes of -2, -4 and -3 s: mean -3, deviation 1, quantile of two degrees of freedom 4.303."""
-        one = paired({1: 10.0, 2: 12.0, 3: 11.0, 9: 99.0}, {1: 8.0, 2: 8.0, 3: 8.0})
-        self.assertEqual((one.before, one.after, one.change, one.seeds), (11.0, 8.0, -3.0, 3))
+        one = difference_of({1: 10.0, 2: 12.0, 3: 11.0, 9: 99.0}, {1: 8.0, 2: 8.0, 3: 8.0})
+        self.assertEqual((one.before, one.after, one.change), (11.0, 8.0, -3.0))
         self.assertAlmostEqual(one.half, 4.303 / 3**0.5)
         self.assertTrue(one.is_sure())
-        self.assertEqual(paired({1: 1.0}, {1: 3.0}).told(), "+2.0")
-        self.assertIsNone(paired({1: 1.0}, {2: 1.0}))
+        self.assertEqual(difference_of({1: 1.0}, {1: 3.0}).told(), "+2.0")
+        self.assertIsNone(difference_of({1: 1.0}, {2: 1.0}))
 
     def test_queues(self):
         """Bars of 480 pixels for the longest: 75 of 150 m are 240. A full edge has the gap behind its last vehicle."""
@@ -68,7 +74,7 @@ class Numbers(unittest.TestCase):
         for better, worse in zip("ABCDE", "BCDEF"):
             self.assertGreater(bright[better] / bright[worse], 1.25, worse)
         for letter, light in bright.items():
-            self.assertGreater(1.05 / light if letter in LIGHT else light / 0.05, 4.5, letter)
+            self.assertGreater(1.05 / light if letter in WHITE_LETTERS else light / 0.05, 4.5, letter)
 
     def test_places_in_the_page(self):
         self.assertEqual(anchor('a "1"'), "junction-a-20--22-1-22-")
@@ -116,7 +122,7 @@ class Pages(Given):
         runs = read_runs(str(self.folder / "before"))
         row = runs.rows["movements", 0, 900]["B", "a", "b"]
         self.assertEqual((row.delay, row.letter(), list(runs.folders)), (92.0, "F", [1, 2]))
-        self.assertEqual(mean_delay(runs.rows["junctions", 0, 900].values()), {1: 90.0, 2: 94.0})
+        self.assertEqual(mean_delays(runs.rows["junctions", 0, 900].values()), {1: 90.0, 2: 94.0})
         self.assertEqual((runs.busiest(), runs.mean_trips()), ((0, 900), {1: 101.0, 2: 102.0}))
 
     def test_what_the_page_says(self):
@@ -191,7 +197,33 @@ class Pages(Given):
 
     def test_a_corridor_of_one_way_streets(self):
         """The street of two links has no edge back."""
-        self.assertFalse(leads_back(read_runs(str(self.folder / "before")).first, "a b"))
+        first = read_runs(str(self.folder / "before")).first
+        self.assertEqual(path_and_way_back(first, ["a", "b"]), [["a", "b"]])
+        first.mapping.links.append(replace(first.mapping.links[0], edge="c", begin=1, end=0))
+        first.mapping.links_of["c"] = [2]
+        self.assertEqual(path_and_way_back(first, ["a"]), [["a"], ["c"]])
+
+    @needs_package("python3-matplotlib", find_spec("matplotlib"))
+    def test_a_corridor_has_names_of_ones_own(self):
+        own = self.write("own.csv", "id,name\na,Quay\n")
+        pages = self.folder / "before", "--names", own, "--corridor", "a,b", "-o", self.folder / "x.html"
+        with mock.patch.object(report, "draw_corridor", side_effect=Fault) as drawn, self.assertRaises(Fault):
+            report.main(list(map(str, pages)))
+        self.assertEqual(Names(drawn.call_args[0][1].mapping).street("a"), "Quay")
+
+    def test_two_folders_of_one_name(self):
+        """Both are called by their paths."""
+        for plan in self.plans():
+            (self.folder / f"of-{plan.name}").mkdir()
+            plan.rename(self.folder / f"of-{plan.name}/out")
+        page = self.page(*(self.folder / f"of-{name}/out" for name in ("before", "after"))).read_text()
+        for name in ("before", "after"):
+            self.assertIn(f"<b>{self.folder}/of-{name}/out</b>", page)
+
+    def test_a_table_in_the_place_of_the_page(self):
+        path = self.folder / "x.html"
+        told = self.tool("report", *self.plans(), "-o", path, "--csv", path, status=2)[1]
+        self.assertIn("-o and --csv name the same file", told)
 
     def test_seeds_of_two_runs(self):
         """What an earlier run left in a folder is in no mean: it is named."""
@@ -212,7 +244,7 @@ class Pages(Given):
         text = path.read_text()
         for changed, told in (
             (text.replace("94.0", '"94,0"', 1), "movements.csv: line 2: control_delay_s = '94,0' is no number"),
-            (text[: text.rindex(",94.0")] + "\n", "movements.csv: line 3: control_delay_s = None is no number"),
+            (text[: text.rindex(",94.0")] + "\n", "movements.csv: line 3: expected 21 cells"),
         ):
             path.write_text(changed)
             said = self.tool("report", self.folder / "before", "-o", self.folder / "x.html", status=2)[1]

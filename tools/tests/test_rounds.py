@@ -9,10 +9,15 @@ from io import StringIO
 from unittest import mock
 
 from clusters import ClusterCase, needs_distributed
-from support import PROGRAM, Case, lane, needs_simulator
+from support import MAP, NUMBERED, PROGRAM, Case, lane, needs_simulator
+from streetsim.base.client import Client
 from streetsim.base.files import Fault
+from streetsim.model.mapping import read_map
+from streetsim.model.runs import run_of_texts
 from streetsim.outputs.folder import Making
 from streetsim.pictures.plots import Corridor
+from streetsim.run.rounds import Round
+from streetsim.run.settings import Settings
 from streetsim.scenario import Scenario
 from streetsim.signals import found
 from streetsim.signals.found import Target
@@ -75,6 +80,20 @@ class Rounds(Case):
 
     def setting(self, name="out"):
         return json.loads((self.folder / name / "setting.json").read_text(encoding="utf-8"))
+
+
+class Until(Rounds):
+    def test_a_round_waits_for_who_departs_after_all_have_arrived(self):
+        """The first vehicle is gone at the census of a full minute; of the second, which departs after that, the round
+        must see the passing too. Both need ten seconds and more to the stop line."""
+        lines = [{"cmd": "load", **NUMBERED, "links": [[0, 0, 1, 1, 10, 1], [1, 1, 2, 1, 10, 1]]}]
+        lines += [{"cmd": "enter", "plan": [0, 1], "lane": 0, "depart": depart} for depart in (0, 101)]
+        run, mapping = run_of_texts("run", map(json.dumps, lines)), read_map(self.write("map.json", json.dumps(MAP)))
+        with Client(PROGRAM) as sim:
+            round_ = Round(sim, run, mapping, Settings(1200), mapping.lanes(), lambda *_: None)
+            passed = round_.make_round()
+        self.assertEqual([round(second) // 100 for second, *_ in passed[0, 0]], [0, 1])
+        self.assertEqual(round_.records.clock, 180)
 
 
 class Minor(Rounds):
@@ -257,8 +276,8 @@ class ManyRuns(Many):
             with open(f"{folder.path}/setting.json", encoding="utf-8") as file:
                 drawn.append(json.load(file)["yielding"])
 
-        with mock.patch.multiple(found, drawing=mock.DEFAULT, save=mock.DEFAULT, draw_corridor=draw):
-            found.draw(target, town, town.plan, "x.png")
+        with mock.patch.multiple(found, load_pyplot=mock.DEFAULT, save_picture=mock.DEFAULT, draw_corridor=draw):
+            found.draw_plan(target, target.corridor, town, town.plan, "x.png")
         self.assertEqual((drawn[0]["rounds"], drawn[0]["junctions"]), (2, 1))
         self.assertGreater(drawn[0]["lines"], 0)
 
@@ -290,7 +309,7 @@ class Scripts(Rounds):
 
     def arrival(self, sim):
         """The clock at which the minor vehicle has arrived."""
-        while sim.vehicle.where("s.50").state != "arrived":
+        while sim.vehicle.reply_on("s.50").state != "arrived":
             sim.simulationStep()
         return sim.clock
 
@@ -302,7 +321,7 @@ class Scripts(Rounds):
                 self.assertEqual((sim.yielding.rounds, sim.yielding.junctions), (2, 1))
             with Scenario(*self.files) as sim:
                 sim.simulationStep(self.end - 1)
-                self.assertNotEqual(sim.vehicle.where("s.50").state, "arrived")
+                self.assertNotEqual(sim.vehicle.reply_on("s.50").state, "arrived")
             with Scenario(*self.files, rounds=0) as sim:
                 self.assertLess(self.arrival(sim), 110)
                 self.assertEqual(sim.yielding.lines, 0)

@@ -1,7 +1,9 @@
 """streetsim-route: shortest ways and passing times by hand, an equilibrium that is known, bad input,
 interrupts, equal bytes."""
+import contextlib
 import csv
 import gzip
+import io
 import json
 import math
 import os
@@ -22,17 +24,20 @@ from streetsim.model.mapping import Map, MapLink, read_map
 from streetsim.model.runs import Line, Run, read_run
 from streetsim.model.waiting import Gap
 from streetsim.routes.diverting import Diverted
+from streetsim.routes.job import tell_found
 from streetsim.routes.loading import read_town
-from streetsim.routes.passes import Passes, Sight
-from streetsim.routes.search import Asked, Search, Seen, changes, gap_of, give, is_still, paths_after, steps_of
+from streetsim.routes.link_clocks import LinkClocks, Sight
+from streetsim.routes.search import (
+    Asked, Search, Seen, give_ways, has_stalled, paths_after, relative_gap, those_who_change, trials_of,
+)
 from streetsim.sumo.net import SumoNet
 from streetsim.sumo.network import Options
 from streetsim.ways.costs import Costs, Table, costs_of, flat_costs, nothing_observed
 from streetsim.ways.graph import END, Graph
 from streetsim.ways.minor import Minor
-from streetsim.ways.router import FAR, Found, Router, Wish, parts_of
-from streetsim.ways.seconds import reds
-from streetsim.ways.trips import Trip, read_trips, vehicles_of, write_routes
+from streetsim.ways.router import FAR, Found, Router, Wish, wish_parts
+from streetsim.ways.seconds import red_lengths
+from streetsim.ways.trips import Trip, read_trips, vehicles_from_trips, write_routes
 
 # From a to d by b or by c; from b to c as well. Nobody may go from c to d's twin e.
 GRAPH = Graph(
@@ -84,9 +89,17 @@ class Routing(unittest.TestCase):
         self.assertEqual(router.search(a, d, 100.0)[0], tuple(map(number.get, "acd")))
         self.assertEqual(router.search(a, d, 160.0)[0], path)
         self.assertEqual(router.search(b, d, 100.0)[0], path[1:])
-        met = [router.met(*one) for one in ((path, 100.0), (path, 160.0), (path[1:], 100.0))]
+        met = [router.first_shut(*one) for one in ((path, 100.0), (path, 160.0), (path[1:], 100.0))]
         self.assertEqual(met, [1, None, None])
         self.assertEqual(router.clocks(path, 100.0)[1], 150.0, "who has that way waits")
+
+    def test_one_closure_after_another(self):
+        """Who waits goes on where all is open, not at the end of the first closure, at which the next one has begun."""
+        costs, number = costs_with({way("c", "d"): [30] * 4}), GRAPH.number
+        a, b = number["a"], number["b"]
+        router = Router(GRAPH, costs, {b: [(0, 300), (20, 150), (300, 350)], (a, b): [(340, 400)]})
+        clocks = router.clocks(tuple(map(number.get, "abd")), 100.0)
+        self.assertEqual((clocks[1], router.when_open(10.0, b), router.when_open(400.0, b)), (400.0, 350.0, 400.0))
 
     def test_a_trip_of_one_edge(self):
         router = Router(GRAPH, costs_with({way("a"): [20] * 4}))
@@ -103,7 +116,7 @@ class Routing(unittest.TestCase):
     def test_parts_hold_each_wish_once(self):
         wishes = [Wish(at, 0, at % 3, 0.0, ()) for at in range(10)]
         for count in (1, 2, 4, 20):
-            parts = parts_of(wishes, count)
+            parts = wish_parts(wishes, count)
             self.assertLessEqual(len(parts), count)
             self.assertEqual(sorted(wish.trip for part in parts for wish in part), list(range(10)))
 
@@ -111,9 +124,9 @@ class Routing(unittest.TestCase):
 class Seconds(unittest.TestCase):
     def test_reds_round_a_cycle(self):
         # Green in the seconds 2, 3 and 5 of 8: red for 6, 7, 0, 1, and for 4.
-        self.assertEqual(reds(0b101100, 8), [4, 1])
-        self.assertEqual(reds(0, 8), [8])
-        self.assertEqual(reds(0xFF, 8), [])
+        self.assertEqual(sorted(red_lengths(0b101100, 8)), [1, 4])
+        self.assertEqual(red_lengths(0, 8), [8])
+        self.assertEqual(red_lengths(0xFF, 8), [])
 
     def test_costs_of_what_was_observed(self):
         # Of 5 vehicles on a-b three lost 20 s and two nothing: mean delay of the edge 60 / (5 + 1) = 10 s,
@@ -147,12 +160,12 @@ class Seconds(unittest.TestCase):
 
     def test_who_changes(self):
         found = [Found(at, (0,), 100.0, 100.0 + gain) for at, gain in enumerate((0, 40, 0.4, 10, 20))]
-        self.assertEqual([one.trip for one in changes(found, 0.4)], [1, 4])
-        self.assertEqual([one.trip for one in changes(found, 1.0)], [1, 3, 4])
-        steps = [[one.trip for one in step.trips] for step in steps_of(found, 0.8, 4)]
+        self.assertEqual([one.trip for one in those_who_change(found, 0.4)], [1, 4])
+        self.assertEqual([one.trip for one in those_who_change(found, 1.0)], [1, 3, 4])
+        steps = [[one.trip for one in step.trips] for step in trials_of(found, 0.8, 4)]
         self.assertEqual(steps, [[1, 3, 4], [1, 4], [1]])
-        self.assertAlmostEqual(gap_of(found), 70.4 / 500)
-        self.assertEqual(gap_of([]), 0.0)
+        self.assertAlmostEqual(relative_gap(found), 70.4 / 500)
+        self.assertEqual(relative_gap([]), 0.0)
 
 
 STREET = net(
@@ -187,7 +200,7 @@ class Written(Case):
         stops = {name: [(stop.get("lane"), stop.get("until")) for stop in those] for name, those in made.items()}
         self.assertEqual(stops, {"v": [("b_0", "99")], "t": [], "f.0": [("c_0", "30")], "f.1": [("c_0", "45")]})
         self.assertEqual(report.ignored["accel of vTypes"], 1)
-        self.assertEqual([one.line for one in vehicles_of(trips.all, town.graph)], ["12", "", "", ""])
+        self.assertEqual([one.line for one in vehicles_from_trips(trips.all, town.graph)], ["12", "", "", ""])
 
 
 class Stepping(Search):
@@ -200,16 +213,16 @@ class Stepping(Search):
         self.given = iter(enumerate(seen))
         self.place = 0  # of the step that is best
 
-    def best_of(self, _, steps):
+    def run_best_trial(self, _, steps):
         number, (gap, lacking) = next(self.given)
         step = steps[min(self.place, len(steps) - 1)]
         ways = [(path, 0.0) for path in paths_after(self.trips, step.trips)]
-        give(self.trips, ways)
-        outcome = SimpleNamespace(mean=100.0, arrived=100 - lacking, rescues=0, calls=0, processor=0.0)
+        give_ways(self.trips, ways)
+        outcome = SimpleNamespace(mean=100.0, arrived=100 - lacking, rescues=0, calls=0)
         self.number = number - 1
-        return Seen(ways, [outcome], None, self.ways_of(number), [], gap, lacking), step.part
+        return Seen(ways, [outcome], None, self.ways_of(number), [], gap, lacking), step.fraction
 
-    def searched(self, _):
+    def best_ways(self, _):
         return self.ways_of(self.number)
 
     def ways_of(self, number):
@@ -238,7 +251,7 @@ class Steps(unittest.TestCase):
         search = Stepping((10, 0), (5, 0), (4, 0))
         search.place = 1
         search.ways_of = lambda number: [Found(at, (number,), 100.0, 150.0 if at < 2 else 100.0) for at in range(8)]
-        self.assertEqual([one.part for one in steps_of(search.ways_of(0), 1.0, 4)], [1.0, 0.125])
+        self.assertEqual([one.fraction for one in trials_of(search.ways_of(0), 1.0, 4)], [1.0, 0.125])
         search.improve(Asked(2, 0.0, 1.0, range(1, 2), 4))
         self.assertEqual([one.changed for one in search.iterations], [2, 1, 0])
 
@@ -265,10 +278,10 @@ class Steps(unittest.TestCase):
 
 class Doubts(unittest.TestCase):
     def told(self, arrived=1000, rescues=0, waiting=0):
-        seen = {"arrived": arrived, "rescues": rescues, "waiting": (waiting, 600), "at_works": ()}
+        seen = {"arrived": arrived, "rescues": rescues, "most_waiting": (waiting, 600), "at_works": ()}
         outcomes = [SimpleNamespace(**seen) for _ in range(2)]
         outcomes[1].arrived, outcomes[1].rescues = 1000, 0
-        by_list = SimpleNamespace(going_by=lambda _mapping: ())
+        by_list = SimpleNamespace(listed_lights=lambda _mapping: ())
         ground = SimpleNamespace(until=9000, lights=lambda _run, _mapping: by_list)
         search = SimpleNamespace(ground=ground, town=SimpleNamespace(works=()))
         loaded = SimpleNamespace(run=Run("run", Line(1, "", {})), mapping=Map([], [], [], [], [], {}, []))
@@ -290,9 +303,21 @@ class Doubts(unittest.TestCase):
         search = SimpleNamespace(
             iterations=[SimpleNamespace(number=number) for number in range(11)], best=SimpleNamespace(number=6)
         )
-        self.assertFalse(is_still(search))
+        self.assertFalse(has_stalled(search))
         search.best.number = 5
-        self.assertTrue(is_still(search))
+        self.assertTrue(has_stalled(search))
+
+    def test_the_best_iteration_need_not_have_the_least_gap(self):
+        """More trips arrive in it; so it is told as the best, and nothing is said of its gap."""
+        judged = SimpleNamespace(gap=0.2, outcomes=[SimpleNamespace(mean=60.0)])
+        iterations = [SimpleNamespace(number=number, gap=1 - number / 10) for number in range(9)]
+        search = SimpleNamespace(iterations=iterations, best=SimpleNamespace(number=2))
+        one, said = Diverted(None, [], search, judged), io.StringIO()
+        with contextlib.redirect_stdout(io.StringIO()), contextlib.redirect_stderr(said):
+            self.assertEqual(tell_found(SimpleNamespace(asked=Asked(8, 0.1, 0.5, [1])), one, one), 1)
+        self.assertEqual(
+            said.getvalue(), "warning: the ways get no better any more: the best were those of iteration 2\n"
+        )
 
 
 class PassingTimes(unittest.TestCase):
@@ -302,23 +327,24 @@ class PassingTimes(unittest.TestCase):
         links = [MapLink(name, (0,), at, at + 1, 10, 1, 75.0, ()) for at, name in enumerate("abd")]
         self.map = Map([["", 0, 0, 2]] * 4, links, [], [], [], {}, [])
         delays = {way("a", "b"): [12 + 30] * 4, way("b", "d"): [12 + 10] * 4}
-        self.passes = Passes(GRAPH, self.map, costs_with(delays), 0.0)
+        self.passes = LinkClocks(GRAPH, self.map, costs_with(delays), 0.0)
 
     def test_driven_freely(self):
         # Seen on the third link's fifth second: 12 + 12 + 5 s after the departure.
-        self.assertEqual(self.passes.clocks([0, 1, 2], 100, [Sight(129, 2, 5.0, 1)], None), [100, 112, 124])
+        self.assertEqual(self.passes.link_clocks([0, 1, 2], 100, [Sight(129, 2, 5.0, 1)], None), [100, 112, 124])
 
     def test_what_was_lost_is_dealt_out_by_what_is_expected(self):
         # 20 s were lost; 30 s were expected on the first and 10 on the second link.
-        self.assertEqual(self.passes.clocks([0, 1, 2], 100, [Sight(149, 2, 5.0, 1)], None), [100, 112 + 15, 124 + 20])
+        found = self.passes.link_clocks([0, 1, 2], 100, [Sight(149, 2, 5.0, 1)], None)
+        self.assertEqual(found, [100, 112 + 15, 124 + 20])
 
     def test_arrivals(self):
-        self.assertEqual(self.passes.clocks([0, 1, 2], 100, [], 134), [100, 112, 124])
-        self.assertEqual(self.passes.clocks([0, 1, 2], 100, [], None), [])
+        self.assertEqual(self.passes.link_clocks([0, 1, 2], 100, [], 134), [100, 112, 124])
+        self.assertEqual(self.passes.link_clocks([0, 1, 2], 100, [], None), [])
 
     def test_who_waited_to_depart(self):
         # Not seen at 120 and 180, and 4 s from the begin of its first link at 240.
-        self.assertEqual(self.passes.clocks([0, 1, 2], 100, [Sight(240, 0, 4.0, 1)], None), [236])
+        self.assertEqual(self.passes.link_clocks([0, 1, 2], 100, [Sight(240, 0, 4.0, 1)], None), [236])
 
 
 def two_ways(light="", cycle=""):

@@ -10,12 +10,13 @@ from support import PROGRAM, Case, lane, needs_package, needs_simulator, net
 from test_route import Commands, flow, lit, two_ways
 from streetsim.base.files import Fault
 from streetsim.model.mapping import MapLink, read_map
-from streetsim.routes.closing import Closing, common, knows, turn_off
-from streetsim.routes.diverting import within_gap
-from streetsim.routes.underway import Turning, Waiting, WaysRound, impassable_edges, turning
+from streetsim.routes.closing import Closing, knows_of_works, turn_off
+from streetsim.routes.diverting import why_within_gap
+from streetsim.routes.underway import PlannedVehicle, Turning, WaysRound, impassable_edges, turning_to
 from streetsim.ways.costs import flat_costs
 from streetsim.ways.graph import Graph
 from streetsim.ways.trips import Trip
+from streetsim.works.movements import in_common
 
 # From p to z over q, r and x; q also leads to w and z, and p to y and z.
 GRAPH = Graph(
@@ -82,11 +83,19 @@ class TurningOff(unittest.TestCase):
             with self.assertRaisesRegex(Fault, told):
                 self.turned(names=names)
 
+    def test_all_keep_their_ways_where_one_has_none(self):
+        paths = [numbers(names) for names in ("pqrxz", "rxz")]
+        trips = [Trip(str(path), 0.0, path[0], path[-1], "", path, 0.0) for path in paths]
+        closing = Closing({X: [(0, 1000)]}, frozenset(), FREE)
+        self.assertRaises(Fault, turn_off, trips, closing, GRAPH, flat_costs(GRAPH, FREE), True)
+        self.assertEqual([trip.path for trip in trips], paths)
+
     def test_times_in_common(self):
-        self.assertEqual(common([(0, 10), (20, 30)], [(5, 25)]), [(5, 10), (20, 25)])
+        self.assertEqual(list(in_common([[(0, 10), (20, 30)], [(5, 25)]])), [(5, 10), (20, 25)])
 
     def test_who_knows_does_so_with_each_greater_share(self):
-        some, more = ({name for name in map(str, range(1000)) if knows(name, share, 1)} for share in (0.3, 0.6))
+        names = list(map(str, range(1000)))
+        some, more = ({name for name in names if knows_of_works(name, share, 1)} for share in (0.3, 0.6))
         self.assertLess(some, more)
         self.assertTrue(250 < len(some) < 350 and 550 < len(more) < 650, (len(some), len(more)))
 
@@ -95,10 +104,10 @@ class WithinTheGap(unittest.TestCase):
     def told(self, before, there):
         """What is said of mean trips and gaps (in hundredths) without works and with them."""
         made = (
-            SimpleNamespace(means=lambda mean=mean: [mean - 1, mean + 1], judged=SimpleNamespace(gap=gap / 100))
+            SimpleNamespace(mean_trips=lambda mean=mean: [mean - 1, mean + 1], judged=SimpleNamespace(gap=gap / 100))
             for mean, gap in (there, before)
         )
-        return within_gap(*made)
+        return why_within_gap(*made)
 
     def test_works_that_add_less_than_what_all_could_gain(self):
         self.assertIsNone(self.told((300, 2), (306.5, 2)))
@@ -127,7 +136,7 @@ class UnderWay(Case):
         self.map = read_map(self.folder / "map.json")
 
     def plans(self, vehicles, shut=("short",), times=(0, 10_000)):
-        return WaysRound(self.map, 0.1).found(vehicles, (), shut, times, 1)
+        return WaysRound(self.map, 0.1).new_plans(vehicles, (), shut, times, 1)
 
     def links(self, edges):
         return tuple(link for edge in edges.split() for link in self.map.links_of[edge])
@@ -136,28 +145,30 @@ class UnderWay(Case):
         """1,800 an hour, of 1,700 that a lane lets pass."""
         plan = self.links("in short out")
         for count, ways in ((10, 1), (1800, 2)):
-            found = self.plans([Waiting(str(at), at * 3600 // count, plan) for at in range(count)])
+            found = self.plans([PlannedVehicle(str(at), at * 3600 // count, plan) for at in range(count)])
             self.assertEqual((len(found), len(set(found.values()))), (count, ways))
 
     def test_those_alone_who_would_come_there(self):
-        others = [Waiting("past", 500, self.links("in short out")), Waiting("elsewhere", 0, self.links("in one out"))]
-        ends = [Waiting("begins", 0, self.links("short out")), Waiting("ends", 0, self.links("in short"))]
-        found = self.plans([*others, *ends, Waiting("comes", 0, self.links("in short out"))], times=(0, 400))
+        past = PlannedVehicle("past", 500, self.links("in short out"))
+        others = [past, PlannedVehicle("elsewhere", 0, self.links("in one out"))]
+        ends = [PlannedVehicle("begins", 0, self.links("short out")), PlannedVehicle("ends", 0, self.links("in short"))]
+        found = self.plans([*others, *ends, PlannedVehicle("comes", 0, self.links("in short out"))], times=(0, 400))
         self.assertEqual(list(found), ["comes"])
 
     def test_no_way(self):
-        self.assertEqual(self.plans([Waiting("v", 0, self.links("in short out"))], ("short", "one", "other")), {})
+        vehicle = PlannedVehicle("v", 0, self.links("in short out"))
+        self.assertEqual(self.plans([vehicle], ("short", "one", "other")), {})
 
     def test_where_another_way_begins(self):
         """Three links of 40 cells and 2 cells a second: who is on cell 9 of the first is behind the
         second in 35 s at least."""
         links = [MapLink(str(at), (0,), at, at + 1, 40, 2, 300.0, ()) for at in range(3)]
-        found = turning((0, 1, 2), (0, 1, 5, 6), 100)
+        found = turning_to((0, 1, 2), (0, 1, 5, 6), 100)
         self.assertEqual(found, Turning((0, 1), (5, 6), 100))
         self.assertEqual(
-            [found.soonest(links, *place) for place in ((0, 9), (0, None), (1, 39), (1, None))], [35, 20, 1, 1]
+            [found.least_steps(links, *place) for place in ((0, 9), (0, None), (1, 39), (1, None))], [35, 20, 1, 1]
         )
-        self.assertEqual(turning((0, 1), (7, 6), 0), Turning((0,), (6,), 0))  # on the link beside
+        self.assertEqual(turning_to((0, 1), (7, 6), 0), Turning((0,), (6,), 0))  # on the link beside
 
     def test_an_edge_is_shut_where_all_its_lanes_are(self):
         link = self.map.links_of["one"][0]

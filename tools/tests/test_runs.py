@@ -9,10 +9,10 @@ import unittest
 
 from support import FORK, MAP, NUMBERED, PROGRAM, RED, TOOLS, Case, lane, needs_simulator, net
 from streetsim.base.files import Fault
-from streetsim.base.seeds import interval
+from streetsim.base.seeds import mean_and_half_width
 from streetsim.model import tables
 from streetsim.model.runs import read_run, read_with_map
-from streetsim.run.record import standing
+from streetsim.run.record import standing_at_line
 from streetsim.scenario import Scenario
 
 
@@ -209,20 +209,42 @@ class Reading(Runs):
                 '{"cmd":"load"}\n{"cmd":"advance","steps":3}\n',
                 "line 2 is no command of a run: advance is sent by streetsim-run itself",
             ),
+            ('{"cmd":"load","dawdle":"x"}\n', "line 1 is no command of a run: dawdle is no whole number"),
+            ('{"cmd":"load","start":1.5}\n', "line 1 is no command of a run: start is no whole number"),
+            ('{"cmd":"load"}\n{"cmd":"close","at":20}\n', "line 2 is no command of a run: 'link'"),
+            ('{"cmd":"load"}\n{"cmd":"signal","node":"a"}\n', "line 2 is no command of a run: node is no whole number"),
+            ('{"cmd":"load"}\n{"cmd":["enter"]}\n', "line 2 is no command of a run"),
         ):
             with self.subTest(text), self.assertRaisesRegex(Fault, words):
                 read_run(self.write("run.jsonl", text))
+        for enter, words in (
+            ({"plan": [0.5]}, "plan is no list of whole numbers"),
+            ({"plan": "ab"}, "plan is no list of whole numbers"),
+            ({"plan": []}, "plan is no list of whole numbers"),
+            ({"depart": True}, "depart is no whole number"),
+            ({"at": "soon"}, "at is no whole number"),
+        ):
+            line = json.dumps({"cmd": "enter", "plan": [0], "depart": 0, **enter})
+            with self.subTest(line), self.assertRaisesRegex(Fault, f"line 2 is no command of a run: {words}"):
+                read_run(self.write("run.jsonl", f'{{"cmd":"load"}}\n{line}\n'))
+
+    def test_a_closure_of_no_link(self):
+        for line in ({"cmd": "close"}, {"cmd": "reopen", "at": 20}):
+            lines = {"cmd": "load", **NUMBERED}, {**line, "link": 2, "lane": 0, "first": 1, "last": 2}
+            run = self.write("run.jsonl", "".join(f"{json.dumps(one)}\n" for one in lines))
+            with self.assertRaisesRegex(Fault, f"run.jsonl: line 2 .{line['cmd']}.: no link 2"):
+                read_with_map(run, self.write("map.json", json.dumps(MAP)))
 
     def test_standing(self):
-        self.assertEqual(standing(((1, 9, 0), (2, 8, 0), (3, 6, 0)), 10), (2, 2))
-        self.assertEqual(standing(((1, 9, 0), (2, 8, 1)), 10), (1, 1))
-        self.assertEqual(standing(((1, 8, 0),), 10), (0, 0))
+        self.assertEqual(standing_at_line(((1, 9, 0), (2, 8, 0), (3, 6, 0)), 10), (2, 2))
+        self.assertEqual(standing_at_line(((1, 9, 0), (2, 8, 1)), 10), (1, 1))
+        self.assertEqual(standing_at_line(((1, 8, 0),), 10), (0, 0))
 
     def test_interval(self):
         # Mean 2, standard deviation 1, three values: 4.303 / sqrt(3).
-        mean, half = interval([1, 2, 3])
+        mean, half = mean_and_half_width([1, 2, 3])
         self.assertEqual((mean, round(half, 3)), (2, 2.484))
-        self.assertEqual(interval([5]), (5, None))
+        self.assertEqual(mean_and_half_width([5]), (5, None))
 
 
 @needs_simulator

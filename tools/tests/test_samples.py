@@ -8,7 +8,7 @@ from statistics import fmean
 
 from support import DATA, PROGRAM, SCENARIOS, Case, needs_simulator, needs_sumo_tools
 from streetsim.model.folder import read_folder
-from streetsim.results.compare import correlation, counts_of, geh, trips_of
+from streetsim.results.compare import correlation, edge_counts_of, geh, trip_times_of
 
 QUARTERS = (900, 1800, 2700, 3600, 4500, 5400)
 
@@ -28,9 +28,9 @@ class Samples(Case):
         words = ["--until", 6000, "--every", 600, "--seeds", f"1-{seeds}", "--out", out, "--program", PROGRAM]
         self.tool("run", run, "--map", mapped, *words)
         folders = [read_folder(out / f"seed-{seed}") for seed in range(1, seeds + 1)]
-        self.check_trips(name, [trips_of(folder) for folder in folders])
+        self.check_trips(name, [trip_times_of(folder) for folder in folders])
         if counts:
-            self.check_counts(name, [counts_of(folder) for folder in folders])
+            self.check_counts(name, [edge_counts_of(folder) for folder in folders])
         return folders[-1]
 
     def check_trips(self, name, runs):
@@ -105,9 +105,9 @@ class Samples(Case):
         self.tool("import", DATA / "town.net.xml.gz", "--routes", routes, "-o", run, "--map", mapped)
         words = ["run", run, "--map", mapped, "--until", 9000, "--every", 600, "--out", out, "--program", PROGRAM]
         self.tool(*words, "--rescue", 0)
-        self.assertLess(len(trips_of(read_folder(out))), 4500)
+        self.assertLess(len(trip_times_of(read_folder(out))), 4500)
         self.tool(*words)
-        self.assertEqual(len(trips_of(read_folder(out))), 4500)
+        self.assertEqual(len(trip_times_of(read_folder(out))), 4500)
 
     @needs_sumo_tools
     def test_acosta(self):
@@ -138,7 +138,7 @@ class Samples(Case):
             words = [folder / f"rilsa{number}.net.xml", *more, "--routes", folder / "genroutes.rou.xml"]
             self.tool("import", *words, "-o", run, "--map", mapped, "--strict")
             self.tool("run", run, "--map", mapped, "--until", 9000, "--every", 600, "--out", out, "--program", PROGRAM)
-            trips = trips_of(read_folder(out)).values()
+            trips = trip_times_of(read_folder(out)).values()
             self.assertAlmostEqual(
                 sum(arrival - depart for depart, arrival in trips) / len(trips) / mean, 1, delta=0.15
             )

@@ -4,6 +4,7 @@ import unittest
 
 from support import DATA, FORK, PROGRAM, Case, needs_simulator
 from test_route import two_ways
+from streetsim import client
 from streetsim.model.mapping import read_map
 from streetsim.model.tables import TRIPS, read_table
 from streetsim.scenario import NOWHERE, NotHere, Scenario
@@ -135,6 +136,24 @@ class Scenarios(Case):
             (1, 15.0, 10.0),
         )
 
+    def test_what_is_refused(self):
+        sim = self.sim
+        sim.route.add("way", ["a", "c"])
+        for size in (0, -1, 5):
+            with self.subTest(size), self.assertRaises(client.Refused):
+                sim.vehicle.add("mine", "way", size=size)
+        for place in (-1, 76):
+            with self.subTest(place), self.assertRaisesRegex(ValueError, "lane 'a_0' has no place at"):
+                sim.inductionloop.add("loop", "a_0", place, 60)
+        for call in (
+            lambda: sim.trafficlight.setProgramLogic("none", [(10, "G")]),
+            lambda: sim.vehicle.getLength("none"),
+            lambda: sim.vehicle.getMinGap("none"),
+        ):
+            with self.assertRaises(KeyError):
+                call()
+        self.assertEqual((sim.vehicle.getLength("v"), sim.inductionloop.getIDList()), (5.0, ()))
+
     def test_missing_calls_say_what_to_do(self):
         with self.assertRaisesRegex(NotHere, "vehicle.setSpeed is not here: speeds follow the rules alone"):
             self.sim.vehicle.setSpeed("v", 3)
@@ -223,14 +242,14 @@ class LongPrograms(Case):
         first, second = (name for name, _ in mapping.signals[:2])
         shown = Shown(mapping, [])
         long, short = [(700.0, "r" * 64), (9100.0, "G" * 64)], [(60.0, "G" * 64)]
-        shown.program(first, long, 0.0, 0)
+        shown.program_commands(first, long, 0.0, 0)
         coming = shown.next_clock(5000)
         self.assertLess(coming, 5000)
-        shown.program(second, short, 0.0, 0)
+        shown.program_commands(second, short, 0.0, 0)
         self.assertEqual(shown.next_clock(5000), coming)
-        shown.constant(second, "r" * 64, 10.0)
+        shown.constant_commands(second, "r" * 64, 10.0)
         self.assertEqual(shown.next_clock(5000), coming)
-        shown.program(first, short, 0.0, 0)
+        shown.program_commands(first, short, 0.0, 0)
         self.assertEqual(shown.next_clock(5000), 5000)
 
 
@@ -282,6 +301,13 @@ class Diverting(Case):
         sim.simulationStep(1600)
         sim.write_trips(self.folder / "trips.csv")
         self.assertEqual({row["state"] for row in read_table(self.folder / "trips.csv", TRIPS)}, {"arrived"})
+
+    def test_a_vehicle_that_is_refused_is_not_sent_round(self):
+        sim = self.begun(0, 120)
+        sim.route.add("way", self.SHORT)
+        with self.assertRaises(client.BadRange):
+            sim.vehicle.add("mine", "way", 60, size=5)
+        self.assertEqual(sim.close("short_0", 100, 200, divert=True), ["0", "1"])
 
     def test_works_whose_end_is_known(self):
         sim = self.begun(*range(0, 1200, 20))

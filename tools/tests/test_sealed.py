@@ -13,13 +13,15 @@ from pathlib import Path
 from types import SimpleNamespace
 
 from support import DATA as SAMPLES
-from support import PROGRAM, TOOLS, Case, needs_simulator
+from support import MAP, PROGRAM, TOOLS, Case, needs_simulator
 from streetsim.base.files import Fault
 from streetsim.cli.check import page_again
 from streetsim.reports import seal as sealing
-from streetsim.reports.elements import differences, numbers_in
+from streetsim.reports.elements import page_mismatches, numbers_in
 from streetsim.reports.seal import DATA, PACK, packed, seal_of, sum_of, unpacked
-from streetsim.results.tallying import Compared, compared
+from streetsim.reports.sealing import sealed_plan
+from streetsim.results.reading import read_folders
+from streetsim.results.tallying import Compared, folder_differences
 
 CORRIDOR = TOOLS / "examples/corridor"
 # A program whose replies differ: it dawdles otherwise than it is told.
@@ -52,10 +54,10 @@ class Broken(Case):
         for folder in ("said", "found"):
             (self.folder / folder).mkdir(exist_ok=True)
             (self.folder / folder / name).write_bytes(gzip.compress(b"1\n") if name.endswith(".gz") else b"1\n")
-        self.assertEqual(list(compared(self.folder / "said", self.folder / "found", Compared())), [])
+        self.assertEqual(list(folder_differences(self.folder / "said", self.folder / "found", Compared())), [])
         (self.folder / "said" / name).write_bytes(content)
         with self.assertRaises(Fault) as raised:
-            list(compared(self.folder / "said", self.folder / "found", Compared()))
+            list(folder_differences(self.folder / "said", self.folder / "found", Compared()))
         self.assertIn(f"said/{name}: ", str(raised.exception))
 
     def test_packed_files(self):
@@ -68,6 +70,28 @@ class Broken(Case):
         for content in (b"a,b\n\xff,2\n", b"a,b\n" + b"1" * 200_000 + b",2\n"):
             with self.subTest(content=content[:9]):
                 self.fault("trips.csv", content)
+
+
+class Missing(Case):
+    def test_parts_of_a_seal(self):
+        plan = {"name": "", "run": "", "map": "", "words": [], "again": [], "seeds": [1], "several": False}
+        whole = {"plans": [{**plan, "program": ""}], "files": {}, "packs": {}, "words": [], "beside": [], "tools": ""}
+        sealed = '<script type="application/json" id="sealed">{}</script>'
+        found = seal_of("x.html", sealed.format(json.dumps({**whole, "drawn_by": ""})))
+        self.assertEqual(found.content["plans"], whole["plans"])
+        for content in (whole, {**whole, "drawn_by": "", "plans": [plan]}):
+            with self.assertRaisesRegex(Fault, "what is sealed in it cannot be read: the page was changed"):
+                seal_of("x.html", sealed.format(json.dumps(content)))
+
+    def test_programs_of_lights_that_cannot_be_read(self):
+        lines = b'{"cmd":"load"}\n'
+        (self.folder / "run.jsonl.gz").write_bytes(gzip.compress(lines))
+        made = {"run": "x.jsonl", "words": [], "again": [], "lines": sum_of(lines)}
+        setting = {"map": MAP, "signals": [], "dawdle": 0, "every": 0, "period": 900, "made": made}
+        self.write("setting.json", json.dumps(setting))
+        (self.folder / "lights.json").mkdir()
+        with self.assertRaisesRegex(Fault, "lights.json: Is a directory"):
+            sealed_plan(read_folders(str(self.folder)), 1)
 
 
 class Sealed(Case):
@@ -182,7 +206,7 @@ class Changes(Sealed):
         cls.made = page_again(words, seal_of("x.html", cls.text))
 
     def test_the_untouched_page(self):
-        self.assertEqual(differences(self.text, self.made), [])
+        self.assertEqual(page_mismatches(self.text, self.made), [])
 
     def test_each_digit(self):
         for name, pattern in DIGITS.items():
@@ -190,7 +214,7 @@ class Changes(Sealed):
                 found = re.search(pattern, self.text, re.DOTALL)
                 self.assertTrue(found, pattern)
                 changed = other_digit(self.text, found.end(1) - 1)
-                [one] = differences(changed, self.made)
+                [one] = page_mismatches(changed, self.made)
                 self.assertNotEqual(one.said, one.found)
 
     def test_each_word(self):
@@ -198,11 +222,11 @@ class Changes(Sealed):
             with self.subTest(name):
                 changed, count = re.subn(pattern, word, self.text, count=1, flags=re.DOTALL)
                 self.assertEqual(count, 1)
-                self.assertTrue(differences(changed, self.made))
+                self.assertTrue(page_mismatches(changed, self.made))
 
     def test_it_says_where(self):
         found = re.search(DIGITS["seconds of a flow"], self.text, re.DOTALL)
-        [one] = differences(other_digit(self.text, found.end(1) - 1), self.made)
+        [one] = page_mismatches(other_digit(self.text, found.end(1) - 1), self.made)
         self.assertRegex(one.told(), r"What it costs whom, \w+, before, s: said '[\d.]+', found '[\d.]+'")
 
     def test_there_are_enough(self):
@@ -293,7 +317,7 @@ class Whole(Sealed):
             self.assertIn(old, data)
             text = self.text.replace(data, data.replace(old, new, 1))
             try:
-                self.assertTrue(differences(text, self.again(text)), old)
+                self.assertTrue(page_mismatches(text, self.again(text)), old)
             except Fault as fault:
                 self.assertIn("what is sealed in it gives no such page", str(fault))
 
@@ -325,13 +349,13 @@ class Whole(Sealed):
         sealing.write_beside(page, large)
         self.assertEqual((list(large), sorted(made.texts), made.beside), (["b"], ["a"], "big.sealed.zip"))
         found = seal_of(page, made.html())
-        self.assertEqual(dict(sealing.files_of(found, page))["b"], large["b"])
+        self.assertEqual(dict(sealing.sealed_files(found, page))["b"], large["b"])
         sealing.write_beside(page, {"b": b"y"})
         with self.assertRaisesRegex(Fault, "the sealed file b was changed"):
-            list(sealing.files_of(found, page))
+            list(sealing.sealed_files(found, page))
         (self.folder / "big.sealed.zip").unlink()
         with self.assertRaisesRegex(Fault, "the file beside .* cannot be read"):
-            list(sealing.files_of(found, page))
+            list(sealing.sealed_files(found, page))
 
 
 @needs_simulator

@@ -4,14 +4,21 @@ import re
 import unittest
 
 from support import PROGRAM, TOOLS, Case, needs_simulator
+from streetsim.base.files import Fault
 from streetsim.base.report import Report
-from streetsim.model.timing import Movement, Timing, intergreen, runs_of, timing_of
-from streetsim.reports.sheets import clashes, sheets
+from streetsim.model.mapping import Map
+from streetsim.model.names import Names
+from streetsim.model.timing import Movement, Timing, intergreen, spans_of, timing_of
+from streetsim.reports.sheets import clashes, greens_table, phases_table, sheets
 from streetsim.results.reading import read_folders
 from streetsim.results.timings import timings_of
+from streetsim.sumo.additional import read_additional
 from streetsim.sumo.net import read_net
+from streetsim.sumo.network import next_edges
 from streetsim.sumo.timings import timings_of as timings_of_net
 from streetsim.sumo.timings import warn_of_clashes
+from streetsim.sumo.types import Types
+from streetsim.sumo.wauts import days_of
 
 CORRIDOR = TOOLS / "examples/corridor"
 # Two streets that cross: request 0 from the west straight on, 1 from the south straight on.
@@ -48,14 +55,14 @@ class Programs(Case):
 
     def test_runs(self):
         """Over the end of the cycle, too."""
-        self.assertEqual(runs_of("rGGrr", "G"), [(1, 2)])
-        self.assertEqual(runs_of("GrrGG", "G"), [(3, 3)])
-        self.assertEqual((runs_of("GG", "G"), runs_of("rr", "G")), ([(0, 2)], []))
+        self.assertEqual(spans_of("rGGrr", "G"), [(1, 2)])
+        self.assertEqual(spans_of("GrrGG", "G"), [(3, 3)])
+        self.assertEqual((spans_of("GG", "G"), spans_of("rr", "G")), ([(0, 2)], []))
 
     def test_times_between_greens(self):
         """By hand: 3 s yellow and 2 s red each way; a green that goes on with the other one has none."""
         timing, _ = self.timing(GOOD)
-        west, south = (timing.signs(one) for one in sorted(timing.movements, key=lambda one: one.places))
+        west, south = (timing.signs(one) for one in sorted(timing.movements, key=lambda one: one.indexes))
         self.assertEqual((intergreen(west, south), intergreen(south, west)), (5, 5))
         self.assertIsNone(intergreen("GGr", "rGG"))
         self.assertEqual(intergreen("Grrrr", "rrGrr"), 1)
@@ -66,6 +73,13 @@ class Programs(Case):
         timing = Timing("L", "M", 0, [(1, "rg"), (1, "Gy"), (1, "yr")], "static", [Movement("a", "b", (0, 1))], set())
         self.assertEqual(timing.signs(timing.movements[0]), "gGy")
         self.assertEqual(timing_of(json.loads(json.dumps(timing.written()))).written(), timing.written())
+
+    def test_off_is_not_red(self):
+        """20 s off of a cycle of 30 s, and 10 s red."""
+        timing = Timing("L", "M", 0, [(20, "O"), (10, "r")], "static", [Movement("a", "b", (0,))], set())
+        self.assertEqual(re.findall(r">(off|red|green|yellow)<", phases_table(timing)), ["off", "red"])
+        row = re.findall(r"<td[^>]*>([^<]*)<", greens_table(timing, Names(Map([], [], [], [], [], {}, [])), None))
+        self.assertEqual(row[-5:], ["off", "0", "0", "0", "10"])
 
     def test_conflicting_main_greens(self):
         """A warning of the import, with names; not where one of them gives way."""
@@ -85,6 +99,24 @@ class Programs(Case):
         given = self.write("x.net.xml", network(BAD))
         said = self.tool("import", given, "-o", self.folder / "x.jsonl", "--map", self.folder / "x.json")[1]
         self.assertIn("warning: light 'L': movements that conflict have main green together", said)
+
+    def test_programs_to_which_a_light_changes_count_too(self):
+        """For warnings, and for which lanes wait at a light: nobody at first, and those from the south later."""
+        changes = '<WAUT id="w" startProg="0"><wautSwitch time="100" to="1"/></WAUT>'
+        changes += '<wautJunction wautID="w" junctionID="L"/>'
+        for states, clashes, waiting in (("GG", True, set()), ("Gg", False, {"n"}), ("Gr", False, set())):
+            text = network(GOOD).replace('<request index="1" response="00"', '<request index="1" response="01"')
+            net, report = read_net(self.write("x.net.xml", text), ["passenger"], Report()), Report()
+            phase = f'<phase duration="30" state="{states}"/><phase duration="30" state="rG"/>'
+            light = f'<tlLogic id="L" type="static" programID="1" offset="0">{phase}</tlLogic>'
+            added = self.write("w.add.xml", f"<additional>{light}{changes}</additional>")
+            read_additional(added, net, Types(1, Report()), report)
+            for last, later in ((50, False), (100, True)):
+                report = Report()
+                days_of(net, 0, last, report)
+                warn_of_clashes(net, report)
+                self.assertEqual(len(report.warnings), clashes and later, (states, last))
+                self.assertEqual(next_edges(net, {})[1]["s", 0], waiting if later else set(), (states, last))
 
 
 @needs_simulator
@@ -123,6 +155,9 @@ class Sheets(Case):
         kept[2]["phases"] = [[time, state.replace("G", "r")] for time, state in kept[2]["phases"]]
         (out / "lights.json").write_text(json.dumps(kept))
         self.assertEqual(sorted(timings_of(read_folders(str(out)))), ["J4", "J5"])
+        (out / "lights.json").write_text('[{"light": "J1"}]')
+        with self.assertRaisesRegex(Fault, "lights.json: cannot be read: 'junction'"):
+            timings_of(read_folders(str(out)))
 
     def test_before_and_after(self):
         out = self.run_of(CORRIDOR / "corridor.net.xml.gz", "--routes", CORRIDOR / "corridor.rou.xml")

@@ -19,15 +19,15 @@ from streetsim.base.files import Fault
 from streetsim.base.seeds import runs_needed, seeds_for, seeds_of, student
 from streetsim.model.mapping import map_from, read_map
 from streetsim.model.runs import Line, Run, read_run
-from streetsim.model.trust import of_missing
+from streetsim.model.trust import missing_doubts
 from streetsim.run.settings import Settings
-from streetsim.sessions.giving import for_search, giving_session, outcome_giving_way, seconds_at_works, with_gaps
+from streetsim.sessions.giving import for_search, giving_session, outcome_giving_way, seconds_at_works, with_gap_lines
 from streetsim.sessions.prepared import Outcome, outcome, session_of, vehicle_seconds
-from streetsim.signals.formulas import tree, webster_cycle
+from streetsim.signals.formulas import heaviest_tree, webster_cycle
 from streetsim.signals.found import doubts_of, verdict
 from streetsim.signals.in_sumo import mean_trip, sumo_for
 from streetsim.signals.light_lines import LightLines, read_plans
-from streetsim.signals.plans import Light, Timing, light_of, spread, whole
+from streetsim.signals.plans import Light, Timing, light_and_timing, rounded_durations, spread
 from streetsim.signals.search import Search, climb, search_plan, shift_of
 from streetsim.sumo.net import Program
 
@@ -72,14 +72,14 @@ def flow(name, names, period):
 
 class Bounds(unittest.TestCase):
     def light(self, *phases, bounds=(), kind="static"):
-        return light_of("L", Program(0.0, list(phases), kind, list(bounds)))
+        return light_and_timing("L", Program(0.0, list(phases), kind, list(bounds)))
 
     def test_phases_that_may_be_stretched(self):
         # Green without yellow, of 5 s at least; minDur and maxDur bound it.
         phases = (37, "Gr"), (3, "yr"), (2, "rr"), (4, "rG"), (30, "rG"), (3, "Gy")
         light, timing = self.light(*phases, bounds=[(20, 40), *[(None, None)] * 5])
         self.assertEqual(light.bounds, ((20, 40), (3, 3), (2, 2), (4, 4), (5, 600), (3, 3)))
-        self.assertEqual((light.free, light.lost(timing), timing.cycle), ([0, 4], 12, 79))
+        self.assertEqual((light.free, light.fixed_seconds(timing), timing.cycle), ([0, 4], 12, 79))
 
     def test_another_cycle(self):
         light, timing = self.light((30, "Gr"), (5, "yr"), (10, "rG"), (5, "ry"))
@@ -89,14 +89,14 @@ class Bounds(unittest.TestCase):
         self.assertEqual(light.scaled(timing, 20).durations, (5, 5, 5, 5))
         self.assertIsNone(light.scaled(timing, 19))
         self.assertEqual(light.scaled(timing, 50, [1, 9, 3, 9]).durations, (10, 5, 30, 5))
-        self.assertIsNone(light.moved(timing, 2, 0, 6))
-        self.assertEqual(light.moved(timing, 2, 0, 5).durations, (35, 5, 5, 5))
+        self.assertIsNone(light.with_green_moved(timing, 2, 0, 6))
+        self.assertEqual(light.with_green_moved(timing, 2, 0, 5).durations, (35, 5, 5, 5))
 
     def test_shares_within_bounds(self):
         self.assertEqual(spread([1, 1, 1], 100, [(5, 20), (5, 600), (5, 600)]), [20, 40, 40])
         self.assertEqual(sum(spread([7, 11, 13], 101, [(5, 600)] * 3)), 101)
         self.assertIsNone(spread([1, 1], 9, [(5, 600)] * 2))
-        self.assertEqual(whole([10.4, 10.4, 10.4]), (10, 11, 10))
+        self.assertEqual(rounded_durations([10.4, 10.4, 10.4]), (10, 11, 10))
 
 
 class Formulas(unittest.TestCase):
@@ -128,7 +128,7 @@ class Formulas(unittest.TestCase):
     def test_tree_of_the_heaviest_flows(self):
         # a-b 9, b-c 5, a-c 4 (closes a ring), d alone.
         ways = {("a", "b"): Counter({(1,): 9}), ("c", "b"): Counter({(2,): 5}), ("a", "c"): Counter({(3,): 4})}
-        parents, behind = tree(["b", "a", "c", "d"], ways)
+        parents, behind = heaviest_tree(["b", "a", "c", "d"], ways)
         self.assertEqual(parents, {"a": "b", "c": "b"})
         self.assertEqual(behind, {"b": ["b", "c", "a"], "a": ["a"], "c": ["c"], "d": ["d"]})
 
@@ -237,9 +237,9 @@ class Values(Corridor):
         run, mapping = self.corridor()
         for paths in ([self.net], [self.net, str(CORRIDOR / "wave.add.xml")]):
             programs = read_plans(paths, mapping)
-            lights = {name: light_of(name, programs.programs[name]) for name, _ in mapping.signals}
+            lights = {name: light_and_timing(name, programs.programs[name]) for name, _ in mapping.signals}
             lines = LightLines(programs, run, mapping)
-            text = lines.of(
+            text = lines.signal_lines(
                 {name: timing for name, (_, timing) in lights.items()},
                 {name: light for name, (light, _) in lights.items()},
             )
@@ -287,7 +287,7 @@ class Values(Corridor):
         session = giving_session(PROGRAM, run, mapping, Settings(600), 0)
         exact = outcome_giving_way(session, b"", 7).seconds
         self.assertEqual(seconds_at_works(for_search(session, []), b"", 7), exact)
-        self.assertGreater(vehicle_seconds(with_gaps(session, []), b"", 7), 1.02 * exact)
+        self.assertGreater(vehicle_seconds(with_gap_lines(session, []), b"", 7), 1.02 * exact)
 
     def test_refused_line_is_a_fault(self):
         # The load is the first call, the five signals of the run are the next.
@@ -370,6 +370,8 @@ class Tool(Searching):
             (["--change", "offset"], "--change: 'offset' is none of offsets, splits, cycle"),
             (["--cycle", "60-90", "--change", "offsets"], "--change offsets leaves the cycles as they are"),
             (["--last", 900], "--last is of the pictures: give --edges too"),
+            (["--bounds", "--first", 9], "--first is of the pictures: give --edges too"),
+            (["--bounds", "--edges", "WJ1"], "--edges draws plans of seconds, and --bounds finds none"),
             (["--keep", "J1 J2 J3 J4 J5"], "no light whose plan may be changed"),
             (["--plans", other], "no program of light 'J1'"),
             (["--until", 0], "'0' is not 1 to"),
@@ -476,9 +478,9 @@ class Verdicts(Searching):
 
     def test_who_has_not_arrived(self):
         """Ten had the time; more than a tenth of them have not."""
-        self.assertEqual(of_missing({"as given": 9.0, "as found": 10.0}, 10), [])
+        self.assertEqual(missing_doubts({"as given": 9.0, "as found": 10.0}, 10), [])
         self.assertEqual(
-            of_missing({"as given": 8.0, "as found": 9.0}, 10),
+            missing_doubts({"as given": 8.0, "as found": 9.0}, 10),
             ["as given 2 of 10 vehicles that had the time to arrive have not"],
         )
 
@@ -514,7 +516,7 @@ class Trips(Case):
                 "f.0": (None, "N1J1 J1J2 J2J3"), "f.1": (None, "N1J1 J1J2 J2J3"),
             },
         )
-        arrived, _ = ways.trips(self.write("none.add.xml", "<additional/>"), 1)
+        arrived, _ = ways.run_sumo(self.write("none.add.xml", "<additional/>"), 1)
         self.assertEqual(set(arrived), {"t", "v", "f.0", "f.1"})
 
 

@@ -10,7 +10,7 @@ from streetsim.importing.convert import convert
 from streetsim.results import series
 from streetsim.sumo.gaps import gap_capacity
 from streetsim.sumo.network import Options, Turn
-from streetsim.sumo.signals import joined, run_lengths, shown_green
+from streetsim.sumo.signals import phases_that_fit, run_lengths, shown_green
 
 
 def phases(*pairs):
@@ -77,6 +77,19 @@ class Signals(Case):
         program = street(phases((10, "G"), (20, "r")))
         [given], [command] = self.made(program)[0], self.made(program, additional=[other])[0]
         self.assertEqual((command["offset"], command["phases"]), (26, given["phases"]))
+        # The program of its name gets it, which need not be the one in force.
+        loaded = f'<additional><tlLogic id="L" programID="1">{phases((4, "G"), (6, "r"))}</tlLogic></additional>'
+        [command], _ = self.made(program, additional=[loaded, other])
+        self.assertEqual((command["offset"], sum(duration for duration, _ in command["phases"])), (0, 10))
+        with self.assertRaisesRegex(Fault, "<tlLogic 'L'>: program '2' has no phases"):
+            self.made(program, additional=[other.replace('programID="0"', 'programID="2"')])
+
+    def test_a_light_that_is_switched_off_keeps_its_program(self):
+        program = street(phases((10, "G"), (20, "r")), offset=4)
+        off = '<additional><tlLogic id="L" type="static" programID="off" offset="0"/></additional>'
+        commands, warnings = self.made(program, additional=[off])
+        self.assertEqual(commands, self.made(program)[0])
+        self.assertIn("<tlLogic 'L'> does nothing here, as it switches the light off", " ".join(warnings))
 
     def test_permissive_green_is_shown_at_the_end_of_its_run(self):
         turn = Turn(0, "L", 0, False, 13.9, 2)
@@ -207,7 +220,7 @@ class Signals(Case):
 
     def test_too_many_phases(self):
         self.assertEqual(
-            joined([(5, "a"), (9, "b"), (2, "c"), *[(9, "d")] * 14]), [(5, "a"), (11, "b"), *[(9, "d")] * 14]
+            phases_that_fit([(5, "a"), (9, "b"), (2, "c"), *[(9, "d")] * 14]), [(5, "a"), (11, "b"), *[(9, "d")] * 14]
         )
         many = phases(*[(2, "G"), (3, "r")] * 9)
         [command], warnings = self.made(street(many))

@@ -14,7 +14,7 @@ from streetsim.base.files import Fault
 from streetsim.base.report import Report
 from streetsim.importing.convert import convert
 from streetsim.results import series
-from streetsim.run.record import standing
+from streetsim.run.record import standing_at_line
 from streetsim.scenario import Scenario
 from streetsim.sumo.network import Options
 
@@ -168,8 +168,8 @@ class Tables(Runs):
 class Standing(unittest.TestCase):
     def test_cells_are_covered(self):
         # Three cells from 9 to 7, one at 6, two at 5 and 4; the next stands after a gap.
-        self.assertEqual(standing(((1, 9, 0, 3), (2, 6, 0), (3, 5, 0, 2), (4, 2, 0)), 10), (3, 6))
-        self.assertEqual(standing(((1, 1, 0, 4),), 2), (1, 2))  # longer than the lane
+        self.assertEqual(standing_at_line(((1, 9, 0, 3), (2, 6, 0), (3, 5, 0, 2), (4, 2, 0)), 10), (3, 6))
+        self.assertEqual(standing_at_line(((1, 1, 0, 4),), 2), (1, 2))  # longer than the lane
 
 
 class Shown(Given):
@@ -184,7 +184,7 @@ class Shown(Given):
         # The front goes from 37.5 to 52.5 m, the rear 22.5 m behind it; the car is a line alone.
         pieces = series.trajectories(self.given, ["a", "b"], 0, 10)
         self.assertEqual(pieces[0], ((1, 37.5), (2, 52.5), 1, 22.5))
-        self.assertEqual(list(series.bands(pieces)), [((1, 37.5), (2, 52.5), (2, 30.0), (1, 15.0))])
+        self.assertEqual(list(series.long_vehicle_strips(pieces)), [((1, 37.5), (2, 52.5), (2, 30.0), (1, 15.0))])
 
     @needs_matplotlib
     def test_picture(self):

@@ -8,13 +8,15 @@ from streetsim.base.files import Fault
 from streetsim.base.report import Report
 from streetsim.model.detectors import E1, E2
 from streetsim.model.mapping import Map, MapLink, MapTurn, read_map
+from streetsim.sumo.bus_stops import BusStop
 from streetsim.sumo.detectors import SumoDetector
 from streetsim.sumo.net import Connection, Edge, Lane, SumoNet
 from streetsim.sumo.demand import Vehicle
-from streetsim.sumo.slowing import Part, Slow, parts_of, slow_of, slowed
+from streetsim.sumo.slowing import Part, Slow, parts_of, slow_of, with_lower_limits
+from streetsim.sumo.stops import Stop
 from streetsim.works.asked import sites_of, works_of
 from streetsim.works.closures import begun_here
-from streetsim.works.lowering import limits_of, moved
+from streetsim.works.lowering import limits_of, works_on_parts
 from streetsim.works.movements import closures_at
 
 
@@ -31,7 +33,7 @@ def net_of(shape=((0, 0), (0, 300), (300, 300))):
     made.edges["a"] = Edge("a", "A", "B", 3, [Lane(at, 13.89, 600.0, list(shape)) for at in (0, 1)])
     made.edges["t"] = Edge("t", "B", "C", 3, [Lane(0, 13.89, 600.0, [(300, 300), (900, 300)])])
     made.connections = [Connection("a", "t", 1, 0, "B", 4, "O", 2)]
-    made.closed_ways = {("a", "u")}
+    made.closed_movements = {("a", "u")}
     return made
 
 
@@ -45,7 +47,7 @@ class Parts(unittest.TestCase):
         self.assertEqual(parts_of(Slow("a", 20, 300, 30), 600)[0], Part("a", 0, 300, True))
 
     def test_a_network_in_parts(self):
-        made, [one, other] = slowed(
+        made, [one, other] = with_lower_limits(
             net_of(), [Vehicle("v", 0, ("a", "t"), ""), Vehicle("w", 0, ("t",), "")], ["a:150-450:30"], Report()
         )
         self.assertEqual((one.edges, other.edges), (("a", "a.150", "a.450", "t"), ("t",)))
@@ -61,14 +63,14 @@ class Parts(unittest.TestCase):
         self.assertEqual(ways[1:], [(*way, None, None) for way in (
             ("a", 0, "a.150"), ("a", 1, "a.150"), ("a.150", 0, "a.450"), ("a.150", 1, "a.450"),
         )])  # fmt: skip
-        self.assertEqual((made.junctions["a.150"], made.closed_ways), ((0, 150), {("a.450", "u")}))
+        self.assertEqual((made.junctions["a.150"], made.closed_movements), ((0, 150), {("a.450", "u")}))
 
     def test_detectors_keep_their_places(self):
         def placed(kind, begin, end=None):
             made = net_of()
             made.detectors = [SumoDetector("here", "d", kind, "a_1", begin, end, 60, False, False)]
             report = Report()
-            [one] = slowed(made, [], ["a:150-450:30"], report)[0].detectors
+            [one] = with_lower_limits(made, [], ["a:150-450:30"], report)[0].detectors
             return (one.lane, one.begin, one.end), " ".join(report.lines())
 
         self.assertEqual(placed(E1, 100.0), (("a_1", 100.0, None), ""))
@@ -79,6 +81,23 @@ class Parts(unittest.TestCase):
         self.assertEqual(where, ("a.150_1", 50.0, 300.0))
         self.assertIn("detector d reaches beyond a.150_1", told)
 
+    def test_stops_keep_their_places(self):
+        """Each lies on the part on which it ends, as far from the edge's begin."""
+        stops = {
+            BusStop("a_1", 90.0, 110.0): BusStop("a_1", 90.0, 110.0),
+            BusStop("a_1", 400.0, 420.0): BusStop("a.150_1", 250.0, 270.0),
+            BusStop("a_1", 140.0, 160.0): BusStop("a.150_1", 0.0, 10.0),
+            BusStop("a_0", -30.0, None): BusStop("a.450_0", 120.0, 150.0),
+            BusStop("t_0", 400.0, 420.0): BusStop("t_0", 400.0, 420.0),
+        }
+        net = net_of()
+        net.bus_stops = {str(at): place for at, place in enumerate(stops)}
+        own = tuple(Stop("here", "", place, 20, None) for place in stops)
+        driven = [Vehicle("v", 0, ("a", "t"), "", stops=own)]
+        made, [vehicle] = with_lower_limits(net, driven, ["a:150-450:30"], Report())
+        self.assertEqual([one.bus_stop for one in vehicle.stops], list(stops.values()))
+        self.assertEqual(list(made.bus_stops.values()), list(stops.values()))
+
     def test_refused(self):
         for text in ("a", "a:1-2", "a:2-1:30", "a:1-2:x", "a:1-2:4", "a:1-2:131", "a:-1-2:30"):
             with self.assertRaisesRegex(Fault, "expected EDGE:METRES-METRES:KMH, metres that rise and 5 to 130 km/h"):
@@ -86,11 +105,12 @@ class Parts(unittest.TestCase):
         for texts, told in (
             (["u:1-200:30"], "30 km/h on u: the import has no edge 'u'"),
             (["a:100-700:30"], "30 km/h on a: the edge ends at 600 m"),
+            (["a:600-601:30"], "30 km/h on a: the edge ends at 600 m"),
             (["a:100-300:60"], "60 km/h on a: its limit is 50 km/h, which is lower"),
             (["a:100-300:30", "a:400-500:30"], "30 km/h on a: it has another lower limit"),
         ):
             with self.assertRaisesRegex(Fault, told):
-                slowed(net_of(), [], texts, Report())
+                with_lower_limits(net_of(), [], texts, Report())
 
 
 def mapped(*metres, turns=(), options=()):
@@ -131,7 +151,7 @@ class Lowered(unittest.TestCase):
         turns = [MapTurn(link, at, link + 1, at, None, 0, False) for link in (0, 1) for at in (0, 1)]
         mapping = mapped(120, 180, 300, turns=turns)
         works = [works_of("a_0:105-300:60-900", self.WHOLE)]
-        found = sites_of(moved(works, [Slow("a", 120, 300, 30)], self.WHOLE), mapping)
+        found = sites_of(works_on_parts(works, [Slow("a", 120, 300, 30)], self.WHOLE), mapping)
         self.assertEqual([(site.link, site.lane, site.cells) for site in found], [(0, 0, (14, 15)), (1, 0, (1, 23))])
         closures = closures_at(found)
         [begun] = begun_here(closures, mapping)

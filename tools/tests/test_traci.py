@@ -19,13 +19,16 @@ from support import (
     DATA, FORK, PROGRAM, SCENARIOS, TOOLS, Case, lane, needs_package, needs_simulator, needs_sumo, needs_sumo_tools,
     net,
 )
+from streetsim.base.files import Fault
 from streetsim.model.detectors import Detector
 from streetsim.results.compare import geh
 from streetsim.scenario import TrafficLight
-from streetsim.simulation.fleet import Place
+from streetsim.simulation.fleet import OnRoad
 from streetsim.simulation.remembering import Remembering
 from streetsim.simulation.lights import Light
 from streetsim.simulation.options import OUTPUT, SHORT, check_option
+from streetsim.simulation.session import Session
+from streetsim.simulation.street_facts import read_facts
 from streetsim.traci import constants as tc
 import streetsim.traci as traci
 from streetsim.traci.advice import NOTHING
@@ -80,8 +83,8 @@ class Loops(unittest.TestCase):
         """One drove over cell 3 at 15 m/s and is now in cell 3 of the next link; the loop was covered by its 5 m."""
         detector = Detector("loop", "e1", 0, 0, 3, 3, 60)
         driving = 100 * 5 / 15
-        for place, percent in ((Place(1, 0, 3, 2), driving), (Place(0, 1, 3, 2), driving), (Place(0, 0, 3, 0), 100)):
-            view = SimpleNamespace(places={7: place}, before={})
+        for where, percent in ((OnRoad(1, 0, 3, 2), driving), (OnRoad(0, 1, 3, 2), driving), (OnRoad(0, 0, 3, 0), 100)):
+            view = SimpleNamespace(on_road={7: where}, before={})
             fleet = SimpleNamespace(names={7: "v"}, sizes={"v": 1})
             session = SimpleNamespace(
                 view=view, fleet=fleet, detectors={"loop": detector}, loops={"loop": SimpleNamespace(passed=[7])}
@@ -110,6 +113,7 @@ class Vehicles(Started):
             ("a", "a_0", 7.5, 0.0),
         )
         self.assertEqual((traci.vehicle.getPosition("v"), traci.vehicle.getRoute("v")), ((7.5, 0.0), ("a", "b")))
+        self.assertEqual(traci.vehicle.getAllowedSpeed("later"), traci.constants.INVALID_DOUBLE_VALUE)  # as in SUMO
         traci.simulationStep()
         self.assertEqual((traci.simulation.getTime(), traci.simulation.getDepartedIDList()), (2.0, ()))
         arrived = []
@@ -232,6 +236,41 @@ class Vehicles(Started):
             with self.assertRaises(traci.TraCIException):
                 call()
 
+    def test_who_was_removed_is_on_no_lane(self):
+        """Also before the next step: the one behind it, which had it as its leader, has none, and lists lack it."""
+        self.start()
+        traci.route.add("way", ["a", "b"])
+        self.steps(3)
+        traci.vehicle.add("behind", "way")
+        self.steps(2)
+        self.assertEqual(traci.vehicle.getLeader("behind")[0], "v")
+        self.assertEqual(traci.vehicle.getFollower("v")[0], "behind")
+        lane = traci.vehicle.getLaneID("v")
+        traci.vehicle.remove("v")
+        self.assertIsNone(traci.vehicle.getLeader("behind"))
+        self.assertEqual(traci.lane.getLastStepVehicleIDs(lane), ("behind",))
+        self.assertEqual(traci.lane.getLastStepVehicleNumber(lane), 1)
+        self.assertEqual(traci.simulation.findRoute("a", "b").edges, ("a", "b"))
+        traci.vehicle.remove("behind")
+        self.assertEqual(traci.lane.getLastStepMeanSpeed(lane), traci.lane.getMaxSpeed(lane))
+
+    def test_a_vehicle_that_is_refused(self):
+        """It changes nothing of one that has its name, and the run goes on."""
+        self.start()
+        traci.route.add("way", ["a", "b"])
+        traci.route.add("other", ["a", "c"])
+        traci.vehicle.add("w", "way")
+        with self.assertRaisesRegex(traci.TraCIException, "'w' exists already"):
+            traci.vehicle.add("w", "other")
+        with self.assertRaisesRegex(traci.TraCIException, "'later' exists already"):
+            traci.vehicle.add("later", "other")
+        self.assertEqual(traci.vehicle.getRouteID("w"), "way")
+        for depart in ("x", "nan", float("inf"), -5, "1e12"):
+            with self.subTest(depart), self.assertRaisesRegex(traci.TraCIException, "Invalid departure time"):
+                traci.vehicle.add("x", "way", depart=depart)
+        traci.simulationStep(3)
+        self.assertEqual(set(traci.vehicle.getIDList()), {"v", "w"})
+
     def test_subscriptions(self):
         self.start()
         traci.vehicle.subscribe("v", [tc.VAR_SPEED, tc.VAR_ROAD_ID])
@@ -344,6 +383,7 @@ class Vehicles(Started):
             (["--scale", "1.5"], "--scale 1.5: streetsim has nothing for it"),
             (["--step-length", "fast"], "steps are of one second"),
             (["--seed", "x"], "--seed: 'x' is not 0 to"),
+            (["--end", "x"], "--end x: is no time"),
             (["--classes", "passenger,foo"], "--classes: SUMO has no vehicle class 'foo'"),
             (["--start", "true", "x.xml"], "'x.xml' is no option"),
         ):
@@ -499,6 +539,61 @@ class Vehicles(Started):
         with self.assertRaisesRegex(traci.TraCIException, "must begin with the edge 'a'"):
             traci.vehicle.setRoute("later", ["b"])
 
+    def test_rounds(self):
+        """A vehicle that comes to an edge again is there for the second time, for its way ahead too."""
+        ring = net(
+            [("a", "A", "B", [lane("a", 0)]), ("b", "B", "A", [lane("b", 0)]), ("c", "B", "C", [lane("c", 0)])],
+            [("a", 0, "b", 0, ""), ("b", 0, "a", 0, ""), ("a", 0, "c", 0, "")],
+        )
+        self.start(ring, '<routes><vehicle id="v" depart="0"><route edges="a b a b a c"/></vehicle></routes>', "<add/>")
+        vehicle, seen = traci.vehicle, []
+        for _ in range(60):
+            traci.simulationStep()
+            here = vehicle.getRouteIndex("v"), vehicle.getRoadID("v")
+            if ":" not in here[1] and here not in seen:
+                seen.append(here)
+            if here == (2, "a"):
+                break
+        self.assertEqual(seen, [(0, "a"), (1, "b"), (2, "a")])
+        to_c = 75 - vehicle.getLanePosition("v") + 75 + 75 + 10  # by b and a
+        self.assertAlmostEqual(vehicle.getDrivingDistance("v", "c", 10), to_c)
+        vehicle.setRoute("v", ["a", "b", "a", "b", "a", "c"])  # a round more than it has left
+        self.assertEqual(vehicle.getRoute("v"), ("a", "b", "a", "b", "a", "b", "a", "c"))
+        path = str(self.folder / "state.json")
+        traci.simulation.saveState(path)
+        traci.simulation.loadState(path)
+        self.assertEqual(vehicle.getRouteIndex("v"), 2)
+        while traci.simulation.getMinExpectedNumber():
+            at = vehicle.getRouteIndex("v")
+            traci.simulationStep()
+        self.assertEqual(at, 7)
+
+    def test_places_on_edges(self):
+        """Lane a is drawn half as long as it is; back along it a vehicle goes round by b, of 75 m."""
+        drawn = lane("a", 0).replace('length="75.0"', 'length="150"')
+        ring = net(
+            [("a", "A", "B", [drawn]), ("b", "B", "A", [lane("b", 0).replace("0,0 75.0,0", "75,9 0,9")])],
+            [("a", 0, "b", 0, ""), ("b", 0, "a", 0, "")],
+        )
+        self.start(ring, "<routes/>", "<additional/>")
+        simulation = traci.simulation
+        self.assertEqual(simulation.convert2D("a", 60), (30, 0))
+        self.assertEqual(simulation.convertRoad(30, 0), ("a", 60, 0))
+        self.assertEqual(simulation.getDistanceRoad("a", 20, "a", 50, True), 30)
+        self.assertEqual(simulation.getDistanceRoad("a", 50, "a", 20, True), 100 + 75 + 20)
+        self.assertEqual(simulation.getDistanceRoad("b", 50, "a", 20, True), 25 + 20)
+        for place in (-1, 151):
+            with self.assertRaisesRegex(traci.TraCIException, "no place at"):
+                simulation.convert2D("a", place)
+            with self.assertRaisesRegex(traci.TraCIException, "no place at"):
+                simulation.getDistanceRoad("b", 0, "a", place, True)
+        traci.close()
+        self.start()
+        with self.assertRaisesRegex(traci.TraCIException, "No way from edge 'a' to edge 'a'"):
+            simulation.getDistanceRoad("a", 50, "a", 20, True)
+        with self.assertRaisesRegex(traci.TraCIException, "Lane 'a_7' is not known"):
+            simulation.convert2D("a", 50, 7)
+
     def test_states(self):
         """What follows a state is the same, in this run and in another one that loads it."""
 
@@ -545,6 +640,46 @@ class Vehicles(Started):
         with self.assertRaisesRegex(traci.TraCIException, "state.json: a state of other routes"):
             traci.simulation.loadState(path)
 
+    def test_a_state_that_was_changed_by_hand_is_a_fault(self):
+        self.start()
+        self.steps(2)
+        path = self.folder / "state.json"
+        traci.simulation.saveState(str(path))
+        state = json.loads(path.read_text())
+        light = {**state["lights"], "K": state["lights"]["L"]}
+        changed = ({"of": None}, {"lines": None}, {"cars": None}, {"timers": [[1]]}, {"lights": light})
+        for other in (*changed, *({name: ...} for name in state if name != "format")):
+            [(name, value)] = other.items()
+            rest = {key: own for key, own in state.items() if key != name}
+            with self.subTest(name), self.assertRaisesRegex(Fault, "x.json: was changed after saveState wrote it"):
+                traci.simulation.loadState(self.write("x.json", json.dumps(rest | ({} if value is ... else other))))
+
+    def test_a_state_has_what_a_script_made(self):
+        """Routes, programs of lights and travel times go with it into another run; what was made after it does not."""
+        self.start()
+        program = traci.trafficlight.Logic("mine", 0, 0, [traci.trafficlight.Phase(20, "Gr", name="own")])
+        traci.trafficlight.setProgramLogic("L", program)
+        traci.trafficlight.setProgram("L", "day")
+        traci.route.add("way", ["a", "c"])
+        traci.vehicle.add("w", "way")
+        traci.edge.adaptTraveltime("c", 90)
+        traci.simulationStep(3)
+        path = str(self.folder / "state.json")
+        traci.simulation.saveState(path)
+        for anew in (False, True):
+            if anew:
+                traci.close()
+                self.start()
+            traci.route.add("late", ["a", "b"])
+            traci.edge.adaptTraveltime("b", 70)
+            traci.simulation.loadState(path)
+            self.assertEqual(traci.route.getIDList(), ("way",))
+            self.assertEqual(traci.route.getEdges(traci.vehicle.getRouteID("w")), ("a", "c"))
+            self.assertEqual([traci.edge.getAdaptedTraveltime(name, 0) for name in "bc"], [-1.0, 90.0])
+            traci.trafficlight.setProgram("L", "mine")
+            light = traci.trafficlight
+            self.assertEqual((light.getPhaseName("L"), light.getPhaseDuration("L")), ("own", 20))
+
     def test_steps_into_the_past_are_none_and_listeners_are_told(self):
         class Listener(traci.StepListener):
             def __init__(self):
@@ -556,13 +691,68 @@ class Vehicles(Started):
 
         self.start()
         listener = Listener()
-        self.assertEqual(traci.addStepListener(listener), 1)
+        self.assertEqual((traci.addStepListener(listener), listener.getID()), (0, 0))
         traci.simulationStep(10)
         traci.simulationStep(3)
         self.assertEqual(traci.simulation.getTime(), 10)
         traci.simulationStep()
         self.assertEqual(listener.times, [10.0, 10.0])
-        self.assertFalse(traci.removeStepListener(1))
+        self.assertFalse(traci.removeStepListener(0))
+
+    def test_a_listener_cleans_up_while_the_run_answers(self):
+        ended = []
+
+        class Listener(traci.StepListener):
+            def __init__(self, times):
+                self.times = times
+
+            def step(self, t=0):
+                self.times -= 1
+                return self.times > 0
+
+            def cleanUp(self):
+                ended.append((self.getID(), traci.simulation.getTime()))
+
+        self.start()
+        for times in (1, 9, 9):
+            traci.addStepListener(Listener(times))
+        traci.simulationStep()
+        self.assertTrue(traci.removeStepListener(2))
+        traci.simulationStep()
+        traci.close()
+        self.assertEqual(ended, [(0, 1.0), (2, 1.0), (1, 2.0)])
+
+    def test_a_run_ends_also_where_a_listener_fails(self):
+        class Listener(traci.StepListener):
+            def cleanUp(self):
+                raise LookupError
+
+        self.start()
+        process = traci._now().client.process
+        traci.addStepListener(Listener())
+        with self.assertRaises(LookupError):
+            traci.close()
+        self.assertEqual((process.poll(), traci.isLoaded()), (0, False))
+        self.start()
+        traci.close()  # the listener is no longer there
+
+    def test_a_run_whose_outputs_cannot_be_written_ends(self):
+        words = ["sumo", "-n", self.write("x.net.xml", SIGNALLED), "-r", self.write("x.rou.xml", ROUTES), "-W"]
+        for option in ("--tripinfo-output", "--log"):
+            with unittest.mock.patch.object(Session, "close", autospec=True, side_effect=Session.close) as close:
+                with self.assertRaisesRegex(traci.FatalTraCIError, "No such file or directory"):
+                    traci.start([*words, option, str(self.folder / "no/x.xml")])
+            close.assert_called_once()
+
+    def test_a_run_ends_also_where_its_outputs_fail(self):
+        words = ["sumo", "-n", self.write("x.net.xml", SIGNALLED), "-r", self.write("x.rou.xml", ROUTES), "-W"]
+        traci.start([*words, "--summary-output", str(self.folder / "x.xml")])
+        session = traci._now()
+        self.addCleanup(session.writer.close)
+        with unittest.mock.patch.object(session.writer, "close", side_effect=Fault("full")):
+            with self.assertRaisesRegex(Fault, "full"):
+                traci.close()
+        self.assertEqual(session.client.process.poll(), 0)
 
     def test_labels(self):
         words = ["sumo", "-n", self.write("x.net.xml", SIGNALLED), "-r", self.write("x.rou.xml", ROUTES), "-W"]
@@ -583,6 +773,9 @@ class Vehicles(Started):
             traci.vehicle.setColor("v", (255, 0, 0, 255))
         self.assertEqual(said.getvalue().count("shows nothing here"), 1)
         self.assertEqual(traci.vehicle.getColor("v"), (255, 0, 0, 255))
+        self.assertEqual(traci.vehicle.getParameter("v", "color"), "")
+        traci.vehicle.setParameter("later", "color", "red")
+        self.assertEqual(traci.vehicle.getColor("later"), (255, 255, 0, 255))
 
     def test_outputs(self):
         """Tripinfo and summary of two vehicles, one of which a script sends another way; half a file is none."""
@@ -655,6 +848,24 @@ class Lights(Started):
         traci.simulationStep(26)
         self.assertEqual((traci.trafficlight.getPhase("L"), traci.trafficlight.getNextSwitch("L")), (1, 30.0))
 
+    def test_a_phase_that_is_extended_stays(self):
+        """Beyond its end by the program, also where a script sets the end anew there; SUMO 1.15 tells the same."""
+        self.start()
+        light = traci.trafficlight
+
+        def told():
+            return light.getPhase("L"), light.getRedYellowGreenState("L"), light.getNextSwitch("L")
+
+        traci.simulationStep(7)
+        light.setPhaseDuration("L", 30)
+        traci.simulationStep(30)
+        self.assertEqual(told(), (0, "Gr", 37.0))
+        light.setPhaseDuration("L", 4)
+        traci.simulationStep(33)
+        self.assertEqual(told(), (0, "Gr", 34.0))
+        traci.simulationStep(35)
+        self.assertEqual(told(), (1, "yr", 39.0))
+
     def test_program(self):
         self.start()
         logic = traci.trafficlight.Logic(
@@ -671,6 +882,28 @@ class Lights(Started):
         )
         shown, *_ = traci.trafficlight.getAllProgramLogics("L")
         self.assertEqual([(phase.duration, phase.state) for phase in shown.phases], [(20, "rr"), (8, "GG")])
+
+    def test_a_program_that_is_refused_changes_nothing(self):
+        self.start()
+        light, phase = traci.trafficlight, traci.trafficlight.Phase
+
+        def told():
+            programs = [one.programID for one in light.getAllProgramLogics("L")]
+            return light.getProgram("L"), light.getRedYellowGreenState("L"), light.getNextSwitch("L"), programs
+
+        traci.simulationStep(7)
+        before = told()
+        self.assertEqual(before, ("day", "Gr", 15.0, ["day"]))
+        for seconds in (300_000, 0.2, float("inf"), float("nan")):
+            with self.subTest(seconds), self.assertRaises(traci.TraCIException):
+                light.setProgramLogic("L", light.Logic("mine", 0, 0, [phase(seconds, "GG")]))
+            self.assertEqual(told(), before)
+        with self.assertRaisesRegex(traci.TraCIException, "has no phase 1"):
+            light.setProgramLogic("L", light.Logic("mine", 0, 1, [phase(9, "GG")]))
+        for seconds in (-1, float("inf"), float("nan")):
+            with self.subTest(seconds), self.assertRaisesRegex(traci.TraCIException, "a phase of"):
+                light.setPhaseDuration("L", seconds)
+        self.assertEqual(told(), before)
 
     def test_a_program_that_does_not_fit_in_one_plan(self):
         """Red for 700 s of 9,800; a state that is saved within goes on with it, also in another run."""
@@ -689,6 +922,21 @@ class Lights(Started):
             self.assertEqual((traci.vehicle.getRoadID("v"), traci.trafficlight.getNextSwitch("L")), ("a", 9800.0))
             traci.simulationStep(703)
             self.assertNotEqual(traci.vehicle.getRoadID("v"), "a")
+
+    def test_vehicles_of_an_edge_and_how_full_it_is(self):
+        """As in SUMO: lane after lane, the rearmost first; the occupancy of lanes and edges is a share, not percent."""
+        self.start(routes=f"""<routes>{"".join(
+            f'<vehicle id="{name}" depart="{depart}"><route edges="a {to}"/></vehicle>'
+            for name, depart, to in (("v", 0, "b"), ("w", 1, "c"), ("x", 9, "b"))
+        )}</routes>""")
+        traci.trafficlight.setRedYellowGreenState("L", "rr")
+        traci.simulationStep(60)
+        self.assertEqual(traci.edge.getLastStepVehicleIDs("a"), ("x", "v", "w"))
+        metres = traci.lane.getLength("a_0")
+        self.assertAlmostEqual(traci.lane.getLastStepOccupancy("a_0"), 2 * 5 / metres)
+        self.assertAlmostEqual(traci.edge.getLastStepOccupancy("a"), 3 * 5 / (2 * metres))
+        area = 100 * 2 * 5 / traci.lanearea.getLength("area")
+        self.assertAlmostEqual(traci.lanearea.getLastStepOccupancy("area"), area)
 
     def test_what_is_shown_is_driven(self):
         self.start()
@@ -744,8 +992,28 @@ class Lights(Started):
     def test_light(self):
         light = Light([(10, "G"), (20, "r")], 95, "0")
         self.assertEqual(
-            [light.at(clock) for clock in (95, 104, 105, 124, 125)], [(0, 10), (0, 1), (1, 20), (1, 1), (0, 10)]
+            [light.phase_at(clock) for clock in (95, 104, 105, 124, 125)], [(0, 10), (0, 1), (1, 20), (1, 1), (0, 10)]
         )
+
+
+class Spoilt(Case):
+    def test_an_attribute_that_cannot_be_read(self):
+        text = SIGNALLED.replace("<junction", '<location convBoundary="0,0,1,1"/><junction', 1).replace(
+            ' y="0"', ' y="0" shape="0,0 1,1"', 1
+        )
+        asked = '<additional><edgeData id="e" file="x" period="60"/></additional>'
+        self.assertEqual(read_facts(self.write("x.net.xml", text), [], []).boundary, ((0, 0), (1, 1)))
+        for name in ("shape", "convBoundary", "linkIndex", "offset", "speed"):
+            path = self.write("y.net.xml", re.sub(f' {name}="[^"]*"', f' {name}="1,x"', text, count=1))
+            with self.subTest(name), self.assertRaisesRegex(Fault, f"y.net.xml: .*{name}='1,x' cannot be read"):
+                read_facts(path, [], [])
+        path = self.write("y.net.xml", text.replace('type="priority" x="0" y="0" shape="0,0', 'x="0" y="0" shape="0'))
+        with self.assertRaisesRegex(Fault, "y.net.xml: .*shape='0 1,1' cannot be read"):
+            read_facts(path, [], [])
+        for period in ("x", "-60"):
+            path = self.write("y.add.xml", asked.replace("60", period))
+            with self.subTest(period), self.assertRaisesRegex(Fault, f"y.add.xml: .*period='{period}' cannot be read"):
+                read_facts(self.write("x.net.xml", text), [path], [])
 
 
 class Constants(unittest.TestCase):
@@ -756,7 +1024,8 @@ class Constants(unittest.TestCase):
             names = set(re.findall(r"^  (?:-., )?--([\w.:-]+)", told, re.MULTILINE)) - {"help", "version"}
             self.assertEqual(len(names) > 300, bool(told))
             for name in names:
-                value = "1" if name in ("step-length", "scale") else "/dev/null" if OUTPUT.fullmatch(name) else "false"
+                number = name in ("step-length", "scale", "end")
+                value = "1" if number else "/dev/null" if OUTPUT.fullmatch(name) else "false"
                 check_option(name, value)
             letters = re.findall(r"^  -(.), --([\w.:-]+)", told, re.MULTILINE)
             self.assertEqual(

@@ -31,10 +31,26 @@ class Marks(unittest.TestCase):
 
     def test_nearly_full_streets(self):
         """Above one passage of them in ten vehicles; most of all those that most pass."""
-        self.assertEqual(list(trust.of_crowded(300, {"a": 30})), [])
-        (told,) = trust.of_crowded(300, {"a": 11, "b": 20})
+        self.assertEqual(list(trust.crowding_doubts(300, {"a": 30})), [])
+        (told,) = trust.crowding_doubts(300, {"a": 11, "b": 20})
         self.assertTrue(told.startswith("2 streets that give way without a light are nearly full, for 31 passages"))
         self.assertTrue(told.endswith("most of all b, a"))
+
+    def test_one_alone(self):
+        """One street, passage or vehicle is told in the singular."""
+        self.assertEqual(list(trust.crowding_doubts(300, {"a": 31})), [
+            "1 street that gives way without a light is nearly full, for 31 passages of 300 vehicles, and its queue "
+            "may be other than in SUMO: most of all a",
+        ])
+        self.assertIn("for 1 passage of 1 vehicle, and", *trust.crowding_doubts(1, {"a": 1}))
+        self.assertEqual(
+            list(trust.arrival_doubts(self.trips(row(980, 990), row(970)))),
+            ["1 of 2 vehicles that had the time to arrive has not"],
+        )
+        self.assertEqual(
+            list(trust.entry_doubts(self.trips(row(0)), [Census(60, 1)])),
+            ["1 vehicle waited to enter at 60 s, and is in no queue or count"],
+        )
 
     def test_rescues(self):
         """Above one in a hundred, and more than one."""
@@ -44,27 +60,27 @@ class Marks(unittest.TestCase):
             (1, 1, []),
             (300, 3, []),
         ):
-            self.assertEqual(list(trust.of_rescues(self.trips(*vehicles * [row(0, 20)]), rescues)), told)
+            self.assertEqual(list(trust.rescue_doubts(self.trips(*vehicles * [row(0, 20)]), rescues)), told)
 
     def test_who_had_the_time_to_arrive(self):
         """More than a tenth; who departs within the free-flow time before the end had not the time."""
         on_time, late, short = 9 * [row(0, 990)], row(970), row(995)
-        self.assertEqual(list(trust.of_arrivals(self.trips(*on_time, late, *9 * [short]))), [])
-        told = list(trust.of_arrivals(self.trips(*on_time, late, late)))
+        self.assertEqual(list(trust.arrival_doubts(self.trips(*on_time, late, *9 * [short]))), [])
+        told = list(trust.arrival_doubts(self.trips(*on_time, late, late)))
         self.assertEqual(told, ["2 of 11 vehicles that had the time to arrive have not"])
 
     def test_a_locked_network(self):
         """Nobody arrives for 600 s, though somebody should have for as long; not where nobody is due."""
         self.assertEqual(
-            list(trust.of_arrivals(self.trips(row(0, 400), row(390)))),
+            list(trust.arrival_doubts(self.trips(row(0, 400), row(390)))),
             ["the network is locked: nobody has arrived for 600 s, and 1 should have"],
         )
-        self.assertEqual(list(trust.of_arrivals(self.trips(row(0, 400), row(380, free=900.0)))), [])
+        self.assertEqual(list(trust.arrival_doubts(self.trips(row(0, 400), row(380, free=900.0)))), [])
 
     def test_queues_at_entries(self):
         made = self.trips(*100 * [row(0, 20)])
-        self.assertEqual(list(trust.of_entries(made, [Census(60, 5)])), [])
-        told = list(trust.of_entries(made, [Census(60, 5), Census(120, 6), Census(180, 2)]))
+        self.assertEqual(list(trust.entry_doubts(made, [Census(60, 5)])), [])
+        told = list(trust.entry_doubts(made, [Census(60, 5), Census(120, 6), Census(180, 2)]))
         self.assertEqual(told, ["6 vehicles waited to enter at 120 s, and are in no queue or count"])
 
     def test_works_that_met_nobody(self):
@@ -74,7 +90,7 @@ class Marks(unittest.TestCase):
             "works on a_0 begin at 300 s, and 1 of 4 runs had ended by then",
             "works on a_0 begin at 300 s, and met nobody in 2 of 4 runs, as all vehicles had arrived by then",
         ]
-        self.assertEqual(list(trust.of_works([("a_0", 300), ("b_0", 200)], runs)), told)
+        self.assertEqual(list(trust.works_doubts([("a_0", 300), ("b_0", 200)], runs)), told)
 
     def test_actuated_lights(self):
         """More than a tenth of those who depart pass light L; who only comes to it,
@@ -86,7 +102,8 @@ class Marks(unittest.TestCase):
         ):
             plans = [*past * [([0, 1], 0)], *before * [([0], 0)], ([0, 1], 1000)]
             enters = [Line(2, "", {"plan": plan, "depart": depart}) for plan, depart in plans]
-            found = list(trust.of_actuated(1000, Run("run", Line(1, "", {}), enters=enters), mapping, mapping.actuated))
+            run = Run("run", Line(1, "", {}), enters=enters)
+            found = list(trust.actuated_doubts(1000, run, mapping, mapping.actuated))
             self.assertEqual([text.partition(" their ")[0] for text in found], told)
             self.assertEqual([text.rpartition(": ")[2] for text in found], ["most of all L"] * len(told))
 
@@ -99,7 +116,7 @@ class Marks(unittest.TestCase):
             ([0, 1], ["routes are 20 % longer here than in SUMO, as edges are whole cells: most of all b"]),
         ):
             run = Run("run", Line(1, "", {}), enters=[Line(2, "", {"plan": plan, "depart": 0})])
-            self.assertEqual(list(trust.of_lengths(1000, run, mapping)), told)
+            self.assertEqual(list(trust.length_doubts(1000, run, mapping)), told)
 
 
 @needs_simulator

@@ -7,7 +7,7 @@ import unittest
 
 from support import MAP, NUMBERED, PROGRAM, TOOLS, Case, needs_simulator
 from streetsim.base.files import Fault, read_json
-from streetsim.base.words import Parser, files_of, listed, time_within, within
+from streetsim.base.words import Parser, integer_within, names_in, paths_in, time_within
 
 ENTER = {"cmd": "enter", "plan": [0, 1], "lane": 0, "depart": 0}
 
@@ -48,6 +48,11 @@ class Words(Case):
         made.add_argument("--title", default="a")
         self.assertEqual(made.parse_args(["--title", ""]).title, "")
 
+    def test_outputs_that_are_read(self):
+        run, mapped = self.write("x.jsonl", json.dumps({"cmd": "load", **NUMBERED})), self.write("x.json", "{}")
+        told = self.tool("live", run, "--map", mapped, "-o", run, status=2)[1]
+        self.assertIn("-o names a file that is read", told)
+
     def test_times(self):
         time = time_within(0, 100_000)
         told = [time(text) for text in ("90", "90.0", "01:00:00", "00:01:30", "1:00:00:01")]
@@ -59,12 +64,12 @@ class Words(Case):
                 made.parse_args(["--until", text])
 
     def test_lists(self):
-        self.assertEqual(listed(" A B,C ,D"), ["A", "B", "C", "D"])
+        self.assertEqual(names_in(" A B,C ,D"), ["A", "B", "C", "D"])
         made = Parser(prog="x")
-        made.add_argument("--n", type=within(1, 3))
+        made.add_argument("--n", type=integer_within(1, 3))
         self.assertEqual(made.parse_args(["--n", "3"]).n, 3)
         comma = self.write("a,b.xml", "")
-        self.assertEqual(files_of([comma, "c.xml,d.xml", "e.xml"]), [comma, "c.xml", "d.xml", "e.xml"])
+        self.assertEqual(paths_in([comma, "c.xml,d.xml", "e.xml"]), [comma, "c.xml", "d.xml", "e.xml"])
 
 
 @needs_simulator

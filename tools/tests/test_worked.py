@@ -8,18 +8,20 @@ from support import PROGRAM, Case, needs_simulator
 from test_pictures import needs_matplotlib
 from test_works import fan, flows
 from streetsim.base.client import Client, Lane
+from streetsim.base.files import Fault
 from streetsim.model.mapping import Map, MapLink, MapTurn
 from streetsim.model.runs import Line, Run
 from streetsim.run.record import Recorder
 from streetsim.run.settings import Settings
-from streetsim.run.worked import Works
-from streetsim.works.asked import clock_of, sites_of, really_closed, works_of
+from streetsim.run.worked import WorksUnderWay
+from streetsim.works.asked import Works as Wanted, clock_of, sites_of, really_closed, works_of
 from streetsim.works.closures import Closure, closures_of
-from streetsim.works.crowding import beyond_joint, crowded
-from streetsim.works.figures import capacity_of, length_at, periods_of, rows, Period
-from streetsim.works.movements import lost_movements, told_of, waiting
+from streetsim.works.crowding import beyond_joint, told_of_crowding
+from streetsim.works.figures import capacity_of, length_at, periods_of, works_rows, Period
+from streetsim.works.movements import lost_movements, told_of_lost, without_led_turns
 from streetsim.works.queues import reach_of, streets_of
-from streetsim.works.watched import Passed, Queue, Watched, doubts_of
+from streetsim.works.sites import imported_for, lanes_to_join, lanes_to_lead, with_works
+from streetsim.works.watched import Queue, Watched, WorksPassing, doubts_of
 
 
 def link(edge, lanes=2, cells=40, begin=0, end=1):
@@ -53,12 +55,13 @@ def lanes(**places):
 
 class Queues(unittest.TestCase):
     def reach(self, **places):
-        found = reach_of(lanes(**{**{name: () for name in ("z0", "z1", "a0", "a1")}, **places}), streets_of(TWO), 1, 30)
+        found = reach_of(lanes(**places), streets_of(TWO), 1, 30)
         return found.metres, found.vehicles, found.full
 
     def test_up_to_the_rear_of_the_last_who_stands(self):
         self.assertEqual(self.reach(), (0.0, 0, []))
         self.assertEqual(self.reach(a0=[(1, 29, 0)]), (7.5, 1, []))
+        self.assertEqual(self.reach(a1=[(1, 29, 0)]), (7.5, 1, []), "on the other lane alone")
         self.assertEqual(self.reach(a0=[(1, 29, 0)], a1=[(2, 22, 0, 3), (3, 10, 1)]), (75.0, 2, []), "a truck beside")
         self.assertEqual(self.reach(a0=[(1, 31, 0), (2, 20, 0)]), (75.0, 1, []), "who is past them is not of it")
 
@@ -78,7 +81,7 @@ class Two(unittest.TestCase):
 
     def test_each_has_the_queue_before_it(self):
         first, second = Closure(1, 0, 10, 19, 100, 500), Closure(1, 0, 30, 35, 100, 900)
-        watched = Works([first, second], TWO, pace=[0.5, 0.5]).watched
+        watched = WorksUnderWay([first, second], TWO, pace=[0.5, 0.5]).watched
         standing = lanes(z0=[(9, 38, 0)], z1=[], a0=[(1, 29, 0), (4, 2, 0)], a1=[(2, 22, 0), (3, 12, 0), (5, 9, 0)])
         found = [(one.reach(120, standing).vehicles, one.reach(120, standing).metres) for one in watched]
         self.assertEqual(found, [(3, 75.0 + 15.0), (3, (30 - 12) * 7.5)])
@@ -100,10 +103,23 @@ class Seen(unittest.TestCase):
             (115, dict(a0=[(1, 28, 0)], a1=[(3, 34, 2)])), (135, dict(a0=[], a1=[(1, 35, 2), (4, 31, 2)])),
         ]  # fmt: skip
         for clock, seen in looks:
-            one.look(clock, lanes(**{"a0": (), "a1": (), **seen}), lambda car, link: True)
+            one.note_look(clock, lanes(**{"a0": (), "a1": (), **seen}), lambda car, link: True)
         # 2 was past them at the first look; 3 was seen in cell 10, ten seconds from them; 4 came between two looks.
-        self.assertEqual(one.passed, [Passed(115, 0.0), Passed(135, 25.0), Passed(135, 0.0)])
+        self.assertEqual(one.passed, [WorksPassing(115, 0.0), WorksPassing(135, 25.0), WorksPassing(135, 0.0)])
         self.assertEqual([stand.seconds for stand in one.stands], [0, 0, 5, 0])
+
+    def test_who_is_rescued_has_not_passed_and_keeps_its_seconds(self):
+        """Car 1 stands upstream, is taken out, and comes to the works as car 2: one vehicle passes, not two."""
+        one = self.watched()
+        near = [(car, 29 - 3 * car, 0) for car in range(3, 12)]
+        one.note_look(105, lanes(a0=near, z0=[(1, 39, 0)]), lambda car, link: True)
+        one.rescue(1, 2)
+        one.note_look(110, lanes(a0=near, z0=()), lambda car, link: True)
+        self.assertEqual(one.passed, [])
+        one.note_look(115, lanes(a0=[*near, (2, 1, 1)], z0=()), lambda car, link: True)
+        one.note_look(145, lanes(a0=near, z0=()), lambda car, link: True)
+        # Alone it would take half a second to the end of z and 15 s from there to cell 30.
+        self.assertEqual(one.passed, [WorksPassing(145, 145 - 105 - 15.5)])
 
     def test_links_upstream_are_looked_at_where_the_queue_comes_near_them(self):
         one = self.watched()
@@ -111,11 +127,11 @@ class Seen(unittest.TestCase):
         self.assertEqual(one.further(120, lanes(a0=(), a1=())), [])
         self.assertEqual(one.further(120, lanes(a0=near, a1=())), [0])
         self.assertEqual(one.further(120, lanes(a0=near, a1=(), z0=(), z1=())), [])
-        one.look(110, lanes(a0=near, a1=(), z0=[(50, 39, 0)], z1=[(51, 38, 0)]), lambda car, link: car != 51)
+        one.note_look(110, lanes(a0=near, a1=(), z0=[(50, 39, 0)], z1=[(51, 38, 0)]), lambda car, link: car != 51)
         self.assertEqual((one.coming[50].free, 51 in one.coming), (0.5 + 15, False))
         self.assertEqual(one.left, None)
         full = [(car, 38 - 3 * car, 0) for car in range(13)]
-        one.look(115, lanes(a0=near, a1=(), z0=full, z1=()), lambda car, link: True)
+        one.note_look(115, lanes(a0=near, a1=(), z0=full, z1=()), lambda car, link: True)
         self.assertEqual(one.left, 115)
         [told] = doubts_of([one], TWO)
         self.assertIn("the queue before the works on a_0 left the network at 115 s", told)
@@ -123,16 +139,16 @@ class Seen(unittest.TestCase):
     def test_who_stands_for_two_minutes_is_a_doubt(self):
         one = self.watched()
         for clock in range(105, 231, 5):
-            one.look(clock, lanes(a0=[(1, 29, 0)], a1=()), lambda car, link: True)
+            one.note_look(clock, lanes(a0=[(1, 29, 0)], a1=()), lambda car, link: True)
         [told] = doubts_of([one], TWO)
         self.assertIn("before the works on a_0 1 stood for more than 120 s in one cell, one for 125 s", told)
 
     def test_rows(self):
         one = self.watched()
         for clock in range(105, 1901, 5):
-            one.look(clock, lanes(a0=[(1, 29, 0)] if clock <= 1100 else [], a1=()), lambda car, link: True)
-            one.passed.append(Passed(clock, 4.0 if clock < 1000 else 6.0))
-        found = [dict(zip(("begin", "end"), row[:2])) | {"rest": row[2:]} for row in rows([one], TWO, 0, 900)]
+            one.note_look(clock, lanes(a0=[(1, 29, 0)] if clock <= 1100 else [], a1=()), lambda car, link: True)
+            one.passed.append(WorksPassing(clock, 4.0 if clock < 1000 else 6.0))
+        found = [dict(zip(("begin", "end"), row[:2])) | {"rest": row[2:]} for row in works_rows([one], TWO, 0, 900)]
         self.assertEqual([(row["begin"], row["end"]) for row in found], [(100, 900), (900, 1800), (1800, 1900)])
         edge, number, begin, end, vehicles, capacity, mean, most, *queues, stood = found[1]["rest"]
         self.assertEqual((edge, number, begin, end), ("a", 0, "225.0", "300.0"))
@@ -151,7 +167,7 @@ class Seen(unittest.TestCase):
     def test_capacity_is_that_of_quarters_with_a_queue(self):
         one = self.watched()
         self.assertIsNone(capacity_of(one, Period(100, 900)))
-        one.passed = [Passed(clock, 0.0) for clock in range(101, 1900, 2)]
+        one.passed = [WorksPassing(clock, 0.0) for clock in range(101, 1900, 2)]
         one.queues = [Queue(clock, 5, 0.0 if clock == 500 else 9.0) for clock in range(105, 1901, 5)]
         self.assertIsNone(capacity_of(one, Period(100, 1300)), "a queue since 500 alone")
         self.assertEqual(capacity_of(one, Period(1300, 1900)), 1800)
@@ -162,13 +178,18 @@ class Asked(unittest.TestCase):
         times = {"07:00": 25200, "7:30": 27000, "07:00:00": 25200, "90": 90, "07:60": None, "x": None}
         self.assertEqual({text: clock_of(text) for text in times}, times)
         works = works_of("a_0:10-20:07:00-07:30:30", TWO)
-        self.assertEqual((works.first, works.last), (25200, 27030))
+        self.assertEqual((works.begin, works.end), (25200, 27030))
 
     def test_what_is_really_closed(self):
         works = [works_of(text, TWO) for text in ("a_0:0-200:0-9", "a_0:60-120:0-9")]
         told = list(really_closed(sites_of(works, TWO), TWO))
         why = "the first 30 m of a lane with one beside it stay open, as turns lead there"
         self.assertEqual(told, [f"works on a_0 close 30 to 202 m of 0 to 200 m: {why}"])
+
+    def test_a_lane_with_braces_in_its_name_is_named_in_a_fault_of_its_import(self):
+        told = r"^lane \{a\}_0 needs the import anew: \{x\}.net.xml: has changed. Run it with --joint \{a\}_0$"
+        with self.assertRaisesRegex(Fault, told), imported_for("lane {a}_0", ". Run it with --joint {a}_0"):
+            raise Fault("{x}.net.xml: has changed")
 
     def test_closures(self):
         told, place = ((10, "close", 0), (20, "close", 1), (30, "reopen", 0)), {"lane": 0, "first": 1, "last": 5}
@@ -198,7 +219,7 @@ class Movements(unittest.TestCase):
 
     def test_who_loses_the_only_lane(self):
         run, lost = self.lost(20, 39)
-        [told] = told_of(lost, self.MAP, "lead")
+        [told] = told_of_lost(lost, self.MAP, "lead")
         self.assertEqual(
             told,
             "works on a_1 close the only lane from which 2 vehicles turn to c while they last: these are led from a_0, "
@@ -211,10 +232,10 @@ class Movements(unittest.TestCase):
         run, lost = self.lost(20, 39)
         signal = {"cmd": "signal", "node": 1, "offset": 0, "phases": [[30, [[0, 0, 1], [0, 0, 2], [0, 1, 2]]]]}
         run.first = [Line(2, json.dumps(signal), signal)]
-        made = waiting(run, self.MAP, lost)
+        made = without_led_turns(run, self.MAP, lost)
         self.assertEqual(made.load.command["turns"], [[0, 0, 1, 0], [0, 1, 1, 1], [0, 1, 2, 0]])
         self.assertEqual(json.loads(made.first[0].text)["phases"], [[30, [[0, 0, 1], [0, 1, 2]]]])
-        self.assertIn("these wait until the works end", *told_of(lost, self.MAP, "wait"))
+        self.assertIn("these wait until the works end", *told_of_lost(lost, self.MAP, "wait"))
 
 
 class Pockets(unittest.TestCase):
@@ -240,14 +261,33 @@ class Pockets(unittest.TestCase):
             ("bar", True, "ways round are searched for those who come meanwhile"),
         ):
             before = "works on a_1 close the only lane from which 2 vehicles turn to c while they last: "
-            self.assertEqual(list(told_of(lost, self.map, how, searched)), [before + told])
-        [told] = told_of(lost, self.map, "bar")
+            self.assertEqual(list(told_of_lost(lost, self.map, how, searched)), [before + told])
+        [told] = told_of_lost(lost, self.map, "bar")
         self.assertIn("these have no way, and wait until the works end; streetsim-route --close .. --lost bar", told)
 
     def test_those_alone_who_come_meanwhile(self):
         self.assertEqual(self.lost(Closure(1, 0, 10, 39, 3, 900)), [])
         [lost] = self.lost(Closure(1, 0, 10, 39, 3, 900), Closure(1, 0, 0, 39, 2, 3))
-        self.assertEqual((lost.way, lost.vehicles), (("a", "c"), 1))
+        self.assertEqual((lost.movement, lost.vehicles), (("a", "c"), 1))
+
+    def test_who_comes_while_works_overlap_counts_once(self):
+        """Two come, at 1 and at 2 s; two more closures on the same cells add nobody."""
+        [lost] = self.lost(*(Closure(1, 0, 10, 39, begin, 900) for begin in (2, 0, 1)))
+        self.assertEqual(lost.vehicles, 2)
+
+    def test_who_comes_back_while_works_last_counts(self):
+        """Over the same links twice, and there for the second time alone while they are closed."""
+        run = run_of([[1, 3, 1, 3]])
+        [lost] = lost_movements(run, self.map, [Closure(1, 0, 10, 39, 5, 900)])
+        self.assertEqual(lost.vehicles, 1)
+
+    def test_works_are_led_by_whichever_of_them_begins_near(self):
+        """Both close the lane to its end; one of them begins 10 m from the edge's begin."""
+        far, near = (Wanted("", "a_1", begin, 300, 0, 900) for begin in (200, 10))
+        for works in ([far, near], [near, far]):
+            self.assertEqual(lanes_to_lead(works, self.map), ["a_1"])
+            self.assertEqual(lanes_to_join(works, self.map), [])
+        self.assertEqual((lanes_to_lead([far], self.map), lanes_to_join([far], self.map)), ([], ["a_1"]))
 
     def test_where_nothing_is_lost_or_all_is_closed(self):
         self.assertEqual(self.lost(Closure(1, 0, 10, 35, 0, 900)), [], "they come back behind the works")
@@ -259,7 +299,7 @@ class Crowding(unittest.TestCase):
         run = run_of([[0]] * (hourly // 4))
         for line in run.enters:
             line.command["depart"] = line.command["depart"] * 3600 // hourly
-        return list(crowded(run, mapping, closures)), beyond_joint(run, mapping, closures)
+        return list(told_of_crowding(run, mapping, closures)), beyond_joint(run, mapping, closures)
 
     def test_more_come_than_pass(self):
         self.assertEqual(self.told(mapped(link("a")), 1500), ([], []))
@@ -269,6 +309,16 @@ class Crowding(unittest.TestCase):
         self.assertTrue(told[0].endswith("a queue grows before them"))
         told, doubted = self.told(mapped(link("a"), link("a", 1)), 2000)
         self.assertEqual(told, doubted)
+
+    def test_a_close_of_the_run_that_nothing_reopens(self):
+        """It counts up to the last departure (1,000 in 1,799 s), and is told of where other works are asked for."""
+        mapping, run = mapped(link("a"), link("b")), run_of([[0]] * 1000)
+        for line in run.enters:
+            line.command["depart"] = line.command["depart"] * 3600 // 2000
+        close = {"cmd": "close", "link": 0, "lane": 0, "first": 20, "last": 30}
+        run.timed = [(0, Line(1, json.dumps(close), close))]
+        told = with_works(run, mapping, "map", [works_of("b_0:150-200:0-900", mapping)])[2]
+        self.assertIn("edge a: some 2,001 vehicles an hour come to works that leave 1 of 2 lanes", "; ".join(told))
 
     def test_two_lanes_at_other_hours(self):
         """Each leaves one lane; where both are closed at once none is left, which is told otherwise."""
@@ -341,6 +391,19 @@ class Written(Case):
 
 @needs_simulator
 class Beside(unittest.TestCase):
+    def test_who_is_rescued_before_works_has_not_passed_them(self):
+        """Both lanes are closed to the end: of 120 vehicles those at the end of the street before are rescued."""
+        load = {"cmd": "load", "nodes": [[0, 1, 4], [1, 1, 4], [2, 1, 4]], "turns": [[0, 0, 1, 0], [0, 1, 1, 1]]}
+        load |= {"links": [[0, 0, 1, 2, 40, 2], [1, 1, 2, 2, 40, 2]], "zone": 0, "dawdle": 0, "change": 0, "seed": 5}
+        enters = [{"cmd": "enter", "plan": [0, 1], "lane": at % 2, "depart": at} for at in range(120)]
+        close = [{"cmd": "close", "link": 1, "lane": lane, "first": 20, "last": 30} for lane in (0, 1)]
+        lines = [Line(at, json.dumps(one), one) for at, one in enumerate([load, *close, *enters], 1)]
+        run = Run("x", lines[0], first=lines[1:3], enters=lines[3:], needed=[one["depart"] for one in enters])
+        with Client(PROGRAM) as sim:
+            records = Recorder(sim, run, TWO, Settings(900, 0), None, lambda *_: None).record()
+        self.assertGreater(records.rescues.total(), 0)
+        self.assertEqual([one.passed for one in records.works], [[], []])
+
     def test_queue_beside_looks_in_every_second(self):
         """Over two links: 2,400 vehicles an hour come to one open lane. Means and greatest within 15 m or 5 %."""
         load = {"cmd": "load", "nodes": [[0, 1, 4], [1, 1, 4], [2, 1, 4]], "turns": [[0, 0, 1, 0], [0, 1, 1, 1]]}
@@ -355,13 +418,13 @@ class Beside(unittest.TestCase):
         streets, exact = streets_of(mapping), []
 
         class Looking(Recorder):
-            def look(self, clock):
+            def do_all_due(self, clock):
                 if clock > 20:
-                    exact.append(reach_of(self.lanes([(0, 0), (0, 1), (1, 0), (1, 1)]), streets, 1, 20).metres)
-                super().look(clock)
+                    exact.append(reach_of(self.poll_lanes([(0, 0), (0, 1), (1, 0), (1, 1)]), streets, 1, 20).metres)
+                super().do_all_due(clock)
 
-            def advance(self, clock, target):
-                return super().advance(clock, clock + 1)
+            def advance_towards(self, clock, target):
+                return super().advance_towards(clock, clock + 1)
 
         with Client(PROGRAM) as sim:
             [watched] = Looking(sim, run, mapping, Settings(900, 0, rescue=0), None, lambda *_: None).record().works

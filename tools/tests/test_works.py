@@ -12,7 +12,7 @@ from streetsim.model.mapping import read_map
 from streetsim.model.runs import read_run
 from streetsim.scenario import Scenario
 from streetsim.sumo.net import Edge, Lane as SumoLane
-from streetsim.sumo.network import parallel
+from streetsim.sumo.network import bundles_of_edge
 import streetsim.traci as traci
 from streetsim.works.asked import sites_of, works_of
 from streetsim.works.sites import shut_links, with_works
@@ -45,7 +45,7 @@ class Groups(unittest.TestCase):
         following = {("a", at): {f"to{at}"} for at in range(lanes)}
         return [
             [one.index for one in group]
-            for group in parallel(edge, following, {("a", at): set() for at in range(lanes)}, closing)
+            for group in bundles_of_edge(edge, following, {("a", at): set() for at in range(lanes)}, closing)
         ]
 
     def test_closed_beside_open(self):

@@ -1,7 +1,5 @@
 """Where the detectors of an actuated light lie, and which phases they extend, as SUMO 1.15 has it
 (MSActuatedTrafficLightLogic::init)."""
-from __future__ import annotations
-
 from collections import defaultdict
 from collections.abc import Iterable, Mapping, Sequence
 from dataclasses import dataclass, field
@@ -31,8 +29,8 @@ class Spot(NamedTuple):
 
 
 @dataclass(slots=True, frozen=True)
-class Way:
-    """A connection at the light, from a lane to another one."""
+class LitTurn:
+    """A turn at the light, from a lane to another one."""
 
     index: int  # its place in a state, from 0
     lane: str
@@ -55,7 +53,7 @@ class LitLane:
 class Layout:
     """What lies at an actuated light, and the parameters of its program."""
 
-    ways: Sequence[Way]
+    turns: Sequence[LitTurn]
     lanes: Mapping[str, LitLane]  # by name
     parameters: Mapping[str, str] = field(default_factory=dict)
 
@@ -65,10 +63,10 @@ class Layout:
         return float(self.parameters.get(f"{name}:{lane}", self.parameters.get(name, usual)))
 
     def indexes(self) -> dict[str, set[int]]:
-        """By lane the places in a state, from 0, of the signals of its ways."""
+        """By lane the places in a state, from 0, of the signals of its turns."""
         found: defaultdict[str, set[int]] = defaultdict(set)
-        for way in self.ways:
-            found[way.lane].add(way.index)
+        for turn in self.turns:
+            found[turn.lane].add(turn.index)
         return found
 
 
@@ -88,8 +86,8 @@ def spots(layout: Layout, phases: Sequence[Phase]) -> dict[str, Spot]:
 
 
 def shortest_greens(layout: Layout, phases: Sequence[Phase]) -> dict[str, int]:
-    """By lane the least seconds of any phase in which a signal of it is green (G or g) and whose bounds differ, so that
-    detectors decide its length; lanes without such a phase are left out."""
+    """By lane the shortest of the least seconds of the phases in which a signal of it is green (G or g) and whose
+    bounds differ, so that detectors decide their length; lanes without such a phase are left out."""
     found: dict[str, int] = {}
     for lane, indexes in sorted(layout.indexes().items()):
         own = [one.least for one in phases if one.least != one.most and any(one.state[at] in GO for at in indexes)]
@@ -112,35 +110,35 @@ def spot_before(stretches: Iterable[Stretch], metres: float) -> Spot:
 
 def extending(layout: Layout, phases: Sequence[Phase], detected: Iterable[str]) -> list[list[str]]:
     """For each phase the lanes, sorted, among those that have a detector (`detected`), whose detectors extend it: those
-    all of whose ways are green in it, as greens has it, and lead to no other lane with a detector of this light that is
-    not all green too (ways that turn back aside). Empty for a phase of one length."""
+    all of whose turns are green in it, as green_indexes has it, and lead to no other lane with a detector of this light
+    that is not all green too (turns back aside). Empty for a phase of one length."""
     indexes, detected = layout.indexes(), sorted(detected)
     leads: defaultdict[str, set[str]] = defaultdict(set)
-    for way in layout.ways:
-        if not way.turns_back:
-            leads[way.lane].add(way.target)
+    for turn in layout.turns:
+        if not turn.turns_back:
+            leads[turn.lane].add(turn.target)
     found = []
     for phase in phases:
-        green = greens(layout, phases, phase.state) if phase.least != phase.most else set()
+        green = green_indexes(layout, phases, phase.state) if phase.least != phase.most else set()
         usable = [lane for lane in detected if indexes[lane] and indexes[lane] <= green]
         beyond = {lane: leads[lane] & {*detected} for lane in usable}
         found.append([lane for lane in usable if all(indexes[other] <= green for other in beyond[lane])])
     return found
 
 
-def greens(layout: Layout, phases: Sequence[Phase], state: str) -> set[int]:
+def green_indexes(layout: Layout, phases: Sequence[Phase], state: str) -> set[int]:
     """The places of a state that count as green: those that go first (G); and of those that give way (g) the ones on
     the only lane of an edge, and the ones that never go first, or turn back, beside another of their lane that goes
     first. phases: all of the program; state: of one of them."""
-    by_index: defaultdict[int, list[Way]] = defaultdict(list)
-    for way in layout.ways:
-        by_index[way.index].append(way)
-    first = {way.lane for way in layout.ways if state[way.index] == MAJOR}
+    by_index: defaultdict[int, list[LitTurn]] = defaultdict(list)
+    for turn in layout.turns:
+        by_index[turn.index].append(turn)
+    first = {turn.lane for turn in layout.turns if state[turn.index] == MAJOR}
     found = set()
-    for at, ways in by_index.items():
-        never = all(phase.state[at] != MAJOR for phase in phases) or all(way.turns_back for way in ways)
-        beside = never and any(way.lane in first for way in ways)
-        alone = any(layout.lanes[way.lane].alone for way in ways)
+    for at, turns in by_index.items():
+        never = all(phase.state[at] != MAJOR for phase in phases) or all(turn.turns_back for turn in turns)
+        beside = never and any(turn.lane in first for turn in turns)
+        alone = any(layout.lanes[turn.lane].alone for turn in turns)
         if state[at] == MAJOR or (state[at] == MINOR and (beside or alone)):
             found.add(at)
     return found

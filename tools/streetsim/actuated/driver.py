@@ -1,16 +1,15 @@
 """Lights that detectors drive, while a run goes: detectors of one second each are placed, a light is asked at the
 seconds that it names itself, and each phase that begins is sent as a plan, the last part of which stays until the next.
 """
-from __future__ import annotations
-
 from collections import deque
 from collections.abc import Callable, Collection, Iterable, Iterator, Sequence
 from dataclasses import dataclass, field
+from functools import partial
 from itertools import product
 from math import inf
 
 from streetsim.actuated.kept import Area, Cell
-from streetsim.actuated.lights import Driven, Light, Switch
+from streetsim.actuated.lights import Driven, DrivenLight, Switch
 from streetsim.actuated.logic import Actuated
 from streetsim.actuated.nema import Nema
 from streetsim.actuated.showing import Shown, lasting
@@ -37,15 +36,15 @@ class Controller:
     """One program of a light in a run, with its logic and what was sent for it. Methods that give commands do their
     work as these are taken."""
 
-    light: Light
+    light: DrivenLight
     logic: Actuated | Nema
     shown: Shown | ShownRings
-    meters: range  # the places of its detectors among those of all lights, from 0
+    meters: range  # the positions of its detectors among those of all lights, from 0
     shows: list[Command] = field(default_factory=list)  # the plans that were sent last
     wraps: float = inf  # the clock by which these would begin anew
     in_force: bool = True  # its plans are shown; else it goes on unseen, as in SUMO
     spans: list[list[float]] = field(default_factory=list)  # [begin, end]: clocks between which they were shown
-    stopped: float = inf  # the clock from which on a plan of the run's own holds
+    stopped: float = inf  # the clock from which on it is left alone, for good
 
     @property
     def name(self) -> str:
@@ -55,20 +54,20 @@ class Controller:
     def starts(self, now: int) -> Iterator[Command]:
         """Begins the logic at the clock of a run's begin, and gives the commands that show the phase in which it
         begins; none where this program is not in force."""
-        self.logic.start(now, self.light.offset)
+        self.logic.begin_at(now, self.light.offset)
         self.spans = [[now, inf]] if self.in_force else []
         yield from self.begins(now)
 
-    def looks(self, now: int, first: int, senses: Senses) -> bool:
+    def moves_on(self, now: int, first: int, senses: Senses) -> bool:
         """Has the logic look at its detectors or areas, and says whether another phase begins now; of a NEMA light,
-        whether other phases are green. first: the number in the run of the first detector of all lights."""
+        whether what is green changes. first: the number in the run of the first detector of all lights."""
         if isinstance(self.logic, Nema):
-            return self.logic.look(now, present_by(now, senses.lane, self.light.areas))
-        return self.logic.look(now, gap_by(now, senses.read, first + self.meters.start))
+            return self.logic.moves_on(now, present_by(now, senses.lane, self.light.areas))
+        return self.logic.moves_on(now, partial(gap_at, now, senses.read, first + self.meters.start))
 
     def begins(self, now: int) -> Iterator[Command]:
-        """The commands that show the phase that begins at a clock; none where this program is not in force. They are
-        kept, so that `goes_on` can have the phase last longer."""
+        """The commands that show the phase that begins at a clock; none where this program is not in force. In force or
+        not they are kept, for `goes_on` and `resumes`."""
         self.shows, self.wraps = list(self.plans(now)), now + limits.PHASE_STEPS
         yield from self.shows if self.in_force else ()
 
@@ -80,8 +79,7 @@ class Controller:
         return self.shown.plans(self.logic, now)
 
     def goes_on(self) -> Iterator[Command]:
-        """The commands that keep a phase on that lasts longer than a plan can, 600 s; none where this program is not in
-        force."""
+        """The commands that keep a phase on for more than the 600 s of its plan; none where it is not in force."""
         self.wraps = inf
         yield from map(lasting, self.shows if self.in_force else ())
 
@@ -94,23 +92,22 @@ class Controller:
         yield from self.begins(since) if now - since < limits.PHASE_STEPS else map(lasting, self.shows)
 
     def leaves(self, now: int) -> None:
-        """Takes this program out of force at the clock `now`; it goes on unseen. Nothing where it is out of force
-        already."""
+        """Takes this program out of force at the clock `now`; it goes on unseen. Nothing where it is so already."""
         if self.in_force:
             self.in_force, self.spans[-1][1] = False, now
 
-    def rows(self, until: int) -> Iterator[PhaseRow]:
-        """The rows of phases.csv of the phases, or parts of them, that were shown until a clock; a part that another
-        program cut short has an empty reason."""
-        for (row, state), (begin, end) in product(self.logic.told(until), self.spans):
+    def phase_rows(self, until: int) -> Iterator[PhaseRow]:
+        """The rows of phases.csv of the phases, or parts of them, that were shown until a clock; one that this clock or
+        another program cuts short has an empty reason."""
+        for (row, state), (begin, end) in product(self.logic.phases_until(until), self.spans):
             first, last = max(row.begin, int(begin)), int(min(row.begin + row.seconds, end))
             if first < last:
                 why = row.why if last == row.begin + row.seconds else ""
                 yield first, self.name, row.phase, state, last - first, why
 
-    def due(self) -> int:
-        """The next clock at which it has something to look at or to send; the greatest clock where a plan of the run's
-        own holds."""
+    def next_clock(self) -> int:
+        """The next clock at which it has something to look at or to send; the greatest clock where it is left alone for
+        good."""
         return int(min(self.logic.due, self.wraps)) if self.stopped == inf else limits.CLOCK
 
 
@@ -118,21 +115,22 @@ class Driver:
     """All lights of a run that detectors drive. Methods that give commands do their work as these are taken."""
 
     def __init__(
-        self, lights: Iterable[Light], mapping: Map, idle: Iterable[Light] = (), switches: Iterable[Switch] = ()
-    ) -> None:
+        self, lights: Iterable[DrivenLight], mapping: Map, idle: Iterable[DrivenLight] = (),
+        switches: Iterable[Switch] = (),
+    ) -> None:  # fmt: skip
         """lights: those in force from the begin on; idle: programs that are not, and may come into force by a script or
         by time of day (switches, rising). Detectors are numbered through both, in this order."""
         self.switches = deque(switches)
         self.cells: list[Cell] = []
         self.controllers: list[Controller] = []
-        for one, shows in (*((one, True) for one in lights), *((one, False) for one in idle)):
+        for one, in_force in (*((one, True) for one in lights), *((one, False) for one in idle)):
             meters = range(len(self.cells), len(self.cells) + len(one.cells))
             self.cells += one.cells
-            self.controllers.append(controller_of(one, mapping, meters))
-            self.controllers[-1].in_force = shows
+            shown: Shown | ShownRings = Shown(one, mapping) if isinstance(one, Driven) else ShownRings(one, mapping)
+            self.controllers.append(Controller(one, one.new_logic(), shown, meters, in_force=in_force))
         self.first = 0  # number in the run of the first detector
 
-    def of(self, light: str, program: str | None = None) -> Controller | None:
+    def controller_of(self, light: str, program: str | None = None) -> Controller | None:
         """The controller of a light's program, or of the one in force where none is named; none where there is none."""
         own = (one for one in self.controllers if one.name == light)
         return next((one for one in own if (one.in_force if program is None else one.light.program == program)), None)
@@ -152,94 +150,80 @@ class Driver:
         light's last change those of its programs that are not in force stop for good."""
         while self.switches and self.switches[0][0] <= clock:
             _, light, program = self.switches.popleft()
-            if (one := self.of(light, program)) is not None:
+            if (one := self.controller_of(light, program)) is not None:
                 yield from one.resumes(clock)
             if all(light != name for _, name, _ in self.switches):
                 for one in self.controllers:
                     one.stopped = clock if one.name == light and not one.in_force else one.stopped
 
-    def release(self, light: str) -> None:
-        """Takes all programs of a light out of force, whatever the time of day: nothing more is sent for it. `rows`
-        does not know of it."""
+    def release(self, light: str, clock: int) -> None:
+        """Takes all programs of a light out of force at a clock, and forgets its changes by time of day."""
         self.switches = deque(one for one in self.switches if one[1] != light)
         for one in self.controllers:
-            one.in_force = one.in_force and one.name != light
+            if one.name == light:
+                one.leaves(clock)
 
-    def meters(self, first: int) -> Iterator[Command]:
+    def meter_commands(self, first: int) -> list[Command]:
         """The commands that place the detectors, one for each, in their order. first: the number in the run that the
-        first of them gets; it is kept as the commands are taken, and `look` asks detectors by it, so they are taken
-        before the first look."""
+        first of them gets, which is kept for `commands_after_look`."""
         self.first = first
-        for one in self.cells:
-            yield {"cmd": "meter", "link": one.link, "lane": one.lane, "cell": one.cell, "period": 1}
+        placed = [{"link": one.link, "lane": one.lane, "cell": one.cell} for one in self.cells]
+        return [{"cmd": "meter", **one, "period": 1} for one in placed]
 
-    def begin(self, start: int) -> Iterator[Command]:
-        """Begins the logic of all programs, and gives the signal commands of those in force, at the begin of a run,
-        whose clock is `start`."""
+    def begin_lights(self, start: int) -> Iterator[Command]:
+        """Begins the logic of all programs at a run's begin, the clock `start`; gives the signal commands of those in
+        force."""
         for one in self.controllers:
             yield from one.starts(start)
 
-    def due(self) -> int:
-        """The next clock at which `look` has something to do; the greatest clock where there is no light, or plans of
-        the run's own hold at all of them."""
-        return min((one.due() for one in self.controllers), default=limits.CLOCK)
+    def next_clock(self) -> int:
+        """The next clock at which lights are to be looked at; the greatest clock where there is no light, or all are
+        left alone for good."""
+        return min((one.next_clock() for one in self.controllers), default=limits.CLOCK)
 
     def call(self, clock: int, calls: Iterable[tuple[str, Collection[int]]]) -> None:
-        """From now on buses call phases of some lights, (light, its phases as Light.serving has them, none of them: no
+        """From now on buses call phases of some lights, (light, its phases as phases_serving has them, none: no
         longer); lights that are not driven are passed over."""
-        called = dict(calls)
-        for one in self.controllers if called else ():
-            if one.name in called:
-                one.logic.call(clock, called[one.name])
+        for light, phases in calls:
+            for one in self.controllers:
+                if one.name == light:
+                    one.logic.call(clock, phases)
 
-    def look(self, clock: int, senses: Senses) -> Iterator[Command]:
-        """Looks at the lights that are due at a clock, and gives the commands that are to be sent before the next
-        step."""
+    def commands_after_look(self, clock: int, senses: Senses) -> Iterator[Command]:
+        """Looks at the lights that are due at a clock, and gives the commands to send before the next step."""
         for one in self.controllers:
             if one.stopped < inf:
                 continue
-            if one.logic.due <= clock and one.looks(clock, self.first, senses):
+            if one.logic.due <= clock and one.moves_on(clock, self.first, senses):
                 yield from one.begins(clock)
             elif one.wraps <= clock:
                 yield from one.goes_on()
 
-    def rows(self, until: int) -> list[PhaseRow]:
+    def phase_rows(self, until: int) -> list[PhaseRow]:
         """The rows of phases.csv, rising. Those under way at the clock `until` end there, with an empty reason."""
-        return sorted(row for one in self.controllers for row in one.rows(until))
+        return sorted(row for one in self.controllers for row in one.phase_rows(until))
 
 
-def controller_of(light: Light, mapping: Map, meters: range) -> Controller:
-    """What drives a light, as its type has it. meters: the places of its detectors among those of all lights, from
-    0."""
-    shown: Shown | ShownRings = Shown(light, mapping) if isinstance(light, Driven) else ShownRings(light, mapping)
-    return Controller(light, light.logic(), shown, meters)
-
-
-def gap_by(clock: int, read: Callable[[int], Rows], first: int) -> Callable[[int], float]:
-    """A function of a detector's place that gives the seconds since it last saw anybody, by its rows of one second;
-    infinite where its 32 rows have nobody. read: as of Senses; first: the number in the run of the detector at place 0.
-    Who passed within a second is taken to have left in its middle."""
-
-    def gap(detector: int) -> float:
-        """Seconds since the detector at a place last saw anybody; infinite where its rows have nobody."""
-        for row in reversed(read(first + detector).rows):
-            if row.occupied:
-                return clock - row.start - 1.0
-            if row.passes:
-                return clock - row.start - 0.5
-        return inf
-
-    return gap
+def gap_at(clock: int, read: Callable[[int], Rows], first: int, detector: int) -> float:
+    """The seconds since a detector, by its position, last saw anybody, by its rows of one second; infinite where its 32
+    rows have nobody. read: as of Senses; first: the number in the run of the detector at position 0. Who passed within
+    a second is taken to have left in its middle."""
+    for row in reversed(read(first + detector).rows):
+        if row.occupied:
+            return clock - row.start - 1.0
+        if row.passes:
+            return clock - row.start - 0.5
+    return inf
 
 
 def present_by(clock: int, lane: Callable[[Place], Lane | None], areas: Sequence[Area]) -> Callable[[int], bool]:
-    """A function of an area's place that says whether anybody is on it, by what stands on its lane; each lane is asked
-    for once. lane: as of Senses. On an area at the lane's end who is in the buffer, and may not go on yet, counts
+    """A function of an area's position that says whether anybody is on it, by what stands on its lane; each lane is
+    asked for once. lane: as of Senses. On an area at the lane's end who is in the buffer, and may not go on yet, counts
     too."""
     known: dict[Place, Lane | None] = {}
 
     def present(number: int) -> bool:
-        """Whether anybody is on the area at a place."""
+        """Whether anybody is on the area at a position."""
         area = areas[number]
         place = area.link, area.lane
         if place not in known:

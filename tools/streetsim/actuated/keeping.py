@@ -1,6 +1,4 @@
 """The state of what drives lights, as JSON: written in one session, and put into another one of the same lights."""
-from __future__ import annotations
-
 from collections import deque
 from collections.abc import Iterable
 from math import inf
@@ -18,9 +16,10 @@ OF_A_PHASE = ("stage", "since", "end", "lasts", "most", "resting", "ready", "cal
 
 
 def kept_driver(driver: Driver) -> Json:
-    """The state of all that drives lights, {"first", "switches", "lights" (each as `kept` gives it)}; what buses call
-    is no part of it, as only runs have that."""
-    return {"first": driver.first, "switches": list(driver.switches), "lights": list(map(kept, driver.controllers))}
+    """The state of all that drives lights, {"first", "switches", "lights" (each as `kept_controller` gives it)}; what
+    buses call is no part of it, as only runs have that."""
+    lights = list(map(kept_controller, driver.controllers))
+    return {"first": driver.first, "switches": list(driver.switches), "lights": lights}
 
 
 def restore_driver(driver: Driver, state: Json) -> None:
@@ -28,75 +27,75 @@ def restore_driver(driver: Driver, state: Json) -> None:
     driver.first = state["first"]
     driver.switches = deque((clock, light, program) for clock, light, program in state["switches"])
     for one, own in zip(driver.controllers, state["lights"], strict=True):
-        restore(one, own)
+        restore_controller(one, own)
 
 
-def kept(one: Controller) -> Json:
-    """The state of one light's controller, as `restore` reads it."""
+def kept_controller(one: Controller) -> Json:
+    """The state of the controller of a light's program, as `restore_controller` reads it."""
     ended = [list(row) for row in one.logic.ended]
-    own = kept_rings(one.logic) if isinstance(one.logic, Nema) else kept_phases(one.logic)
+    own = nema_state(one.logic) if isinstance(one.logic, Nema) else actuated_state(one.logic)
     return {
         **{"logic": own, "ended": ended, "shown": kept_shown(one.shown), "shows": one.shows, "in_force": one.in_force},
-        **{"wraps": written(one.wraps), "stopped": written(one.stopped)},
-        "spans": [[written(begin), written(end)] for begin, end in one.spans],
+        **{"wraps": json_of_clock(one.wraps), "stopped": json_of_clock(one.stopped)},
+        "spans": [[json_of_clock(begin), json_of_clock(end)] for begin, end in one.spans],
     }
 
 
-def restore(one: Controller, state: Json) -> None:
-    """Puts a state that `kept` gave into the controller of the same light."""
+def restore_controller(one: Controller, state: Json) -> None:
+    """Puts a state that `kept_controller` gave into the controller of the same program."""
     one.logic.ended = [Ended(*row) for row in state["ended"]]
     if isinstance(one.logic, Nema):
-        restore_rings(one.logic, state["logic"])
+        restore_nema(one.logic, state["logic"])
     else:
-        restore_phases(one.logic, state["logic"])
+        restore_actuated(one.logic, state["logic"])
     restore_shown(one.shown, state["shown"])
     one.shows, one.in_force = state["shows"], state["in_force"]
-    one.wraps, one.stopped = read(state["wraps"]), read(state["stopped"])
-    one.spans = [[read(begin), read(end)] for begin, end in state["spans"]]
+    one.wraps, one.stopped = clock_of_json(state["wraps"]), clock_of_json(state["stopped"])
+    one.spans = [[clock_of_json(begin), clock_of_json(end)] for begin, end in state["spans"]]
 
 
-def written(clock: float) -> float | None:
+def json_of_clock(clock: float) -> float | None:
     """A clock as JSON has it: none where it never comes (inf)."""
     return None if clock == inf else clock
 
 
-def read(clock: float | None) -> float:
-    """The clock of what `written` gave: inf for none."""
+def clock_of_json(clock: float | None) -> float:
+    """The clock of what `json_of_clock` gave: inf for none."""
     return inf if clock is None else clock
 
 
-def kept_phases(logic: Actuated) -> Json:
+def actuated_state(logic: Actuated) -> Json:
     """The state of an actuated light's logic, {names of PLAIN, "detectors"}, without the phases that ended."""
-    return {**fields(logic, PLAIN), "detectors": list(logic.first.items())}
+    return {**fields_of(logic, PLAIN), "detectors": list(logic.first.items())}
 
 
-def restore_phases(logic: Actuated, state: Json) -> None:
-    """Puts a state that `kept_phases` gave into an actuated light's logic."""
-    put(logic, state, PLAIN)
+def restore_actuated(logic: Actuated, state: Json) -> None:
+    """Puts a state that `actuated_state` gave into an actuated light's logic."""
+    set_fields(logic, state, PLAIN)
     logic.first = {phase: detector for phase, detector in state["detectors"]}
 
 
-def kept_rings(logic: Nema) -> Json:
+def nema_state(logic: Nema) -> Json:
     """The state of a NEMA light's logic, {names of OF_RINGS, "phases", "active"}, without the greens that ended."""
     phases = [
-        {**fields(one, OF_A_PHASE), "chosen": one.chosen.phase.name if one.chosen else None} for one in logic.all
+        {**fields_of(one, OF_A_PHASE), "chosen": one.chosen.phase.number if one.chosen else None} for one in logic.all
     ]
-    return {**fields(logic, OF_RINGS), "phases": phases, "active": [one.phase.name for one in logic.active]}
+    return {**fields_of(logic, OF_RINGS), "phases": phases, "active": [one.phase.number for one in logic.active]}
 
 
-def restore_rings(logic: Nema, state: Json) -> None:
-    """Puts a state that `kept_rings` gave into a NEMA light's logic."""
-    put(logic, state, OF_RINGS)
+def restore_nema(logic: Nema, state: Json) -> None:
+    """Puts a state that `nema_state` gave into a NEMA light's logic."""
+    set_fields(logic, state, OF_RINGS)
     for one, own in zip(logic.all, state["phases"], strict=True):
-        put(one, own, OF_A_PHASE)
-        one.chosen = named(logic.by_ring[one.ring], own["chosen"])
+        set_fields(one, own, OF_A_PHASE)
+        one.chosen = numbered(logic.by_ring[one.ring], own["chosen"])
     pairs = zip(logic.by_ring, state["active"], strict=True)
-    logic.active = [found for ring, name in pairs if (found := named(ring, name)) is not None]
+    logic.active = [found for ring, number in pairs if (found := numbered(ring, number)) is not None]
 
 
-def named(ring: Iterable[Running], name: int | None) -> Running | None:
-    """The phase of a ring by its number (name); none where the number is none, or no phase has it."""
-    return next((one for one in ring if one.phase.name == name), None)
+def numbered(ring: Iterable[Running], number: int | None) -> Running | None:
+    """The phase of a ring by its number; none where the number is none, or no phase has it."""
+    return next((one for one in ring if one.phase.number == number), None)
 
 
 def kept_shown(shown: Shown | ShownRings) -> Json:
@@ -117,12 +116,12 @@ def restore_shown(shown: Shown | ShownRings, state: Json) -> None:
         shown.means = list(state["means"])
 
 
-def fields(of: object, names: Iterable[str]) -> Json:
+def fields_of(of: object, names: Iterable[str]) -> Json:
     """{name: value} of some attributes of an object."""
     return {name: getattr(of, name) for name in names}
 
 
-def put(into: object, state: Json, names: Iterable[str]) -> None:
+def set_fields(into: object, state: Json, names: Iterable[str]) -> None:
     """Sets some attributes of an object to the values of a state, by their names."""
     for name in names:
         setattr(into, name, state[name])

@@ -1,9 +1,9 @@
 """What a map keeps of a program that detectors drive, read back: what both kinds of lights, actuated and NEMA, have in
 common."""
-from __future__ import annotations
-
 from collections.abc import Collection, Iterable, Mapping
+from contextlib import suppress
 from dataclasses import dataclass
+from math import isfinite
 from typing import Any
 
 from streetsim.base.files import Fault, Json
@@ -29,8 +29,7 @@ class Cell:
 
 @dataclass(frozen=True, slots=True)
 class Area:
-    """A stretch of a lane that is looked at for vehicles, mostly its end: its first cell and its last, both
-    included."""
+    """A stretch of a lane that is looked at for vehicles, mostly its end: its first cell and its last."""
 
     link: int
     lane: int
@@ -49,7 +48,7 @@ class NodeOf:
     flows: Mapping[tuple[str, str], float]  # vehicles an hour from edge to edge
 
 
-def in_force(programs: Iterable[Json]) -> dict[str, Json]:
+def programs_at_begin(programs: Iterable[Json]) -> dict[str, Json]:
     """What a map keeps (`programs`) of the programs that lights begin with, by light; idle ones are left out."""
     return {one["light"]: one for one in programs if not one.get("idle")}
 
@@ -64,14 +63,14 @@ def kept_of(programs: Iterable[Json], light: str, later: Collection[str]) -> lis
 
 
 def number_of(text: str) -> float:
-    """The number of a parameter's text; raises Listed where it is none."""
-    try:
-        return float(text)
-    except ValueError:
-        raise Listed(f"as {text!r} of their parameters is no number") from None
+    """The number of a parameter's text; raises Listed where it is none, or not finite."""
+    with suppress(ValueError):
+        if isfinite(number := float(text)):
+            return number
+    raise Listed(f"as {text!r} of their parameters is no number")
 
 
-def bounds_of(kept: list[Any]) -> tuple[float, float]:
+def phase_bounds(kept: list[Any]) -> tuple[float, float]:
     """(least, greatest) seconds of a phase, as kept: [seconds, state, least or none, greatest or none, next ones].
     Without a least that is its listed seconds, and so is the greatest where there is neither; with a least and no
     greatest it has no end, as in SUMO (LONGEST). The greatest is never below the least."""

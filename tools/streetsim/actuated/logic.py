@@ -5,16 +5,14 @@ After SUMO 1.15's MSActuatedTrafficLightLogic: a green lasts its least time, and
 it saw anybody for its gap, or until its most. When somebody was seen the light is looked at again so many seconds after
 that as the way from the detector to the stop line takes, else each second.
 """
-from __future__ import annotations
-
 from collections.abc import Callable, Collection, Iterator, Sequence
 from dataclasses import dataclass, field
 from math import ceil
 from typing import NamedTuple
 
-GapOf = Callable[[int], float]  # the seconds since a detector last saw anybody, 0 while somebody is on it
+GapOf = Callable[[int], float]  # by position, the seconds since a detector last saw anybody, 0 while it does
 GO, YELLOW = "Gg", "yY"  # letters of a state
-BY_GAP, BY_MOST, LISTED = "gap", "most", "listed"  # why a phase ended
+BY_GAP, BY_MOST, BY_LIST = "gap", "most", "listed"  # why a phase ended
 BY_OTHER, BY_CALL = "barrier", "call"  # those of a ring: with the other one, or after resting until somebody came
 BY_SCRIPT, BY_BUS = "script", "bus"
 
@@ -27,7 +25,7 @@ class Phase:
     seconds: int  # as listed
     least: int  # seconds
     most: int  # seconds
-    detectors: tuple[int, ...] = ()  # places of those that may extend it
+    detectors: tuple[int, ...] = ()  # positions of those that may extend it
     next: int | None = None  # place of the next phase; none: the one that follows in the program
 
     @property
@@ -44,7 +42,7 @@ class Phase:
     @property
     def usual(self) -> int:
         """The seconds that it is thought to last as long as none of it has ended: those listed, within its bounds,
-        where it may be extended, else its least."""
+        where it may be extended, else `shortest`."""
         return min(max(self.seconds, self.least), self.most) if self.is_extended else self.shortest
 
     @property
@@ -59,18 +57,18 @@ class Ended(NamedTuple):
     phase: int  # its place in the program, from 0; of a NEMA light its number
     begin: int  # clock
     seconds: int
-    why: str  # one of the words BY_.. and LISTED; empty where it is still under way
+    why: str  # one of the words BY_..; empty where it is still under way
 
 
 @dataclass(slots=True)
 class Actuated:
-    """The logic of one actuated light. `look` must be called at the second `due`, and not before: what detectors do not
-    extend ends whenever it is called."""
+    """The logic of one actuated light. `moves_on` must be called at the second `due`, and not before: what detectors
+    do not extend ends whenever it is called."""
 
     phases: Sequence[Phase]
     gaps: Sequence[float]  # of each detector: so long nobody, and it extends no green
     lead: float = 2.0  # seconds from the detectors to the stop line: SUMO's detector-gap
-    at: int = 0  # the phase that is shown
+    at: int = 0  # place of the phase that is shown
     since: int = 0  # its begin
     due: int = 0
     ended: list[Ended] = field(default_factory=list)
@@ -78,7 +76,7 @@ class Actuated:
     told_to_end: bool = False  # by a script, when it is looked at next
     called: Collection[int] = ()  # phases that buses keep, or fetch, within bounds
 
-    def start(self, now: int, offset: int = 0) -> None:
+    def begin_at(self, now: int, offset: int = 0) -> None:
         """Begins at the clock `now` where a light with the listed seconds would be whose first phase began at the clock
         `offset`. The phase counts from `now` on, and is looked at first when its listed seconds would be over."""
         self.since, place = now, (now - offset) % max(1, sum(phase.seconds for phase in self.phases))
@@ -88,9 +86,9 @@ class Actuated:
             place -= phase.seconds
         self.due = now + max(1, self.phases[self.at].seconds - place)
 
-    def look(self, now: int, gap: GapOf) -> bool:
-        """Goes on to the next phase if this one, of which `due` has come, is over at the clock `now`; says whether.
-        Sets `due`, when to look again. gap: the seconds since a detector, by its place, last saw anybody."""
+    def moves_on(self, now: int, gap: GapOf) -> bool:
+        """Goes on to the next phase, and adds this one, of which `due` has come, to `ended`, if it is over at the clock
+        `now`; says whether. Sets `due`, when to look again. gap: seconds since a detector, by position, saw anybody."""
         phase = self.phases[self.at]
         may_stay = phase.is_green and now - self.since < phase.most and not self.told_to_end
         wait = self.stays(phase, gap) if may_stay else 0
@@ -104,13 +102,13 @@ class Actuated:
         return True
 
     def stays(self, phase: Phase, gap: GapOf) -> int:
-        """The seconds, 0 for now, until a green can end. Where buses call any phase, and it may be extended, they
-        decide: 1 where they call it, else 0; otherwise its detectors do."""
+        """The seconds, 0 for now, until the green that is shown can end. Where buses call any phase, and it may be
+        extended, they decide: 1 where they call it, else 0; otherwise its detectors do."""
         return int(self.at in self.called) if self.called and phase.is_extended else self.wait(phase, gap)
 
     def call(self, now: int, phases: Collection[int]) -> None:
-        """From now on buses call some phases, by their places: the one that is shown stays green until its greatest
-        length, others end at their least, for which `due` may come earlier. Empty: no bus is seen any more."""
+        """From now on buses call some phases, by their places: a green of these that is shown stays until its greatest
+        length, any other ends at its least, for which `due` may come earlier. Empty: no bus is seen any more."""
         self.called = phases
         if phases and self.at not in phases:
             self.due = min(self.due, max(now, self.since + self.phases[self.at].shortest))
@@ -132,8 +130,8 @@ class Actuated:
         return self.due
 
     def go_to(self, index: int, now: int) -> None:
-        """Goes on at the clock `now` with the phase at a place, from its begin; a phase that is shown already goes on.
-        When it is looked at next stays as it was, as in SUMO."""
+        """Goes on at the clock `now` with the phase at a place, from its begin, and adds the one that was shown to
+        `ended`; nothing where it is shown already. When it is looked at next stays as it was, as in SUMO."""
         if index != self.at:
             self.ended.append(Ended(self.at, self.since, now - self.since, BY_SCRIPT))
             self.at, self.since = index, now
@@ -142,7 +140,7 @@ class Actuated:
         """Has the phase that is shown end at a clock, whoever the detectors see."""
         self.due, self.told_to_end = clock, True
 
-    def told(self, until: int) -> Iterator[tuple[Ended, str]]:
+    def phases_until(self, until: int) -> Iterator[tuple[Ended, str]]:
         """(phase, its state) of all phases that have ended, in their order, and of the one under way where it began
         before the clock `until`: that ends there, with an empty reason."""
         under_way = [Ended(self.at, self.since, until - self.since, "")] if self.since < until else []
@@ -150,20 +148,20 @@ class Actuated:
             yield row, self.phases[row.phase].state
 
     def why(self, phase: Phase, now: int) -> str:
-        """Why a phase ends at the clock `now`: one of the words BY_.. and LISTED."""
+        """Why the phase that is shown ends at the clock `now`: one of the words BY_..."""
         if self.told_to_end:
             return BY_SCRIPT
         if not phase.is_extended:
-            return LISTED
+            return BY_LIST
         if self.called and self.at not in self.called and now - self.since < phase.most:
             return BY_BUS
         return BY_MOST if now - self.since >= phase.most else BY_GAP
 
     def wait(self, phase: Phase, gap: GapOf) -> int:
-        """The seconds until the phase can end by its detectors, 0 if it can now, as each has seen nobody for its gap.
-        One that has seen somebody within its gap wants that, or `lead` if longer, since then. The one that extended the
-        phase last (kept in `first`) is asked first; where it wants nearly its whole gap no other is, so that it may be
-        too few seconds."""
+        """The seconds until the phase that is shown can end by its detectors, 0 if it can now, as each has seen nobody
+        for its gap. One that has seen somebody within its gap wants that, or `lead` if longer, since then. The one that
+        extended the phase last (kept in `first`) is asked first. Once one wants nearly its whole gap those after it may
+        be left out, so that it may be too few seconds."""
         longest, enough = 0, self.lead <= min(self.gaps, default=0.0)
         for detector in sorted(phase.detectors, key=lambda one: one != self.first.get(self.at)):
             seen, most = gap(detector), self.gaps[detector]

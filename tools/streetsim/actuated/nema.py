@@ -16,12 +16,12 @@ from math import ceil
 from typing import NamedTuple
 
 from streetsim.actuated.logic import BY_BUS, BY_CALL, BY_GAP, BY_MOST, BY_OTHER, Ended
-from streetsim.actuated.ring_phases import GREEN, RED, REST, TRANSFER, YELLOW, RingPhase, Rings, together
+from streetsim.actuated.ring_phases import GREEN, RED, REST, TRANSFER, YELLOW, RingPhase, Rings, letters_together
 
-PresentAt = Callable[[int], bool]  # whether anybody is on an area
+PresentAt = Callable[[int], bool]  # whether anybody is on an area, by its position
 
 
-class Way(NamedTuple):
+class PhaseChange(NamedTuple):
     """A change from a phase of a ring to one of it, or to itself."""
 
     target: Running
@@ -44,66 +44,60 @@ class Running:
     most: float = 0.0  # greatest seconds of its green
     resting: float = 0.0  # seconds that it may rest from when another one is called
     ready: bool = False  # it may end
-    called: bool = False  # somebody is on its areas
+    called: bool = False  # it is latching, and somebody came since its last green
     changing: bool = False  # its yellow or red is under way
     chosen: Running | None = None  # the next one, as it was decided
     began: int = 0  # clock of its green's begin, as phases.csv has it
-    ways: list[Way] = field(default_factory=list)  # the nearest first, to itself last
+    phase_changes: list[PhaseChange] = field(default_factory=list)  # the nearest first, to itself last
 
     @property
     def is_green(self) -> bool:
         """Whether it shows green: GREEN, TRANSFER (waits for the other ring) or REST."""
         return self.stage >= GREEN
 
-    @property
-    def recalled(self) -> bool:
-        """Whether it is called always, whoever comes."""
-        return self.phase.least_recall or self.phase.most_recall
-
-    def way(self, target: Running) -> Way:
+    def change_to(self, target: Running) -> PhaseChange:
         """The change from this phase to another one of its ring, or to itself."""
-        return next(one for one in self.ways if one.target is target)
+        return next(one for one in self.phase_changes if one.target is target)
 
 
 class Nema:
-    """The logic of one NEMA light. `due` is the next second at which `look` must be called; nothing need be asked
+    """The logic of one NEMA light. `due` is the next second at which `moves_on` must be called; nothing need be asked
     before."""
 
     def __init__(self, rings: Rings) -> None:
-        """rings: the program; the light begins with `start`."""
+        """rings: the program; the light begins with `begin_at`."""
         self.rings, self.now, self.due, self.changes = rings, 0, 0, 0
         self.ended: list[Ended] = []
-        known = [one.least_recall or one.most_recall for one in rings.phases]
-        self.all = [self.running(name, ring, any(known)) for ring in range(2) for name in rings.names(ring)]
+        recalls = any(one.is_recalled for one in rings.phases)
+        self.all = [self.new_running(number, ring, recalls) for ring in range(2) for number in rings.numbers_of(ring)]
         self.by_ring = [[one for one in self.all if one.ring == ring] for ring in range(2)]
         for one in self.all:
-            one.ways = self.ways(one)
+            one.phase_changes = self.changes_from(one)
         self.active = [own[0] for own in self.by_ring]
         self.present: PresentAt = lambda area: False
         self.wanted: Collection[int] = ()  # numbers of the phases that buses keep, or fetch, within bounds
 
-    def running(self, name: int, ring: int, recalls: bool) -> Running:
-        """A phase before it begins, by its number; ring: 0 or 1; recalls: whether any phase of the light has a
-        recall."""
-        phase, others = self.rings.phase(name), [self.rings.phase(one) for one in self.rings.names(ring) if one != name]
-        alone = phase.least_recall or phase.most_recall
-        alone = alone and not any(one.least_recall or one.most_recall for one in others)
-        side = self.rings.orders[ring].index(name) // 2
-        made = Running(phase, ring, side, self.rings.is_at_barrier(name), alone or not recalls)
+    def new_running(self, number: int, ring: int, recalls: bool) -> Running:
+        """A phase before it begins, by its number; ring: 0 or 1; recalls: whether any phase has a recall."""
+        phase = self.rings.phase(number)
+        others = [self.rings.phase(one) for one in self.rings.numbers_of(ring) if one != number]
+        alone = phase.is_recalled and not any(one.is_recalled for one in others)
+        side = self.rings.orders[ring].index(number) // 2
+        made = Running(phase, ring, side, self.rings.is_at_barrier(number), alone or not recalls)
         made.most, made.lasts = phase.most, phase.least
         return made
 
-    def ways(self, one: Running) -> list[Way]:
+    def changes_from(self, one: Running) -> list[PhaseChange]:
         """The changes from a phase to each of its ring, the nearest first, to itself last."""
         own = self.by_ring[one.ring]
         place = own.index(one)
-        return [Way(own[(place + steps) % len(own)], steps) for steps in range(1, len(own) + 1)]
+        return [PhaseChange(own[(place + steps) % len(own)], steps) for steps in range(1, len(own) + 1)]
 
     # What is told
 
     def state(self) -> str:
         """The letters of the signals that both rings show together."""
-        return together([(one.phase, one.stage) for one in self.active])
+        return letters_together([(one.phase, one.stage) for one in self.active])
 
     def index(self) -> int:
         """0 and 1 by turns as what is shown changes, as SUMO's controller tells scripts; no place of a phase."""
@@ -111,21 +105,21 @@ class Nema:
 
     def phase_name(self) -> str:
         """The numbers of both rings' phases, as 2+6."""
-        return "+".join(str(one.phase.name) for one in self.active)
+        return "+".join(str(one.phase.number) for one in self.active)
 
     def next_switch(self, now: int) -> int:
         """The clock at which it may go on, as scripts ask for it: the next second, as in SUMO."""
         return now + 1
 
-    def greens(self) -> tuple[tuple[int, bool], ...]:
+    def green_by_ring(self) -> tuple[tuple[int, bool], ...]:
         """For each of both rings (number of the phase, whether it is green)."""
-        return tuple((one.phase.name, one.is_green) for one in self.active)
+        return tuple((one.phase.number, one.is_green) for one in self.active)
 
-    def told(self, until: int) -> Iterator[tuple[Ended, str]]:
+    def phases_until(self, until: int) -> Iterator[tuple[Ended, str]]:
         """(green, the phase's letters) of all greens that have ended, in the order of their ends, and of those under
         way that began before the clock `until`: these end there, with an empty reason."""
         under_way = [
-            Ended(one.phase.name, one.began, until - one.began, "")
+            Ended(one.phase.number, one.began, until - one.began, "")
             for one in self.active
             if one.is_green and one.began < until
         ]
@@ -134,54 +128,54 @@ class Nema:
 
     # The clock
 
-    def start(self, now: int, _offset: int = 0) -> None:
-        """Begins at the clock `now` with the first phase of each ring, as SUMO's does without coordination; the offset
-        has no effect."""
+    def begin_at(self, now: int, _offset: int = 0) -> None:
+        """Begins at the clock `now` with the first phase of each ring, as SUMO's without coordination; offset: no
+        effect."""
         self.now, self.due = now, now + 1
         for own in self.by_ring:
-            self.enter(own[0])
+            self.begin_green(own[0])
 
-    def look(self, now: int, present: PresentAt) -> bool:
+    def moves_on(self, now: int, present: PresentAt) -> bool:
         """Makes a second of both rings at the clock `now`; says whether what is green changed. Sets `due`, when to look
-        again. present: whether anybody is on an area, by its place."""
-        self.now, self.present, before, state = now, present, self.greens(), self.state()
+        again. present: whether anybody is on an area, by its position."""
+        self.now, self.present, before, state = now, present, self.green_by_ring(), self.state()
         for one in self.all:
             if one.phase.latching and not one.called:
                 one.called = any(map(self.present, one.phase.areas))
         for one in self.active:
             self.update(one)
         for one in self.active if self.wanted else ():
-            self.serve(one)
+            self.serve_buses(one)
         if any(one.ready for one in self.active):
             self.go_on()
         for one in self.all:
             one.called = one.called and one.phase.latching and not one.is_green
         self.due = now + max(1, min(map(self.wait, self.active)))
         self.changes += self.state() != state
-        return self.greens() != before
+        return self.green_by_ring() != before
 
     def wait(self, one: Running) -> int:
         """The seconds in which nothing can happen in the ring of a phase that is shown, whatever the other ring does;
-        `look` takes one at least."""
+        `moves_on` takes one at least."""
         phase, left = one.phase, one.lasts - (self.now - one.since)
         if self.wanted or any(other.phase.latching for other in self.all) or one.stage > GREEN:
             return 1
         if one.stage < GREEN:
             changed = self.now - one.end
-            return ceil((phase.yellow if changed < phase.yellow else phase.change) - changed)
+            return ceil((phase.yellow if changed < phase.yellow else phase.change_seconds) - changed)
         # Who is on an area before that does not make the green longer.
         return ceil(left) if one.lasts >= one.most else min(ceil(left), int(left - phase.extension) + 1)
 
     def is_on(self, one: Running) -> bool:
         """Whether somebody is on the areas of a phase, or was since its last green where it is latching, or a bus calls
         it."""
-        return one.called or one.phase.name in self.wanted or any(map(self.present, one.phase.areas))
+        return one.called or one.phase.number in self.wanted or any(map(self.present, one.phase.areas))
 
     def is_called(self, one: Running) -> bool:
         """Whether a phase wants to be green: by a recall, by somebody on its areas, or by a bus."""
-        return one.recalled or self.is_on(one)
+        return one.phase.is_recalled or self.is_on(one)
 
-    def other(self, one: Running) -> Running:
+    def shown_by_other_ring(self, one: Running) -> Running:
         """The phase that the other ring shows."""
         return self.active[not one.ring]
 
@@ -200,15 +194,15 @@ class Nema:
 
     def call(self, now: int, phases: Collection[int]) -> None:
         """From now on buses call some phases, by their numbers: those that are shown stay green until their greatest
-        length, greens in their way end at their least. Empty: no bus is seen any more. `due` comes forward to the next
-        second."""
+        length, greens in their way end at their least. Empty: no bus is seen any more. `due` comes forward to now, or
+        behind a second that was looked at."""
         self.wanted = phases
         self.due = min(self.due, max(now, self.now + 1))
 
-    def serve(self, one: Running) -> None:
+    def serve_buses(self, one: Running) -> None:
         """Has a green that is shown go on, or end, for the buses that call phases."""
         green = self.now - one.began
-        if one.is_green and one.phase.name in self.wanted:
+        if one.is_green and one.phase.number in self.wanted:
             one.ready = one.ready and green >= one.phase.most
         elif one.is_green and green >= one.phase.least and self.is_in_the_way(one):
             one.ready = True
@@ -216,23 +210,25 @@ class Nema:
     def is_in_the_way(self, one: Running) -> bool:
         """Whether a green has to end before one that a bus calls: in the same ring, beyond the barrier, or where the
         other ring comes to it only by way of the other side."""
-        wanted = (each for each in self.all if each.phase.name in self.wanted and self.active[each.ring] is not each)
+        wanted = (each for each in self.all if each.phase.number in self.wanted and self.active[each.ring] is not each)
         return any(
             each.ring == one.ring or each.side != one.side or self.active[each.ring].at_barrier for each in wanted
         )
 
     def extends(self, one: Running, since: float) -> bool:
-        """Whether somebody on an area makes a green longer than it is; since: seconds of green so far. Areas are not
-        asked where nobody would."""
+        """Whether a green is given its extension anew, by somebody on its areas or a bus: where that makes it longer,
+        and always as it rests; since: seconds of green so far. Areas are not asked where it would not."""
         longer = max(since + one.phase.extension, one.phase.least) > one.lasts
         return (longer or one.stage == REST) and self.is_on(one)
 
     def rest(self, one: Running, since: float) -> None:
         """A second of resting in green. From when another phase is called it lasts its greatest time on, and then may
-        end; since: seconds of green so far."""
+        end, and so may the other ring's phase if it waits or rests; since: seconds of green so far."""
         most, least = one.phase.most, one.phase.least
-        others = (each for each in self.all if each.phase.name not in (one.phase.name, self.other(one).phase.name))
-        if any(map(self.is_called, others)):
+        other = self.shown_by_other_ring(one)
+        if any(
+            self.is_called(each) for each in self.all if each.phase.number not in (one.phase.number, other.phase.number)
+        ):
             one.resting -= 1
             if one.resting + 1 >= most:
                 one.most = least + most
@@ -243,12 +239,12 @@ class Nema:
                 one.lasts = least + max(0.0, one.lasts - since)
         if one.resting < 1:
             one.ready = True
-            if (other := self.other(one)).stage > GREEN:
+            if other.stage > GREEN:
                 other.ready = True
 
     # Changes
 
-    def enter(self, one: Running) -> None:
+    def begin_green(self, one: Running) -> None:
         """Begins the green of a phase now; it becomes the one that its ring shows."""
         one.since, one.began, one.ready, one.chosen, one.stage = self.now, self.now, False, None, GREEN
         if one.rests:
@@ -259,7 +255,7 @@ class Nema:
     def go_on(self) -> None:
         """Has the phases that may end go on towards the nearest pair that may follow; nothing happens where there is no
         pair."""
-        pairs = sorted(self.pairs(), key=lambda pair: pair[0])
+        pairs = sorted(self.pairs_to_follow(), key=lambda pair: pair[0])
         if pairs:
             _, *following = pairs[0]
             for one in list(self.active):
@@ -267,19 +263,19 @@ class Nema:
                     self.leave(one, following)
 
     def leave(self, one: Running, following: Sequence[Running]) -> None:
-        """Takes a phase that may end one second on towards its ring's one of `following`: yellow, then red, then that
-        one's green; or it stays green where that is itself."""
+        """Takes a phase that may end one second on towards its ring's one of `following`: yellow (its green is then in
+        `ended`), red, that one's green; or it stays green where that is itself."""
         if (target := following[one.ring]) is one:
-            self.stay(one, following)
+            self.keep_green(one, following)
             return
         one.chosen = target
         changed = self.now - one.end
         if one.is_green:
-            self.ended.append(Ended(one.phase.name, one.began, self.now - one.began, self.why(one)))
+            self.ended.append(Ended(one.phase.number, one.began, self.now - one.began, self.why(one)))
             one.end, one.stage, one.changing = self.now, YELLOW, True
-        elif changed >= one.phase.change:
+        elif changed >= one.phase.change_seconds:
             one.ready, one.changing, one.stage = False, False, RED
-            self.enter(target)
+            self.begin_green(target)
         elif changed >= one.phase.yellow:
             one.stage = RED
 
@@ -291,9 +287,9 @@ class Nema:
             return BY_BUS
         return BY_MOST if one.lasts >= one.most else BY_GAP
 
-    def stay(self, one: Running, following: Sequence[Running]) -> None:
+    def keep_green(self, one: Running, following: Sequence[Running]) -> None:
         """Keeps a phase green that could end: it rests where neither ring goes on, else it waits for the other ring."""
-        other, phase = self.other(one), one.phase
+        other, phase = self.shown_by_other_ring(one), one.phase
         one.ready = False
         both = following[other.ring] is other and other.ready
         if both or (other.stage == REST and other.resting >= other.phase.most):
@@ -304,69 +300,70 @@ class Nema:
             if one.at_barrier:
                 one.lasts = other.lasts + other.since - one.since
 
-    def pairs(self) -> Iterator[tuple[float, Running, Running]]:
+    def pairs_to_follow(self) -> Iterator[tuple[float, Running, Running]]:
         """The pairs of phases, one of each ring and both on one side of the barrier, that may follow: (how far away,
         first, second)."""
         first, second = self.active
-        for one, other in product(*(self.following(active) for active in self.active)):
+        for one, other in product(*(self.wished_changes(active) for active in self.active)):
             if one.target.side == other.target.side:
                 yield self.pair(one, other)
                 continue
             found = []
-            if first.ready and (usual := self.usual_way(second, other, one)).target.side == one.target.side:
+            if first.ready and (usual := self.usual_change(second, one)).target.side == one.target.side:
                 found.append(self.pair(one, usual))
-            if second.ready and (usual := self.usual_way(first, one, other)).target.side == other.target.side:
+            if second.ready and (usual := self.usual_change(first, other)).target.side == other.target.side:
                 found.append(self.pair(usual, other))
             yield from found
 
-    def pair(self, one: Way, other: Way) -> tuple[float, Running, Running]:
+    def pair(self, one: PhaseChange, other: PhaseChange) -> tuple[float, Running, Running]:
         """Two changes as (how far away on the mean, phase of the first ring, phase of the second)."""
         distance = (self.distance(one, other, 0) + self.distance(other, one, 1)) / 2
         return distance, one.target, other.target
 
-    def distance(self, way: Way, beside: Way, ring: int) -> int:
+    def distance(self, change: PhaseChange, beside: PhaseChange, ring: int) -> int:
         """How far away a change of a ring (0 or 1) is, in phases of its order; one that waits in green is as far as the
         other ring's change `beside`."""
         own = self.active[ring]
-        waits = way.target is own and own.side == beside.target.side and own.stage in (GREEN, TRANSFER)
-        return beside.steps if waits else way.steps
+        waits = change.target is own and own.side == beside.target.side and own.stage in (GREEN, TRANSFER)
+        return beside.steps if waits else change.steps
 
-    def usual_way(self, one: Running, way: Way, beside: Way) -> Way:
+    def usual_change(self, one: Running, beside: PhaseChange) -> PhaseChange:
         """Where a ring goes that wished for another side of the barrier than the other ring's change `beside`: nowhere,
-        if it may not go or is green on that side, else to the phase in which it waits at the barrier on that side. way:
-        what it wished for, which has no effect."""
+        if it may not go or is green on that side, else to the phase in which it waits at the barrier on that side."""
         if not one.ready or (one.side == beside.target.side and one.is_green):
-            return one.way(one)
-        name = self.rings.barriers[beside.target.side][one.ring]
-        return one.way(next(each for each in self.by_ring[one.ring] if each.phase.name == name))
+            return one.change_to(one)
+        number = self.rings.barriers[beside.target.side][one.ring]
+        return one.change_to(next(each for each in self.by_ring[one.ring] if each.phase.number == number))
 
-    def following(self, one: Running) -> list[Way]:
+    def wished_changes(self, one: Running) -> list[PhaseChange]:
         """The change that a ring wishes for from the phase that it shows, one always, in a list: the nearest that it
         may make now, where a next phase was decided on (`chosen`) on that one's side of the barrier. Where it may make
         none, to the phase that was decided on, or to itself."""
-        found: list[Way] = []
+        found: list[PhaseChange] = []
         decided = one.chosen
         if one.ready:
-            fitting = (way for way in one.ways if decided is None or way.target.side == decided.side)
-            found += [way for way in [next((way for way in fitting if self.may(one, way.target)), None)] if way]
+            fitting = (each for each in one.phase_changes if decided is None or each.target.side == decided.side)
+            found += [
+                each for each in [next((each for each in fitting if self.may_follow(one, each.target)), None)] if each
+            ]
         if decided is not None and not found:
-            found.append(one.way(decided))
-        return found or [one.ways[-1]]
+            found.append(one.change_to(decided))
+        return found or [one.phase_changes[-1]]
 
-    def may(self, one: Running, target: Running) -> bool:
+    def may_follow(self, one: Running, target: Running) -> bool:
         """Whether a phase may be followed by another one of its ring, or stay itself, now."""
         if target is one:
             return one.is_green
         if not self.is_called(target):
             return False
-        other = self.other(one)
+        other = self.shown_by_other_ring(one)
         if one.side != target.side:
-            return other.ready and self.left(other) == self.left(one)
+            return other.ready and self.change_left(other) == self.change_left(one)
         if one.at_barrier and one.is_green:
             beyond: Iterable[Running] = (each for each in self.by_ring[one.ring] if each.side != one.side)
             return not any(map(self.is_called, beyond))
         return True
 
-    def left(self, one: Running) -> float:
+    def change_left(self, one: Running) -> float:
         """The seconds of a change that are to come, as SUMO counts them: 0 while a change is under way."""
-        return max(0.0, self.now - one.end - one.phase.change) if one.changing else one.phase.change
+        return max(0.0, self.now - one.end - one.phase.change_seconds) if one.changing else one.phase.change_seconds

@@ -1,7 +1,5 @@
 """What a NEMA light's program has: phases with their bounds, two rings of them, and the letters that phases show
 together."""
-from __future__ import annotations
-
 from collections.abc import Sequence
 from dataclasses import dataclass
 
@@ -15,20 +13,20 @@ LETTERS = "GgyuOs"  # of two phases that show a signal that neither controls, th
 class RingPhase:
     """A phase of a ring, as its program has it; all times in seconds."""
 
-    name: int  # its number, 1 to 8
+    number: int  # 1 to 8
     state: str
     least: float
     most: float
     extension: float  # how long its green stays after somebody was last on an area
     yellow: float
     red: float  # of all its signals, after yellow
-    areas: tuple[int, ...]  # places of those that call and extend it
+    areas: tuple[int, ...]  # positions of those that call and extend it
     least_recall: bool = True  # called always, for its least time
     most_recall: bool = False  # called always, for its greatest time
     latching: bool = False  # a call stays until the phase is green
 
     @property
-    def change(self) -> float:
+    def change_seconds(self) -> float:
         """The seconds from the end of its green to the begin of the next: yellow and red."""
         return self.yellow + self.red
 
@@ -37,7 +35,12 @@ class RingPhase:
         """The seconds of green that it is thought to last as long as none of it has ended: the mean of its bounds."""
         return (self.least + self.most) / 2
 
-    def shown(self, stage: int) -> str:
+    @property
+    def is_recalled(self) -> bool:
+        """Whether it is called always, whoever comes."""
+        return self.least_recall or self.most_recall
+
+    def letters_at(self, stage: int) -> str:
         """The letters of its signals at a stage: from GREEN on its state, at YELLOW that with y for each green (G or
         g), at RED all red."""
         if stage >= GREEN:
@@ -54,23 +57,23 @@ class Rings:
     orders: tuple[tuple[int, ...], ...]
     barriers: tuple[tuple[int, ...], ...]  # by side: a phase of each ring
 
-    def phase(self, name: int) -> RingPhase:
+    def phase(self, number: int) -> RingPhase:
         """The phase of a number; StopIteration where there is none."""
-        return next(one for one in self.phases if one.name == name)
+        return next(one for one in self.phases if one.number == number)
 
-    def names(self, ring: int) -> list[int]:
+    def numbers_of(self, ring: int) -> list[int]:
         """The numbers of the phases of a ring (0 or 1), in its order."""
-        return [name for name in self.orders[ring] if name]
+        return [number for number in self.orders[ring] if number]
 
-    def is_at_barrier(self, name: int) -> bool:
+    def is_at_barrier(self, number: int) -> bool:
         """Whether the phase of a number is one in which its ring waits for the other."""
-        return any(name in side for side in self.barriers)
+        return any(number in side for side in self.barriers)
 
 
-def together(shown: Sequence[tuple[RingPhase, int]]) -> str:
+def letters_together(shown: Sequence[tuple[RingPhase, int]]) -> str:
     """The letters that phases at stages show together. A signal that is G in the state of one of these phases shows
     what that phase shows (of two the last); any other the first of LETTERS that one of them shows, else red."""
-    states, found = [phase.shown(stage) for phase, stage in shown], []
+    states, found = [phase.letters_at(stage) for phase, stage in shown], []
     for at, letters in enumerate(zip(*states, strict=True)):
         own = [letter for letter, (phase, _) in zip(letters, shown, strict=True) if phase.state[at] == "G"]
         found.append(own[-1] if own else next((letter for letter in LETTERS if letter in letters), "r"))

@@ -1,13 +1,11 @@
 """The NEMA lights of a run, read from what its map keeps of their programs; after the init of SUMO 1.15's
 NEMAController."""
-from __future__ import annotations
-
 from collections.abc import Collection, Iterable, Mapping
 from dataclasses import dataclass
 from math import ceil
 from typing import Any
 
-from streetsim.actuated.kept import OFF, Area, Cell, Listed, NodeOf, bounds_of, node_of, number_of
+from streetsim.actuated.kept import OFF, Area, Cell, Listed, NodeOf, node_of, number_of, phase_bounds
 from streetsim.actuated.logic import GO
 from streetsim.actuated.nema import Nema
 from streetsim.actuated.ring_phases import RingPhase, Rings
@@ -35,11 +33,11 @@ class DrivenRings:
     offset: int = 0
     program: str = "0"
 
-    def serving(self, indexes: Collection[int]) -> frozenset[int]:
+    def phases_serving(self, indexes: Collection[int]) -> frozenset[int]:
         """The numbers of the phases in which a movement, by its places in a state, has green: those in which it goes
         first (G), or where there is none those in which it gives way (g)."""
         found = (
-            frozenset(one.name for one in self.rings.phases if any(one.state[at] == letter for at in indexes))
+            frozenset(one.number for one in self.rings.phases if any(one.state[at] == letter for at in indexes))
             for letter in GO
         )
         return next(filter(None, found), frozenset())
@@ -48,9 +46,9 @@ class DrivenRings:
     def longest(self) -> float:
         """The seconds in which all phases, one after another, have been green for their greatest time, with yellow and
         red."""
-        return sum(one.most + one.change for one in self.rings.phases)
+        return sum(one.most + one.change_seconds for one in self.rings.phases)
 
-    def logic(self) -> Nema:
+    def new_logic(self) -> Nema:
         """A fresh logic of this light, for one run."""
         return Nema(self.rings)
 
@@ -62,7 +60,7 @@ def driven_rings(kept: Mapping[str, Any], mapping: Map) -> DrivenRings:
     orders = tuple(digits(parameters[f"ring{ring}"]) for ring in (1, 2))
     areas = areas_of(kept, mapping)
     number = {lane: at for at, lane in enumerate(areas)}
-    phases = phases_of(kept, number)
+    phases = phases_with_areas(kept, number)
     check_orders(orders, phases)
     return DrivenRings(
         name=kept["light"],
@@ -75,8 +73,8 @@ def driven_rings(kept: Mapping[str, Any], mapping: Map) -> DrivenRings:
 
 def refuse_unlike(kept: Mapping[str, Any]) -> None:
     """Raises Listed for a NEMA program of which something is not driven here as in SUMO, or that lacks a parameter that
-    SUMO asks for, and where the map is of an older streetsim-import; check_orders, barriers_of and phases_of refuse
-    more."""
+    SUMO asks for, and where the map is of an older streetsim-import; what reads rings, barriers, phases and areas
+    refuses more."""
     parameters = kept["parameters"]
     if "timing" not in kept:
         raise Listed("as their map was written by an older streetsim-import")
@@ -105,11 +103,11 @@ def second_barrier(parameters: Mapping[str, str]) -> tuple[int, ...]:
 def check_orders(orders: Iterable[tuple[int, ...]], phases: Iterable[RingPhase]) -> None:
     """Raises Listed where a ring has no phases or more than four places, those without a phase (0) among them, or names
     one that the program does not have."""
-    names = {one.name for one in phases}
+    numbers = {one.number for one in phases}
     for order in orders:
         if len(order) > 4 or not any(order):
             raise Listed("as their rings have not one to four phases")
-        if missing := [name for name in order if name and name not in names]:
+        if missing := [number for number in order if number and number not in numbers]:
             raise Listed(f"as they have no phase {missing[0]}, which SUMO asks for")
 
 
@@ -118,23 +116,23 @@ def barriers_of(parameters: Mapping[str, str], orders: tuple[tuple[int, ...], ..
     Listed where parameters do not name them so."""
     found: list[dict[int, int]] = [{}, {}]
     for pair in (digits(parameters["barrierPhases"]), second_barrier(parameters)):
-        if len(pair) != 2 or any(name not in order for name, order in zip(pair, orders, strict=True)):
+        if len(pair) != 2 or not all(number and number in order for number, order in zip(pair, orders, strict=True)):
             raise Listed("as their barriers do not have a phase of each ring")
-        for ring, (name, order) in enumerate(zip(pair, orders, strict=True)):
-            found[ring][order.index(name) // 2] = name
+        for ring, (number, order) in enumerate(zip(pair, orders, strict=True)):
+            found[ring][order.index(number) // 2] = number
     if any(len(own) != 2 for own in found):
         raise Listed("as both their barriers are on one side, which SUMO refuses")
     return tuple((found[0][side], found[1][side]) for side in (0, 1))
 
 
-def phases_of(kept: Mapping[str, Any], number: Mapping[str, int]) -> list[RingPhase]:
-    """The phases, each with the areas of the lanes that it has green first (G); number: by lane the place of its area.
-    Raises Listed where the name of a phase has no digit or several."""
+def phases_with_areas(kept: Mapping[str, Any], number: Mapping[str, int]) -> list[RingPhase]:
+    """The phases, each with the areas of the lanes that it has green first (G); number: by lane the position of its
+    area. Raises Listed where the name of a phase has no digit or several."""
     parameters, found = kept["parameters"], []
     recalls = {name: digits(parameters.get(name, usual)) for name, usual in (("minRecall", ALL), ("maxRecall", ""))}
     latching = digits(parameters.get("latchingDetectors", ""))
     for phase, (text, extension, yellow, red) in zip(kept["phases"], kept["timing"], strict=True):
-        name, state, (least, most) = digits(text), phase[1], bounds_of(phase)
+        name, state, (least, most) = digits(text), phase[1], phase_bounds(phase)
         if len(name) != 1:
             raise Listed(f"as {text!r} is no name of a phase")
         lanes = dict.fromkeys(lane for index, lane, *_ in kept["ways"] if state[index] == "G" and lane in number)
@@ -147,14 +145,14 @@ def phases_of(kept: Mapping[str, Any], number: Mapping[str, int]) -> list[RingPh
 def areas_of(kept: Mapping[str, Any], mapping: Map) -> dict[str, Area]:
     """By lane the area on which vehicles are looked for: the laneAreaDetector that a parameter of the lane's name
     names, else, where the map has the lane, the last cells before its stop line, one at least, as far as
-    detector-length says (metres, LENGTH without it), or detector-length-leftTurnLane for a lane whose one way turns
+    detector-length says (metres, LENGTH without it), or detector-length-leftTurnLane for a lane whose one turn goes
     left; both less STANDING. Raises Listed where the map does not have the detector, or a length is no number."""
     parameters, own = kept["parameters"], {one.name: one for one in mapping.detectors if one.kind == E2}
-    ways: dict[str, list[str]] = {}
+    by_lane: dict[str, list[str]] = {}
     for _, lane, _, _, direction in kept["ways"]:
-        ways.setdefault(lane, []).append(direction)
+        by_lane.setdefault(lane, []).append(direction)
     found = {}
-    for lane, directions in ways.items():
+    for lane, directions in by_lane.items():
         if name := parameters.get(lane):
             if name not in own:
                 raise Listed(f"as the map has no laneAreaDetector {name}")
@@ -164,6 +162,6 @@ def areas_of(kept: Mapping[str, Any], mapping: Map) -> dict[str, Area]:
         elif place := mapping.place_of(lane):
             left = "detector-length-leftTurnLane" if directions == [LEFT] else "detector-length"
             link = mapping.links[place[0]]
-            reach = (number_of(parameters.get(left, str(LENGTH))) - STANDING) / link.metres * link.cells
-            found[lane] = Area(*place, max(0, link.cells - max(1, ceil(reach))), link.cells - 1)
+            reach = min((number_of(parameters.get(left, str(LENGTH))) - STANDING) / link.metres, 1.0) * link.cells
+            found[lane] = Area(*place, link.cells - max(1, ceil(reach)), link.cells - 1)
     return found

@@ -1,8 +1,6 @@
 """What a light shows here of a phase whose end is not known yet: what the import's rules show of a plan in which each
 phase has the mean length that it had so far, as who gives way and what starts late depends on how long a green is.
 Where a phase lasts longer its last second goes on."""
-from __future__ import annotations
-
 from collections.abc import Iterator, Mapping, Sequence
 from dataclasses import replace
 from itertools import groupby
@@ -16,7 +14,7 @@ from streetsim.model.mapping import Map
 from streetsim.model.runs import Command
 from streetsim.sumo.crossing import Movement, movements_of
 from streetsim.sumo.net import Program
-from streetsim.sumo.signals import Green, LitNode, green_seconds, joined
+from streetsim.sumo.signals import Green, LitNode, green_seconds, phases_that_fit
 from streetsim.sumo.yielding import settle
 
 WEIGHT = 0.2  # of the newest length in a phase's mean, chosen at eight rows of four networks
@@ -36,8 +34,8 @@ class Shown:
         self.rows: dict[tuple[int, Lengths], list[Green]] = {}  # by place of a node: green turns second by second
 
     def learn(self, logic: Actuated) -> Lengths:
-        """Takes the phases that ended since into the means, and gives these in whole seconds, 1 to 600. The first phase
-        is left out, as it may have begun before the run."""
+        """Takes the phases that ended since it last did into the means, and gives these in whole seconds, 1 to 600. The
+        first phase is left out, as it may have begun before the run."""
         for place in range(max(1, self.known), len(logic.ended)):
             at, _, seconds, _ = logic.ended[place]
             self.means[at] += WEIGHT * (seconds - self.means[at])
@@ -45,27 +43,28 @@ class Shown:
         return tuple(max(1, round(min(mean, limits.PHASE_STEPS))) for mean in self.means)
 
     def plans(self, logic: Actuated, now: int) -> Iterator[Command]:
-        """The signal commands, one for each node, that show from the clock `now` on the phase that the logic is in."""
+        """The signal commands, one for each node, that show the phase that the logic is in, whose begin (or the run's)
+        is the clock `now`; first takes what ended into the means, as `learn`."""
         lengths = self.learn(logic)
         end = sum(lengths[: logic.at + 1])
         # At the begin of a run the end of a phase may be all that is left of it.
         left = lengths[logic.at] if logic.ended else min(lengths[logic.at], logic.due - now)
         for at, (kept, node) in enumerate(self.nodes):
             if (at, lengths) not in self.rows:
-                self.rows[at, lengths] = self.seconds(kept, node, lengths)
-            yield plan_of(node.node, self.rows[at, lengths][end - left : end], now)
+                self.rows[at, lengths] = self.greens_by_second(kept, node, lengths)
+            yield plan_command(node.node, self.rows[at, lengths][end - left : end], now)
 
-    def seconds(self, kept: NodeOf, node: LitNode, lengths: Lengths) -> list[Green]:
-        """The green turns in each second of a cycle whose phases have some lengths."""
+    def greens_by_second(self, kept: NodeOf, node: LitNode, lengths: Lengths) -> list[Green]:
+        """The green turns in each second, from its begin, of a cycle whose phases have some lengths."""
         pairs = zip(self.light.phases, lengths, strict=True)
         states = [phase.state for phase, length in pairs for _ in range(length)]
         own = settled(node, kept, states, self.limits)
-        return green_seconds(own, states, own.told(states), 1, True)
+        return green_seconds(own, states, own.shown_seconds(states), 1, True)
 
 
 def settled(node: LitNode, kept: NodeOf, states: Sequence[str], limits_of: Mapping[str, int]) -> LitNode:
-    """A node with what the import's rules find of who gives way there in a cycle of these states, one for each second;
-    limits_of: of edges, cells a step."""
+    """A node with what the import's rules (where the import used them) find of who gives way there in a cycle of these
+    states, one for each second; limits_of: of edges, cells a step."""
     found: dict[int, Movement] = {}
     if node.permissive is None and kept.flows and kept.yields:
         found = movements_of(kept.connections, states, kept.yields, kept.flows, limits_of)
@@ -83,12 +82,11 @@ def lit_node(light: str, kept: NodeOf, mapping: Map, offset: int, cycle: list[tu
     return LitNode(kept.node, turns, edges, light, program, mapping.options.get("permissive"), Report())
 
 
-def plan_of(node: int, rows: Sequence[Green], now: int) -> Command:
-    """The signal command that shows some seconds (green turns of each; one second at least) from the clock `now` on,
-    the last of which goes on for 600 s, as long as a phase of a plan may last. With more changes than a plan has phases
-    the shortest are added to those before."""
-    runs = [(len(list(run)), green) for green, run in groupby(rows)]
-    phases = joined(runs)
+def plan_command(node: int, rows: Sequence[Green], now: int) -> Command:
+    """The signal command that shows some seconds (green turns of each; one second at least) from the clock `now` on;
+    the last of the first 600, as long as a phase of a plan may last, goes on for so long. With more changes than a plan
+    has phases the shortest are added to those before."""
+    phases = phases_that_fit((len(list(run)), green) for green, run in groupby(rows[: limits.PHASE_STEPS]))
     phases[-1] = (limits.PHASE_STEPS, phases[-1][1])
     cycle = sum(seconds for seconds, _ in phases)
     parts = [[seconds, sorted([*turn] for turn in green)] for seconds, green in phases]

@@ -24,14 +24,14 @@ class Refused(Exception):
     number = 0
 
     def __init__(self, at: int | None = None, part: str | None = None) -> None:
-        """at: the place of the fault, from 0, in a list; part: of a network, which list that is (nodes, links, turns,
-        or values: zone, dawdle, change, start); none where the refusal has no place."""
+        """at: the position of the fault, from 0, in a list; part: of a network, which list that is (nodes, links,
+        turns, or values: zone, dawdle, change, start); none where it has no position."""
         self.at, self.part = at, part
         place = f" at {at}" if part is None else f" at {at} of {part}"
         super().__init__(f"{self.number} {type(self).__name__}{'' if at is None else place}")
 
     def __eq__(self, other: object) -> bool:
-        """Whether the other one is of the same class with the same place."""
+        """Whether the other one is of the same class with the same position."""
         return (
             isinstance(other, Refused) and type(self) is type(other) and (self.at, self.part) == (other.at, other.part)
         )
@@ -81,12 +81,10 @@ class NoReply(Exception):
 
 
 class ProgramEnded(Exception):
-    """The program ended before it replied; or, raised by Client.close alone, it ended with a status other than 0 when
-    all was answered."""
+    """The program ended before it replied, or, at Client.close alone, with a status other than 0."""
 
     def __init__(self, status: int, stderr: str) -> None:
-        """status: of the program, also 0 where it ended too early, and -N where signal N ended it; stderr: what it
-        wrote on standard error."""
+        """status: of the program, 0 too where it ended too early, -N by signal N; stderr: its standard error."""
         self.status, self.stderr = status, stderr
         super().__init__(f"the program ended with status {status}: {stderr.strip() or 'nothing on standard error'}")
 
@@ -139,7 +137,7 @@ class Vehicle:
 
 @dataclass(slots=True, frozen=True)
 class Lane:
-    """All that is on one lane and waits before it, the reply to lane."""
+    """What is on one lane, in its buffer and waits to enter it, and its closed cells, the reply to lane."""
 
     cells: Entries  # of (car, cell of its front, speed in cells a step[, size in cells above 1]); greatest cell first
     buffer: Entries  # of (car, speed, clock from which it may go on), from the front
@@ -151,7 +149,7 @@ class Lane:
 class Row:
     """What a detector noted from `start` on, in `steps` steps."""
 
-    start: int
+    start: int  # clock
     steps: int
     passes: int  # vehicles that passed
     speeds: int  # their sum, cells a step
@@ -164,8 +162,7 @@ class Row:
 
     @property
     def density(self) -> float:
-        """The share, 0 to 1, of steps with a vehicle on the cell, which stands for vehicles a cell; 0 where there is no
-        step yet."""
+        """The share, 0 to 1, of steps with a vehicle on the cell: vehicles a cell; 0 where there is no step yet."""
         return self.occupied / self.steps if self.steps else 0.0
 
     @property
@@ -174,8 +171,7 @@ class Row:
         return self.speeds / self.passes if self.passes else None
 
     def kmh(self, cell_metres: float = limits.CELL_METRES) -> str:
-        """The mean speed in km/h as a table has it: a text with one decimal, empty where nobody passed. cell_metres:
-        metres of a cell."""
+        """The mean speed in km/h, with one decimal, as a text; empty where nobody passed. cell_metres: of a cell."""
         return "" if self.mean_speed is None else f"{self.mean_speed * (3.6 * cell_metres):.1f}"
 
 
@@ -189,7 +185,7 @@ class Rows:
 
 @dataclass(slots=True, frozen=True)
 class Census:
-    """How many vehicles are where at `clock`, the reply to count; admitted: all that entered, wherever they are."""
+    """How many vehicles are where at `clock`, the reply to count; admitted: all of `enter`, wherever they are."""
 
     admitted: int
     arrived: int
@@ -219,10 +215,9 @@ def reply_of(value: Any) -> Reply:
         closed = tuple((first, last) for first, last in value["closed"])
         return Lane(entries(value["cells"]), entries(value["buffer"]), entries(value["waiting"]), closed)
     if "now" in value:
-        now = Row(*value["now"])
-        rows = [Row(start, 0, *rest) for start, *rest in value["rows"]]
-        period = now.start - rows[-1].start if rows else 0
-        return Rows(now, tuple(Row(row.start, period, row.passes, row.speeds, row.occupied) for row in rows))
+        now, rows = Row(*value["now"]), value["rows"]
+        period = now.start - rows[-1][0] if rows else 0
+        return Rows(now, tuple(Row(start, period, *rest) for start, *rest in rows))
     if "links" in value:
         return Loaded(**value)
     if "short" in value:
@@ -234,7 +229,7 @@ def reply_of(value: Any) -> Reply:
 
 
 def entries(lists: Numbers) -> Entries:
-    """Lists of numbers, as JSON has them, as tuples, which do not change."""
+    """Lists of numbers as tuples."""
     return tuple(tuple(one) for one in lists)
 
 
@@ -258,15 +253,14 @@ def line_of(command: Command) -> bytes:
 
 
 def help_of(program: str) -> str:
-    """What a program (a path) prints on --help; empty where it prints nothing, as the program of a live page does."""
+    """What a program (a path) prints on standard output for --help; empty where that is nothing."""
     words = [program, "--help"]
     return subprocess.run(words, stdin=subprocess.DEVNULL, capture_output=True, text=True, check=False).stdout
 
 
 def words_of(program: str, calls: int = 0, keep: str | PathLike[str] | None = None) -> list[str]:
     """The words that start a program. keep: a file, in which its session is kept; else calls: how many calls it takes
-    before it refuses them, 0 for no end (for which it is run once with --help, to see whether it has a word for
-    that)."""
+    before it refuses them, 0 for no end (where --help, for which it is run once, has a word for that)."""
     if keep is not None:
         return [program, "--keep", fspath(keep)]
     if calls:
@@ -281,19 +275,14 @@ class Client:
     The program is the one given, else the one that STREETSIM_PROGRAM names, else the one that is installed with the
     tools. It takes calls without an end, or, with `calls`, that number of them, and later ones are refused as Full.
     With `keep` the session is kept in that file and goes on where it was left there: what is loaded, and who is on the
-    way. What a caller knows beside it is the caller's.
+    way; `calls` then has no effect.
     """
 
     def __init__(
-        self,
-        program: str | None = None,
-        workers: int = 1,
-        calls: int = 0,
-        keep: str | PathLike[str] | None = None,
+        self, program: str | None = None, workers: int = 1, calls: int = 0, keep: str | PathLike[str] | None = None
     ) -> None:
         """Starts the program. program: a path or a command's name, else as the class tells; workers: threads, from 1;
-        calls: how many it takes, 0 for no end; keep: a file of the session, which goes before calls. Fault where there
-        is no program."""
+        calls: how many it takes, 0 for no end; keep: a file of the session. Fault where there is no program."""
         program = find_program(program)
         words = words_of(program, calls, keep) + (["--workers", str(workers)] if workers != 1 else [])
         self.errors = tempfile.TemporaryFile()
@@ -324,8 +313,7 @@ class Client:
             raise ProgramEnded(status, told)
 
     def end(self) -> tuple[int, str]:
-        """Ends the input and waits for the program's end; gives (its status, what it wrote on standard error). Later
-        calls give the same again."""
+        """Ends the input and waits for the program; gives (its status, its standard error), later the same."""
         if self.ended is not None:
             return self.ended
         for pipe in (self.input, self.output):
@@ -340,9 +328,8 @@ class Client:
         return self.ended
 
     def exchange(self, lines: Iterable[bytes]) -> Iterator[bytes]:
-        """Sends lines, each with its end, and gives the reply to each as bytes, in order; they are sent only as the
-        replies are taken. They go in chunks that fit in the pipe; a longer line goes alone. ProgramEnded where the
-        program ends before it replied."""
+        """Sends lines, each with its end, and gives the replies as bytes, in order; lines are sent only as replies are
+        taken, in chunks that fit in the pipe; a longer line alone. ProgramEnded where the program ends before."""
         chunk: list[bytes] = []
         size = 0
         for line in lines:
@@ -381,31 +368,14 @@ class Client:
         return reply
 
     def load(
-        self,
-        nodes: Numbers,
-        links: Numbers,
-        turns: Numbers,
-        zone: int = 0,
-        dawdle: int = 0,
-        change: int = 0,
-        seed: int = 0,
-        start: int = 0,
-    ) -> Loaded:
+        self, nodes: Numbers, links: Numbers, turns: Numbers, zone: int = 0, dawdle: int = 0, change: int = 0,
+        seed: int = 0, start: int = 0,
+    ) -> Loaded:  # fmt: skip
         """Loads a network and begins its clock; rows as in docs/LINES.md: nodes [id, residence in steps, vehicles that
-        its buffer holds], links [id, from, to, lanes, cells, limit in cells a step], turns [link, lane, next,
-        next_lane]; zone: cells of the turn zone; dawdle, change: chances, of 1,000; seed: of all draws; start: the
-        clock."""
-        return self.ask(
-            "load",
-            nodes=nodes,
-            links=links,
-            turns=turns,
-            zone=zone,
-            dawdle=dawdle,
-            change=change,
-            seed=seed,
-            start=start,
-        )
+        each buffer holds], links [id, from, to, lanes, cells, limit in cells a step], turns [link, lane, next,
+        next_lane]; zone: cells of turn zones; dawdle, change: chances, of 1,000; seed: of draws; start: clock."""
+        network = {"nodes": nodes, "links": links, "turns": turns}
+        return self.ask("load", **network, zone=zone, dawdle=dawdle, change=change, seed=seed, start=start)
 
     def signal(self, node: int, phases: Sequence[Sequence[Any]], offset: int = 0) -> int:
         """Sets a node's plan: phases of (steps, [(link, lane, next link), ..]) with who may go; offset: by how many
@@ -418,8 +388,7 @@ class Client:
         return self.ask("enter", plan=plan, lane=lane, depart=depart, **({} if size == 1 else {"size": size}))
 
     def advance(self, steps: int = 1) -> int:
-        """Makes `steps` steps, 0 to 10,000, of a second each, asking again for those that a short reply left, and gives
-        the clock."""
+        """Makes `steps` steps, 0 to 10,000, of a second, those that a short reply left too; gives the clock."""
         reply = self.ask("advance", steps=steps)
         while isinstance(reply, Short):
             steps -= reply.short
@@ -439,8 +408,7 @@ class Client:
         return self.ask("takeout", car=car)
 
     def meter(self, link: int, lane: int, cell: int, period: int) -> int:
-        """Places a detector on a cell of a lane; period: steps of each of its rows, 1 to 100,000. Gives its number,
-        from 0."""
+        """Places a detector on a cell; period: steps of each of its rows, 1 to 100,000. Gives its number, from 0."""
         return self.ask("meter", link=link, lane=lane, cell=cell, period=period)
 
     def read(self, meter: int) -> Rows:
@@ -452,7 +420,7 @@ class Client:
         return self.ask("vehicle", car=car)
 
     def lane(self, link: int, lane: int) -> Lane:
-        """All that is on one lane, in its buffer, and waits to enter it."""
+        """What is on one lane, in its buffer and waits to enter it, and which of its cells are closed."""
         return self.ask("lane", link=link, lane=lane)
 
     def count(self) -> Census:

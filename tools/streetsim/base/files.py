@@ -2,6 +2,7 @@
 from __future__ import annotations
 
 import contextlib
+import csv
 import gzip
 import io
 import json
@@ -43,9 +44,9 @@ def open_text(path: FilePath, mode: str) -> TextFile:
 
 def open_text(path: FilePath, mode: str = "r") -> TextFile:
     """Opens a text file, of UTF-8, to read (mode r) or to write (w anew, a at its end); line ends stay as they are.
-    What is read is gzip by its content, whatever its name, and may begin with a byte order mark; what is written is
-    gzip where the name ends with .gz (without time or name inside, so that equal runs give equal bytes). OSError, and
-    no Fault, where it cannot be opened: `reading` makes a Fault of it."""
+    What is read is unpacked where `is_gzip` says so, and may begin with a byte order mark; what is written is gzip
+    where the name ends with .gz (without time or name inside, so that equal runs give equal bytes). OSError, and no
+    Fault, where it cannot be opened: `reading` makes a Fault of it."""
     if mode == "r":
         return io.TextIOWrapper(open_bytes(path), encoding="utf-8-sig", newline="")
     if str(path).endswith(".gz"):
@@ -54,14 +55,13 @@ def open_text(path: FilePath, mode: str = "r") -> TextFile:
 
 
 def open_bytes(path: FilePath) -> IO[bytes]:
-    """Opens a file of bytes to read; gzip by its first bytes, whatever its name, as SUMO does. OSError, and no Fault,
-    where it cannot be opened: `reading` makes a Fault of it."""
+    """Opens a file of bytes to read, unpacked where `is_gzip` says so. OSError, and no Fault, where it cannot be
+    opened: `reading` makes a Fault of it."""
     return cast(IO[bytes], gzip.open(path)) if is_gzip(path) else open(path, "rb")
 
 
 def is_gzip(path: FilePath) -> bool:
-    """Whether a file is gzip, by its first bytes; a pipe or device, which is read once, by its name (.gz). OSError
-    where it cannot be opened."""
+    """Whether a file is gzip, by its first bytes; a pipe or device, which is read once, by its name (.gz)."""
     if os.path.exists(path) and not os.path.isfile(path):
         return str(path).endswith(".gz")
     with open(path, "rb") as file:
@@ -104,47 +104,45 @@ TextFile = IO[str] | ZippedText  # to write
 
 @contextlib.contextmanager
 def reading(path: FilePath) -> Iterator[None]:
-    """While a file is read, turns what can go wrong (no such file, no XML or JSON, broken gzip, no UTF-8) into a Fault
-    with the file's name; a KeyError or IndexError of the block, too. An error of csv's stays as it is."""
+    """While a file is read, turns what can go wrong (no such file, no XML, JSON or CSV, broken gzip, no UTF-8) into a
+    Fault with the file's name; a KeyError, IndexError or ValueError of the block, too."""
     try:
         yield
     except ElementTree.ParseError as fault:
         raise Fault(f"{path}: not XML: {fault}") from None
     except json.JSONDecodeError as fault:
         raise Fault(f"{path}: not JSON: {fault}") from None
-    except (EOFError, LookupError, zlib.error, UnicodeDecodeError) as fault:
+    except (EOFError, LookupError, ValueError, RecursionError, csv.Error, zlib.error) as fault:
         raise Fault(f"{path}: cannot be read: {fault}") from None
     except OSError as fault:
         raise Fault(f"{path}: {fault.strerror or fault}") from None
 
 
-def elements(path: FilePath, roots: Collection[str] | None) -> Iterator[Element]:
+def elements(path: FilePath, roots: Collection[str] = ()) -> Iterator[Element]:
     """The children of the root of an XML file, each whole, one after another; the root keeps none of them, so that
     large files need little memory. Fault where the file cannot be read or is no XML, or the root's tag is none of
-    `roots` (none or no roots: any will do)."""
+    `roots` (without any all will do)."""
     with reading(path), open_bytes(path) as file:
+        events = ElementTree.iterparse(file, ("start", "end"))
+        _, root = next(events)
+        if roots and root.tag not in roots:
+            raise Fault(f"{path}: the root is <{root.tag}>, expected <{'> or <'.join(roots)}>")
         depth = 0
-        for event, element in ElementTree.iterparse(file, ("start", "end")):
+        for event, element in events:
             depth += 1 if event == "start" else -1
-            if event == "start" and depth == 1:
-                root = element
-                if roots and root.tag not in roots:
-                    raise Fault(f"{path}: the root is <{root.tag}>, expected <{'> or <'.join(roots)}>")
-            elif event == "end" and depth == 1:
+            if depth == 0:
                 yield element
                 root.clear()
 
 
-def told(path: FilePath, element: Element) -> str:
-    """An element of a file in words, as faults name it: the path, its tag, and its id (or else its from) if it has
-    one."""
+def element_told(path: FilePath, element: Element) -> str:
+    """An element of a file in words, as faults name it: the path, its tag, and its id (or else its from), if any."""
     name = element.get("id") or element.get("from")
     return f"{path}: <{element.tag}{f' {name!r}' if name else ''}>"
 
 
 @overload
 def attribute(path: FilePath, element: Element, name: str) -> str:
-    """An attribute, as its text; Fault where the element has none of this name."""
     ...
 
 
@@ -158,18 +156,17 @@ def attribute(path: FilePath, element: Element, name: str, convert: Callable[[st
     name, or `convert` raises ValueError. path: of the file, for the Fault's words alone."""
     text = element.get(name)
     if text is None:
-        raise Fault(f"{told(path, element)}: no attribute {name!r}")
+        raise Fault(f"{element_told(path, element)}: no attribute {name!r}")
     try:
         return convert(text)
     except ValueError:
-        raise Fault(f"{told(path, element)}: {name}={text!r} cannot be read") from None
+        raise Fault(f"{element_told(path, element)}: {name}={text!r} cannot be read") from None
 
 
 def optional(
     path: FilePath, element: Element, name: str, convert: Callable[[str], Value], default: Other
 ) -> Value | Other:
-    """As `attribute`, but the default, as it is, where the element does not have the attribute; Fault where `convert`
-    raises ValueError."""
+    """As `attribute`, but the default where the element does not have the attribute."""
     return default if element.get(name) is None else attribute(path, element, name, convert)
 
 
@@ -182,8 +179,7 @@ def number(text: str) -> float:
 
 
 def only(convert: Callable[[str], Number], holds: Callable[[Number], bool]) -> Callable[[str], Number]:
-    """A conversion of a text to a number, as `convert` makes it, that takes numbers alone for which `holds` is true;
-    ValueError for others."""
+    """A conversion of a text to a number, as `convert` makes it; ValueError for one for which `holds` is false."""
 
     def converted(text: str) -> Number:
         """The number that a text writes; ValueError where the condition does not hold for it."""
@@ -196,20 +192,17 @@ def only(convert: Callable[[str], Number], holds: Callable[[Number], bool]) -> C
 
 
 def at_least_zero(convert: Callable[[str], Number]) -> Callable[[str], Number]:
-    """A conversion of a text to a number, as `convert` makes it, that takes numbers from 0 on; ValueError for a
-    negative one."""
+    """A conversion of a text to a number, as `convert` makes it; ValueError for a negative one."""
     return only(convert, lambda value: value >= 0)
 
 
 def above_zero(convert: Callable[[str], Number]) -> Callable[[str], Number]:
-    """A conversion of a text to a number, as `convert` makes it, that takes numbers above 0 alone; ValueError for 0 and
-    below."""
+    """A conversion of a text to a number, as `convert` makes it; ValueError for 0 and below."""
     return only(convert, lambda value: value > 0)
 
 
 def attributes_of(values: Mapping[str, str]) -> str:
-    """Attributes of an element, {name: text}, as the text of a tag, escaped, each with a blank before it; empty for
-    none."""
+    """Attributes of an element, {name: text}, as the text of a tag, escaped, each with a blank before it."""
     from xml.sax.saxutils import quoteattr  # loads urllib, which takes longer than all else that a client imports
 
     return "".join(f" {name}={quoteattr(value)}" for name, value in values.items())
@@ -234,11 +227,12 @@ def seconds(text: str) -> float:
 
 def read_json(path: FilePath, keys: Iterable[str]) -> Json:
     """The JSON object of a file; Fault where the file cannot be read or is no JSON, holds no object, or one without a
-    key of `keys` (without keys no object is asked for). Other keys may stand there too."""
+    key of `keys`. Other keys may stand there too."""
     with reading(path), open_text(path) as file:
         value = json.load(file)
-    absent = [key for key in keys if not isinstance(value, dict) or key not in value]
-    if absent:
+    if not isinstance(value, dict):
+        raise Fault(f"{path}: no object of JSON")
+    if absent := [key for key in keys if key not in value]:
         raise Fault(f"{path}: no {absent[0]!r} in it")
     return value
 
@@ -252,9 +246,8 @@ def read_json_list(path: FilePath) -> list[Json]:
     return value
 
 
-def place_of(path: FilePath) -> str:
-    """The real path of an output (a link is followed), which need not be there; Fault where anything but a regular file
-    is there."""
+def checked_output_path(path: FilePath) -> str:
+    """Checks the path of an output: Fault where anything but a regular file is there; gives its real path."""
     place = os.path.realpath(path)
     if os.path.exists(place) and not os.path.isfile(place):
         raise Fault(f"{path}: exists and is no regular file")
@@ -274,14 +267,14 @@ def refuse_equal(outputs: Mapping[str, FilePath], inputs: Iterable[FilePath] = (
             raise Fault(f"{path}: {places[os.path.realpath(path)]} names a file that is read")
 
 
-def refuse_places(folder: str, outputs: Mapping[str, FilePath | None], inputs: Iterable[FilePath]) -> None:
+def refuse_unwritable(folder: str, outputs: Mapping[str, FilePath | None], inputs: Iterable[FilePath]) -> None:
     """Fault where outputs cannot be written: as refuse_equal has it, where a file has no folder, where anything but a
     regular file is at its place, or where `folder`, which need not be there, is none. outputs: {what the user calls it:
     path}, None for one that is not wanted."""
     wanted = {name: path for name, path in outputs.items() if path is not None}
     refuse_equal(wanted, inputs)
     for path in wanted.values():
-        if not os.path.isdir(own := os.path.dirname(place_of(path))):
+        if not os.path.isdir(own := os.path.dirname(checked_output_path(path))):
             raise Fault(f"{path}: there is no folder {own}")
     if os.path.exists(folder) and not os.path.isdir(folder):
         raise Fault(f"{folder}: exists and is no folder")
@@ -291,8 +284,8 @@ def refuse_places(folder: str, outputs: Mapping[str, FilePath | None], inputs: I
 def whole_path(path: FilePath) -> Iterator[str]:
     """A path to write to. When the block ends, the file written there takes the place of the output `path`; after an
     exception nothing is left and the output is as it was. Fault where it cannot be written; an OSError of the block
-    that names another file stays one. Waits, as half_file does, for another one of the same path in this process."""
-    place = place_of(path)
+    that names another file stays one."""
+    place = checked_output_path(path)
     try:
         with half_file(place) as half:
             yield half
@@ -346,7 +339,7 @@ def move_files(source: str, target: FilePath, last: str, at_wish: Iterable[str] 
     ]
     for name in names:
         os.makedirs(os.path.dirname(os.path.join(target, name)), exist_ok=True)
-        place_of(os.path.join(target, name))
+        checked_output_path(os.path.join(target, name))
     for name in names:
         if os.path.basename(name) == last:
             for old in (last, *at_wish):
@@ -362,8 +355,7 @@ ENDINGS = (signal.SIGTERM, signal.SIGINT, signal.SIGHUP)
 @contextlib.contextmanager
 def uninterrupted() -> Iterator[None]:
     """Holds back, while the block runs, the signals that end a tool (ENDINGS); they come after it. They are held back
-    from this thread alone, so where another one runs that takes them, they come in the block; and from processes begun
-    in the block for good."""
+    from this thread alone, and from processes begun in the block for good."""
     before = signal.pthread_sigmask(signal.SIG_BLOCK, ENDINGS)
     try:
         yield
@@ -372,8 +364,7 @@ def uninterrupted() -> Iterator[None]:
 
 
 def end_by_signal(number: int, _frame: FrameType | None) -> NoReturn:
-    """Handles a signal: ends the tool by SystemExit, so that nothing half-written is left; the status is 128 and the
-    signal's number."""
+    """Handles a signal: ends the tool by SystemExit, with status 128 + number, so that nothing half-written is left."""
     sys.exit(128 + number)
 
 

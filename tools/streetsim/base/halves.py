@@ -30,12 +30,18 @@ def half_folder(inside: str | os.PathLike[str]) -> Iterator[str]:
 @contextlib.contextmanager
 def half_file(path: str) -> Iterator[str]:
     """The path of a new hidden file to write beside `path`; it is removed when the block ends, unless it was renamed.
-    First those that killed tools left there are removed. A second one of a process for the same path begins only when
-    the first has ended, so one within the other never does."""
+    First those for this `path` that killed tools left are removed."""
     folder, name = os.path.split(path)
     stem, dot, end = name.partition(".")
     remove_left(os.path.join(glob.escape(folder), f".{glob.escape(stem)}.*.half{glob.escape(dot + end)}"))
-    half, held = hold_new(lambda: new_file(os.path.join(folder, f".{stem}.{os.getpid()}.half{dot}{end}")))
+
+    def make() -> str:
+        """Makes an empty file of a name that no other one has, and gives its path."""
+        half = os.path.join(folder, f".{stem}.{os.urandom(4).hex()}.half{dot}{end}")
+        open(half, "x").close()
+        return half
+
+    half, held = hold_new(make)
     try:
         yield half
     finally:
@@ -49,17 +55,10 @@ def is_half(path: str) -> bool:
     return any(part.startswith(FOLDER) or (part[:1] == "." and ".half" in part) for part in str(path).split(os.sep))
 
 
-def new_file(path: str) -> str:
-    """Makes an empty file where there is none, and leaves one that is there as it is; gives its path."""
-    os.close(os.open(path, os.O_CREAT | os.O_WRONLY, 0o666))
-    return path
-
-
 def hold_new(make: Callable[[], str]) -> tuple[str, int]:
-    """(path of the file or folder that `make` makes, descriptor by which a lock on it is held, for the caller to
-    close); no lock is held where its file system has none. Made anew where another tool has just removed it, as it was
-    not locked yet; and, without a pause or an end, as long as another descriptor has the lock, of this process too.
-    OSError where it cannot be opened."""
+    """(path of the file or folder that `make` makes, each time another one; descriptor by which a lock on it is held,
+    for the caller to close); no lock is held where its file system has none. Made anew where another tool has just
+    removed it, or is about to, as it was not locked yet. OSError where it cannot be opened."""
     while True:
         path = make()
         with contextlib.suppress(FileNotFoundError):
@@ -82,8 +81,7 @@ def lock(held: int) -> bool | None:
 
 
 def remove_left(pattern: str) -> None:
-    """Removes the files and folders of a pattern (as glob's) that no tool holds; what cannot be removed stays, and
-    nothing is said."""
+    """Removes the files and folders of a pattern (as glob's) that no tool holds; what cannot be removed stays."""
     for path in glob.glob(pattern, include_hidden=True):
         with contextlib.suppress(OSError):
             held = os.open(path, os.O_RDONLY | os.O_NOFOLLOW)

@@ -12,8 +12,8 @@ from streetsim.base.files import Fault
 Item = TypeVar("Item")
 Result = TypeVar("Result")
 Tell = Callable[[Any], object]  # takes any value that says how far a work is
-Told = Callable[[int, Any], object]  # takes the place of an item, from 0, and what its work told
-Running = dict[Connection, tuple[int, BaseProcess]]  # by the pipe that it tells to: place of its item, process
+Told = Callable[[int, Any], object]  # takes the index of an item, from 0, and what its work told
+Running = dict[Connection, tuple[int, BaseProcess]]  # by the pipe that it tells to: index of its item, process
 CORES = len(os.sched_getaffinity(0))  # that this process may use
 
 
@@ -21,43 +21,42 @@ def side_by_side(
     work: Callable[[Item, Tell], Result],
     items: Iterable[Item],
     jobs: int = CORES,
-    told: Told = lambda place, value: None,
+    told: Told = lambda index, value: None,
 ) -> list[Result]:
-    """What a function gives for each item, in the items' order. Each runs in a process of its own, at most `jobs` (1 or
-    more) at once; results go through a pipe, so they must be what pickle takes.
+    """What a function gives for each item, in the items' order. Each runs in a process of its own, at most `jobs` at
+    once (one where that is less); results go through a pipe, so they must be what pickle takes.
 
-    The function gets an item and a function to tell how far it is; what it tells goes to `told(place, value)`, place:
+    The function gets an item and a function to tell how far it is; what it tells goes to `told(index, value)`, index:
     of the item, from 0. A Fault of one ends all the others and is raised; where one fails otherwise, its traceback goes
     to standard error, and a Fault that says so is raised in the same way.
     """
-    waiting = list(enumerate(items))
     running: Running = {}
     results: dict[int, Result] = {}
     try:
-        while waiting or running:
-            while waiting and len(running) < jobs:
-                begin(work, *waiting.pop(0), running)
-            for pipe in wait(list(running)):
-                assert isinstance(pipe, Connection)
-                hear(pipe, running, results, told)
+        for index, item in enumerate(items):
+            start_process(work, index, item, running)
+            while running and len(running) >= jobs:
+                hear(running, results, told)
+        while running:
+            hear(running, results, told)
     finally:
         for _, process in running.values():
             process.kill()
             process.join()
-    return [results[place] for place in sorted(results)]
+    return [results[index] for index in sorted(results)]
 
 
-def begin(work: Callable[[Item, Tell], object], place: int, item: Item, running: Running) -> None:
-    """Starts a process for an item, and notes it in `running`; place: of the item, from 0."""
+def start_process(work: Callable[[Item, Tell], object], index: int, item: Item, running: Running) -> None:
+    """Starts a process for an item, and notes it in `running`; index: of the item, from 0."""
     pipe, end = multiprocessing.Pipe(duplex=False)
-    process = multiprocessing.get_context("fork").Process(target=do, args=(work, item, end))
+    process = multiprocessing.get_context("fork").Process(target=work_and_send, args=(work, item, end))
     process.start()
     end.close()
-    running[pipe] = place, process
+    running[pipe] = index, process
 
 
-def do(work: Callable[[Item, Tell], object], item: Item, pipe: Connection) -> None:
-    """Runs inside the process: ends by signals as programs do, leaves Ctrl-C to the process that began it, and sends
+def work_and_send(work: Callable[[Item, Tell], object], item: Item, pipe: Connection) -> None:
+    """Runs inside the process: SIGTERM and SIGHUP end it at once, Ctrl-C is left to the process that began it; sends
     what the work tells, and its result or a Fault, to the pipe."""
     signal.signal(signal.SIGINT, signal.SIG_IGN)
     for number in (signal.SIGTERM, signal.SIGHUP):
@@ -68,20 +67,22 @@ def do(work: Callable[[Item, Tell], object], item: Item, pipe: Connection) -> No
         pipe.send(("fault", str(fault)))
 
 
-def hear(pipe: Connection, running: Running, results: dict[int, Result], told: Told) -> None:
-    """Takes one message of a process: notes its result and takes it from `running`, or passes on what it tells; raises
-    its Fault, or one where it ended without a result."""
-    place, process = running[pipe]
-    try:
-        kind, value = pipe.recv()
-    except EOFError:
-        process.join()
-        raise Fault(f"a process ended before its work was done, with status {process.exitcode}") from None
-    if kind == "fault":
-        raise Fault(value)
-    if kind == "told":
-        told(place, value)
-        return
-    results[place] = value
-    process.join()
-    del running[pipe]
+def hear(running: Running, results: dict[int, Result], told: Told) -> None:
+    """Waits for messages of the processes, and takes one of each that sent some: notes its result and takes it from
+    `running`, or passes on what it tells; raises its Fault, or one where it ended without a result."""
+    for pipe in wait(list(running)):
+        assert isinstance(pipe, Connection)
+        index, process = running[pipe]
+        try:
+            kind, value = pipe.recv()
+        except EOFError:
+            process.join()
+            raise Fault(f"a process ended before its work was done, with status {process.exitcode}") from None
+        if kind == "fault":
+            raise Fault(value)
+        if kind == "told":
+            told(index, value)
+        else:
+            results[index] = value
+            process.join()
+            del running[pipe]

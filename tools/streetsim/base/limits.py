@@ -22,6 +22,6 @@ ROWS = 32  # that a detector keeps
 LINE = 1_048_576  # bytes
 
 
-def cells_of(metres: float) -> int:
+def cells_of_length(metres: float) -> int:
     """How many cells of 7.5 m a lane of this length in metres has, rounded; one at least."""
     return max(1, round(metres / CELL_METRES))

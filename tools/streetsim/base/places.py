@@ -13,23 +13,20 @@ PICTURES = (".png",)  # what examples have for the pages
 
 
 def installed(name: str) -> Path | None:
-    """A file that is installed with the tools, by its path from the prefix; none where they stand in the repository, or
-    were installed alone."""
+    """A file that is installed with the tools, by its path from the prefix; none in the repository, or without it."""
     path = PREFIX / name if PREFIX else None
     return path if path and path.exists() else None
 
 
 def example_files(example: Path) -> list[Path]:
-    """The files of an example, sorted, which is a folder or one file itself; pictures and Python's caches are left
-    out."""
+    """The files, sorted, of an example, a folder or one file itself; without pictures and Python's caches."""
     paths = sorted(example.rglob("*")) if example.is_dir() else [example]
     hidden = ("__pycache__", *PICTURES)
     return [path for path in paths if path.is_file() and not {path.suffix, path.parent.name}.intersection(hidden)]
 
 
 def examples() -> dict[str, Path]:
-    """{name of an example: its folder or file}, without those that have no file; SESSIONS are among them in the
-    repository alone."""
+    """{name of an example: its folder or file}, without empty ones; SESSIONS are among them in the repository alone."""
     folder = PREFIX / "share/streetsim/examples" if PREFIX else TOP / "tools/examples"
     found = {path.name: path for path in sorted(folder.glob("*")) if example_files(path)}
     sessions = TOP / "examples"

@@ -13,10 +13,8 @@ HELP = f"the simulator (default: ${VARIABLE}, else the one that is installed wit
 
 def find_program(given: str | None = None) -> str:
     """The path of the program that is given (a path or a command's name), else of the one that STREETSIM_PROGRAM names,
-    else of the one that is installed with the tools; Fault where there is none. An empty text counts as none.
-
-    The repository's script `streetsim` stands for the program that was built there: no tool starts a build.
-    """
+    else of the one that is installed with the tools; Fault where there is none. The repository's script `streetsim`
+    stands for the program that was built there: no tool starts a build."""
     named = given or os.environ.get(VARIABLE) or installed(PROGRAM)
     if not named:
         raise Fault(
@@ -30,7 +28,7 @@ def find_program(given: str | None = None) -> str:
 
 
 def is_script(path: Path) -> bool:
-    """Whether this is the repository's script; Fault where nothing was built there."""
+    """Whether a path is of the repository's script `streetsim`; Fault where it is, and nothing was built there."""
     if path.name != "streetsim" or not (path.parent / "crates/street_sim").is_dir():
         return False
     if not os.access(path.parent / BUILT, os.X_OK):

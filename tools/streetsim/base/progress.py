@@ -12,8 +12,7 @@ PAUSE = 0.2  # seconds between two writings of a line
 
 
 class TerminalLine:
-    """A line that is written over and over on a terminal, where `takes_turn` says so: never where the stream is no
-    terminal."""
+    """A line that is written over and over on a terminal: who writes asks `takes_turn`, or `shown`, before."""
 
     def __init__(self, stream: IO[str] | None = None) -> None:
         """stream: where the line is written; none: standard error."""
@@ -24,9 +23,8 @@ class TerminalLine:
         """Seconds since this line was made."""
         return time.monotonic() - self.begin
 
-    def takes_turn(self, ended: bool) -> bool:
-        """Whether to write it now, which is then noted: on a terminal at most five times a second, and when the work
-        has ended."""
+    def takes_turn(self, ended: bool = False) -> bool:
+        """Whether to write it now, which is noted: on a terminal alone, five times a second at most, or if ended."""
         now = time.monotonic()
         if not self.shown or (now - self.last < PAUSE and not ended):
             return False
@@ -34,8 +32,7 @@ class TerminalLine:
         return True
 
     def write(self, text: str, end: str = "") -> None:
-        """Writes a text from the left end of the line on, and `end` behind it, on whatever the stream is: ask
-        `takes_turn` before."""
+        """Writes a text from the left end of the line on, and `end` behind it, be it a terminal or not."""
         print(f"\r{text}", end=end, file=self.stream, flush=True)
 
     def write_over(self, text: str) -> None:
@@ -60,58 +57,61 @@ class Meanwhile(TerminalLine):
         self.what, self.total = what, total
 
     def show(self, done: int, more: str = "") -> None:
-        """Writes the line where it is due; done: parts done, 0 to the total; more: what else there is to say."""
+        """Writes the line where it is due; done: parts done; more: what else there is to say."""
         if self.takes_turn(done >= self.total):
             self.write_over(self.line(done, more, self.seconds()))
 
     def line(self, done: int, more: str, seconds: float) -> str:
-        """The line's text; done: parts done; more: what else there is to say, or empty; seconds: since the begin of the
-        work."""
-        left = seconds * (self.total - done) / max(1, done) / 60
-        parts = [
-            f"[{bar(done, self.total)}] {done:,} of {self.total:,} {self.what}",
-            *([more] if more else []),
-            f"{left:.1f} min left",
-        ]
-        return ", ".join(parts)
+        """The line's text; done: parts done; more: what else there is to say; seconds: since the begin of the work."""
+        left = seconds * max(0, self.total - done) / max(1, done) / 60
+        told = f"[{bar(done, self.total)}] {done:,} of {self.total:,} {self.what}"
+        return f"{told}{more and f', {more}'}, {left:.1f} min left"
 
 
 class UnderWay(TerminalLine):
     """A line on the terminal with the clock of a run, or how many of several runs are done; vehicles on their way,
-    arrived, steps a second. Shares and steps are reckoned as if each run began at clock 0. It is not taken away in the
-    end."""
+    arrived, steps a second. It stays there, as the runs left it, when the block ends."""
 
-    def __init__(self, until: int, runs: int = 1, stream: IO[str] | None = None) -> None:
-        """until: the clock at which each run ends; runs: how many there are. stream: of the line, None: standard
-        error."""
+    def __init__(self, start: int, until: int, runs: int = 1, stream: IO[str] | None = None) -> None:
+        """start, until: the clocks at which each run begins and, by and large, ends; runs: how many there are. stream:
+        of the line, None: standard error."""
         super().__init__(stream)
-        self.until = until
-        self.clocks, self.ways, self.arrived = [0] * runs, [0] * runs, [0] * runs
+        self.start, self.until = start, until
+        self.clocks, self.ways, self.arrived = [start] * runs, [0] * runs, [0] * runs
+        self.over = 0  # runs
+
+    def __enter__(self) -> Self:
+        """Gives the line itself, of which nothing is written yet."""
+        return self
+
+    def __exit__(self, *_: object) -> None:
+        """Writes the line a last time, where it was written at all, and ends it."""
+        if self.last:
+            self.write(f"{self.line(self.seconds())} ", "\n")
 
     def show(self, clock: int, census: Census | None, run: int = 0) -> None:
-        """Notes how far a run (by its place, from 0) is, and writes the line where it is due; does nothing before the
-        run's first census (none), and where the stream is no terminal."""
-        if not self.shown or census is None:
-            return
-        self.clocks[run], self.ways[run], self.arrived[run] = clock, census.cells + census.buffers, census.arrived
-        ended = min(self.clocks) >= self.until
-        if self.takes_turn(ended):
-            self.write(f"{self.line(self.seconds())} ", "\n" if ended else "")
+        """Notes how far a run (its place, from 0) is, and writes the line if due; nothing without a census."""
+        if census is not None:
+            self.clocks[run], self.ways[run], self.arrived[run] = clock, census.cells + census.buffers, census.arrived
+            if self.takes_turn():
+                self.write(f"{self.line(self.seconds())} ")
+
+    def note_end(self) -> None:
+        """Notes that one of the runs has ended, at whatever clock."""
+        self.over += 1
 
     def line(self, seconds: float) -> str:
         """The line's text; seconds: since the begin of the work."""
-        done, runs = sum(self.clocks), len(self.clocks)
-        over = sum(clock >= self.until for clock in self.clocks)
-        place = f"{self.clocks[0]:,} s" if runs == 1 else f"{over} of {runs} runs done"
+        steps, runs = sum(clock - self.start for clock in self.clocks), len(self.clocks)
+        place = f"{self.clocks[0]:,} s" if runs == 1 else f"{self.over} of {runs} runs done"
         return (
-            f"[{bar(done, self.until * runs)}] {place}, {sum(self.ways):,} on their way, "
-            f"{sum(self.arrived):,} arrived, {done / max(0.001, seconds):,.0f} steps/s"
+            f"[{bar(steps, (self.until - self.start) * runs)}] {place}, {sum(self.ways):,} on their way, "
+            f"{sum(self.arrived):,} arrived, {steps / max(0.001, seconds):,.0f} steps/s"
         )
 
 
 class Slow(TerminalLine):
-    """A line that says what a tool does and for how many seconds, once that has taken longer than two seconds; it is
-    taken away in the end."""
+    """A line that says what a tool does and for how many seconds, from `wait` of them on; taken away in the end."""
 
     def __init__(self, text: str, stream: IO[str] | None = None, wait: float = 2.0) -> None:
         """text: what the tool does; wait: seconds before the line comes. stream: of the line, None: standard error."""
@@ -121,8 +121,7 @@ class Slow(TerminalLine):
         self.thread = threading.Thread(target=self.show, daemon=True)
 
     def __enter__(self) -> Self:
-        """Begins to wait for the line's time, which can be done once (RuntimeError); nothing where the stream is no
-        terminal."""
+        """Begins to wait for the line's time, which can be done once (RuntimeError); only on a terminal."""
         if self.shown:
             self.thread.start()
         return self
@@ -142,7 +141,7 @@ class Slow(TerminalLine):
 
 def bar(done: int, total: int) -> str:
     """The share that is done, as 30 characters of # and blanks."""
-    return f"{'#' * (30 * done // max(1, total)):30}"
+    return f"{'#' * min(30, 30 * done // max(1, total)):30}"
 
 
 class Stopping:

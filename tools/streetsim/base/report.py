@@ -1,7 +1,7 @@
-"""What an import has to say: warnings, and things left out, counted by reason."""
+"""What an import, or another reader of SUMO's files, has to say: warnings, and what is left out or has no effect."""
 from collections import Counter
 from collections.abc import Iterable, Iterator, Sequence
-from dataclasses import dataclass
+from dataclasses import dataclass, replace
 
 COLUMNS = ("weight", "what", "names", "do")  # of the table of all that is said
 HEAVY, LIGHT, NONE = "changes results", "told", "no effect"  # weights of what is said
@@ -18,14 +18,12 @@ class Warned:
 
 
 class Report:
-    """What an import says, gathered while it goes."""
+    """What an import, or another reader of SUMO's files, says, gathered while it goes."""
 
     def __init__(self) -> None:
         """Nothing has been said yet."""
         self.warnings: list[str] = []
-        # By warning: its weight, the names that it is of, what to do.
-        self.more: dict[str, tuple[str, tuple[str, ...], str]] = {}
-        self.kinds: dict[str, str] = {}  # by warning, what several of its kind are told as
+        self.alike: dict[str, list[Warned]] = {}  # by kind, or text of a warning that is of none
         self.notes: list[str] = []  # what was counted
         self.ignored: Counter[str] = Counter()  # what is read and has no effect
         self.skipped: Counter[str] = Counter()  # vehicles that do not drive, by reason
@@ -40,30 +38,17 @@ class Report:
         of its kind are told in one line, behind their count and before the ids; empty: each has its line."""
         if text not in self.warnings:
             self.warnings.append(text)
-            self.more[text] = (LIGHT if light else HEAVY, tuple(names), do)
-            self.kinds[text] = kind
+            one = Warned(text, LIGHT if light else HEAVY, tuple(names), do)
+            self.alike.setdefault(kind or text, []).append(one)
 
     def by_weight(self) -> list[Warned]:
-        """The warnings, several of a kind as one, first those that change results; among equals in the order they
-        came."""
-        alike: dict[str, list[str]] = {}
-        for text in self.warnings:
-            alike.setdefault(self.kinds[text] or text, []).append(text)
-        told = (self.together(kind, texts) for kind, texts in alike.items())
+        """The warnings, several of a kind as one, first those that change results; equals in the order they came."""
+        told = (one_warning(kind, those) for kind, those in self.alike.items())
         return sorted(told, key=lambda one: one.weight != HEAVY)
 
-    def together(self, kind: str, texts: Sequence[str]) -> Warned:
-        """Warnings of one kind as one: how many they are, their kind and the first ids, with all ids; weight and what
-        to do are of the first. A warning alone stays as it is."""
-        weight, names, do = self.more[texts[0]]
-        if len(texts) == 1:
-            return Warned(texts[0], weight, names, do)
-        names = tuple(dict.fromkeys(name for text in texts for name in self.more[text][1]))
-        return Warned(f"{len(texts):,} {kind}: {some(names)}", weight, names, do)
-
     def lines(self) -> Iterator[str]:
-        """All that is said, a line each, for the terminal; warnings with what to do, but with ids only where several of
-        a kind are one."""
+        """All that is said, a line each, as terminals, maps and pages show it; of a warning's names only the first few,
+        where several of a kind are one."""
         yield from (f"skipped: {count} vehicles: {why}" for why, count in sorted(self.skipped.items()))
         for one in self.by_weight():
             yield f"warning: {one.text}{f' ({one.do})' if one.do else ''}"
@@ -71,19 +56,24 @@ class Report:
         yield from (f"ignored: {count} x {what}" for what, count in sorted(self.ignored.items()) if count)
 
     def rows(self) -> list[list[str]]:
-        """All that is said, but for the notes, as rows of `COLUMNS`: weight, what, the ids that it is of (with blanks
-        between), what to do. First the vehicles that are left out, then the warnings as by_weight has them, last what
-        has no effect."""
-        found = [
-            [HEAVY, f"{count} vehicles are left out: {why}", "", ""] for why, count in sorted(self.skipped.items())
-        ]
+        """All that is said, but for the notes, as rows of `COLUMNS`, the ids with blanks between: first the vehicles
+        that are left out, then the warnings as by_weight has them, last what has no effect."""
+        skipped, ignored = sorted(self.skipped.items()), sorted(self.ignored.items())
+        found = [[HEAVY, f"{count} vehicles are left out: {why}", "", ""] for why, count in skipped]
         found += [[one.weight, one.text, " ".join(one.names), one.do] for one in self.by_weight()]
-        found += [[NONE, f"{count} x {what}", "", ""] for what, count in sorted(self.ignored.items()) if count]
-        return found
+        return found + [[NONE, f"{count} x {what}", "", ""] for what, count in ignored if count]
 
 
-def some(names: Iterable[str], most: int = 5) -> str:
-    """The first of many names with commas between, at most `most`, and how many further ones there are, for a
-    warning."""
+def one_warning(kind: str, those: Sequence[Warned]) -> Warned:
+    """Warnings of one kind as one: how many they are, their kind and the first ids, with all ids; weight and what to do
+    are of the first. A warning alone stays as it is."""
+    if len(those) == 1:
+        return those[0]
+    names = tuple(dict.fromkeys(name for one in those for name in one.names))
+    return replace(those[0], text=f"{len(those):,} {kind}: {first_few(names)}", names=names)
+
+
+def first_few(names: Iterable[str], most: int = 5) -> str:
+    """The first of some names with commas between, at most `most`, and how many further ones there are."""
     names = list(names)
     return ", ".join(names[:most]) + (f" and {len(names) - most} more" if len(names) > most else "")

@@ -1,4 +1,5 @@
 """Seeds, and what the results of runs with several of them tell: means, 95 % intervals, how many runs are needed."""
+import re
 from collections.abc import Sequence
 from math import ceil, sqrt
 from statistics import NormalDist, fmean, stdev
@@ -19,11 +20,11 @@ STUDENT = (
 def seeds_of(text: str | int, name: str) -> range:
     """The seeds of a text FIRST-LAST, both included, or of one number; Fault where it is neither, or names more than
     1,000 or one of 2^64 or more. name: what the user calls them."""
-    first, _, last = str(text).partition("-")
-    last = last or first
-    if not (first.isdecimal() and last.isdecimal() and int(first) <= int(last) < min(int(first) + MOST_SEEDS, 2**64)):
-        raise Fault(f"{name} {text!r}: expected FIRST-LAST, at most {MOST_SEEDS:,} of them")
-    return range(int(first), int(last) + 1)
+    if found := re.fullmatch(r"(\d{1,20})(?:-(\d{1,20}))?", str(text)):
+        first, last = int(found[1]), int(found[2] or found[1])
+        if first <= last < min(first + MOST_SEEDS, 2**64):
+            return range(first, last + 1)
+    raise Fault(f"{name} {text!r}: expected FIRST-LAST, at most {MOST_SEEDS:,} of them")
 
 
 def student(degrees: int) -> float:
@@ -36,20 +37,18 @@ def student(degrees: int) -> float:
 
 
 def half_width(deviation: float, runs: int) -> float:
-    """Half the width of the 95 % interval of the mean of `runs` values, two at least; deviation: their standard
-    deviation. In the unit of this."""
+    """Half the width of the 95 % interval of the mean of `runs` values, two at least, by their standard deviation."""
     return student(runs - 1) * deviation / sqrt(runs)
 
 
 def paired(before: Sequence[float], after: Sequence[float]) -> tuple[float, float | None]:
-    """(mean of `after` less `before` over runs with equal seeds in the same order, half the width of its 95 %
-    interval), this none for one run."""
-    return interval([there - here for here, there in zip(before, after, strict=True)])
+    """As `mean_and_half_width`, of `after` less `before` over runs with equal seeds in the same order."""
+    return mean_and_half_width([there - here for here, there in zip(before, after, strict=True)])
 
 
-def unpaired(before: Sequence[float], after: Sequence[float]) -> float:
-    """Half the width of the 95 % interval of the difference of two means, in the values' unit, with the runs taken as
-    if those before and after had nothing in common, not even seeds; as many of both, two at least."""
+def unpaired_half_width(before: Sequence[float], after: Sequence[float]) -> float:
+    """Half the width of the 95 % interval of the difference of two means, in the values' unit, as if the runs
+    before and after had nothing in common, not even seeds; as many of both, two at least."""
     return half_width(sqrt(stdev(before) ** 2 + stdev(after) ** 2), len(before))
 
 
@@ -69,15 +68,14 @@ def runs_needed(deviation: float, error: float) -> int | None:
 
 
 def seeds_for(values: Sequence[float]) -> int:
-    """How many seeds a search needs, by the values of two or more runs of the given plan: one where their standard
-    deviation is at most 0.5 % of the mean, or this is 0; else so many that the standard error of the mean is at most
-    1 % of it, 2 to 10."""
+    """How many seeds a search needs, by the values of two or more runs of the given plan: one where they deviate by at
+    most 0.5 % of the mean, else so many that the mean's standard error is at most 1 % of it, 2 to 10."""
     relative = stdev(values) / fmean(values) if fmean(values) else 0.0
     return 1 if relative <= SEARCH_SPREAD else min(MOST_SEARCHED, max(2, ceil((relative / SEARCH_ERROR) ** 2)))
 
 
-def interval(values: Sequence[float]) -> tuple[float, float | None]:
-    """(mean of one or more values, half the width of its 95 % interval), this none for one value."""
+def mean_and_half_width(values: Sequence[float]) -> tuple[float, float | None]:
+    """(mean, half the width of its 95 % interval: None for a single value), of one or more values."""
     if len(values) < 2:
         return fmean(values), None
     return fmean(values), half_width(stdev(values), len(values))

@@ -12,7 +12,7 @@ def lengths(line: Line) -> list[float]:
     return [hypot(bx - ax, by - ay) for (ax, ay), (bx, by) in pairwise(line)]
 
 
-def along(line: Line, share: float) -> Point:
+def point_along(line: Line, share: float) -> Point:
     """The point at a share (0 to 1) of the length of a line, of one point at least."""
     at, rest = segment_at(line, share)
     if at is None:
@@ -21,17 +21,16 @@ def along(line: Line, share: float) -> Point:
     return ax + (bx - ax) * rest, ay + (by - ay) * rest
 
 
-def heading(line: Line, share: float) -> float:
-    """The direction at a share (0 to 1) of the length of a line, two points at least, in degrees clockwise from
-    north."""
+def heading_at(line: Line, share: float) -> float:
+    """Degrees clockwise from north of a line of two points or more, at a share (0 to 1) of its length."""
     at, _ = segment_at(line, share)
     (ax, ay), (bx, by) = line[at if at is not None else -2], line[at + 1 if at is not None else -1]
     return degrees(atan2(bx - ax, by - ay)) % 360
 
 
 def segment_at(line: Line, share: float) -> tuple[int | None, float]:
-    """(number of the first point of the part of a line in which a share (0 to 1) of its length lies, share of that
-    part); (None, 0.0) behind the line's end, and where it has no length."""
+    """(number, from 0, of the part of a line, from point to point, in which a share (0 to 1) of its length lies, share
+    of that part); (None, 0.0) behind the line's end, and where it has no length."""
     left = share * sum(lengths(line))
     for at, size in enumerate(lengths(line)):
         if left <= size and size:

@@ -17,7 +17,7 @@ FREE = ("--title",)  # words whose text may be empty
 
 class Parser(argparse.ArgumentParser):
     """A parser for which wrong words are a Fault, one line without the usage.
-    A word that begins with - and is no option is a value, as many of SUMO's edges begin so."""
+    A word with one - before it that cannot stand for an option is a value, as many of SUMO's edges begin so."""
 
     def __init__(self, *args: Any, **more: Any) -> None:
         """All arguments are those of ArgumentParser."""
@@ -37,23 +37,22 @@ class Parser(argparse.ArgumentParser):
 
 def naming_nothing(words: Sequence[str]) -> str | None:
     """What is wrong with the first word that has no name in it, as a variable of the shell that is not set leaves one
-    (a tool would go on as if the word were not there); the text of --title may be empty. None where nothing is
-    wrong."""
+    (a tool would go on as if the word were not there), or None; the text of --title may be empty."""
     for before, word in zip(("", *words), words):
         name, sign, text = word.partition("=")
         option, value = (name, text) if sign and word.startswith("--") else (before, word)
-        if option not in FREE and not listed(value):
+        if option not in FREE and not names_in(value):
             return f"{option}: {value!r} names nothing" if option.startswith("-") else f"{value!r} names nothing"
     return None
 
 
-def within(least: int, most: int) -> Callable[[str], int]:
+def integer_within(least: int, most: int) -> Callable[[str], int]:
     """A conversion for argparse that takes whole numbers from least to most, both included, written in digits alone;
     ArgumentTypeError otherwise. least: 0 or more, as no sign is taken."""
 
     def number(text: str) -> int:
         """The number that a text writes; ArgumentTypeError where it is no whole number of the range."""
-        if not text.isdecimal() or not least <= int(text) <= most:
+        if not re.fullmatch(r"\d{1,20}", text) or not least <= int(text) <= most:
             raise argparse.ArgumentTypeError(f"{text!r} is not {least} to {most:,}")
         return int(text)
 
@@ -75,8 +74,7 @@ def time_within(least: int, most: int) -> Callable[[str], int]:
 
 
 def whole_seconds(text: str) -> int | None:
-    """The seconds that a text writes as SUMO's times, as `seconds` reads it; None where it is no time or no whole
-    second."""
+    """The seconds that a text writes as SUMO's times, as `seconds` reads it; None where these are no whole second."""
     try:
         value = seconds(text)
     except ValueError:
@@ -84,7 +82,13 @@ def whole_seconds(text: str) -> int | None:
     return int(value) if value == int(value) else None
 
 
-def listed(text: str) -> list[str]:
+def time_of_day(second: int) -> str:
+    """Seconds since midnight as hours and minutes, 7:30, with seconds where these are not 0; hours may be above 23."""
+    told = f"{second // 3600:d}:{second // 60 % 60:02d}"
+    return f"{told}:{second % 60:02d}" if second % 60 else told
+
+
+def names_in(text: str) -> list[str]:
     """The names of a text with blanks or commas between them, in its order, equal ones too; neither stands in a name of
     SUMO's. Empty where it has none."""
     return [name for name in re.split(r"[\s,]+", text) if name]
@@ -118,14 +122,9 @@ def add_names(made: argparse.ArgumentParser) -> None:
 
 
 def add_jobs(made: argparse.ArgumentParser) -> None:
-    """Adds --jobs to a parser: how many runs go side by side, 1 to 1,024; as many as there are cores where it is not
-    given."""
-    made.add_argument(
-        "--jobs",
-        type=within(1, 1024),
-        default=CORES,
-        help="runs side by side (default: one for each core)",
-    )
+    """Adds --jobs to a parser: how many runs go side by side, 1 to 1,024; by default one for each core."""
+    told = "runs side by side (default: one for each core)"
+    made.add_argument("--jobs", type=integer_within(1, 1024), default=CORES, help=told)
 
 
 def add_lost(made: argparse.ArgumentParser) -> None:
@@ -144,7 +143,7 @@ def add_rounds(made: argparse.ArgumentParser, default: int | None = ROUNDS, usua
     without a light; usual: what its help says of its default."""
     made.add_argument(
         "--rounds",
-        type=within(0, MOST_ROUNDS),
+        type=integer_within(0, MOST_ROUNDS),
         default=default,
         metavar="N",
         help=f"runs before the one that counts, by which those who give way without a light find gaps ({usual}; "
@@ -163,7 +162,7 @@ def add_lights(made: argparse.ArgumentParser) -> None:
     )
 
 
-def files_of(words: Iterable[str]) -> list[str]:
+def paths_in(words: Iterable[str]) -> list[str]:
     """The paths of files that words name, each one or several with commas between, as in SUMO; a word that is the name
-    of a file with a comma is that one file. Whether files are there is not looked at otherwise."""
+    of a file that is there, with a comma in it, is that one file."""
     return [path for word in words for path in ([word] if os.path.exists(word) else filter(None, word.split(",")))]

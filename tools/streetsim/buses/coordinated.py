@@ -1,7 +1,5 @@
 """A light with listed seconds that waits for buses: each phase ends when the light's plan says, as far as its bounds
 allow, so that after a bus it comes back to the plan by itself."""
-from __future__ import annotations
-
 from dataclasses import dataclass
 
 from streetsim.actuated.lights import Driven
@@ -14,16 +12,16 @@ class Coordinated(Actuated):
 
     planned: int = 0  # clock at which the plan has the phase begin that is shown
 
-    def start(self, now: int, offset: int = 0) -> None:
+    def begin_at(self, now: int, offset: int = 0) -> None:
         """Begins, at the clock now, in the phase in which the plan is then; offset: of the plan, seconds."""
-        Actuated.start(self, now, offset)
+        Actuated.begin_at(self, now, offset)
         self.planned = self.due - self.phases[self.at].seconds
 
-    def look(self, now: int, gap: GapOf) -> bool:
+    def moves_on(self, now: int, gap: GapOf) -> bool:
         """Goes on to the next phase where the present one is over at the clock now; gives whether it does. The plan's
         clock goes on with it, by whole cycles where it is far off."""
         seconds, self.due = self.phases[self.at].seconds, now
-        if not Actuated.look(self, now, gap):
+        if not Actuated.moves_on(self, now, gap):
             return False
         cycle = sum(phase.seconds for phase in self.phases)
         self.planned += seconds
@@ -31,8 +29,8 @@ class Coordinated(Actuated):
         return True
 
     def wait(self, phase: Phase, gap: GapOf) -> int:
-        """The seconds from `due`, which look sets to the present clock, until the plan ends the phase; 0 where that is
-        over. gap: not asked."""
+        """The seconds from `due`, which moves_on sets to the present clock, until the plan ends the phase; 0 where that
+        is over. gap: not asked."""
         return max(0, self.planned + phase.seconds - self.due)
 
     def why(self, phase: Phase, now: int) -> str:
@@ -45,6 +43,6 @@ class Coordinated(Actuated):
 class Fixed(Driven):
     """A light of a run with listed seconds, as one that is driven."""
 
-    def logic(self) -> Actuated:
+    def new_logic(self) -> Actuated:
         """A new logic of this light, a Coordinated, for one run."""
         return Coordinated(self.phases, self.gaps, self.lead)

@@ -1,8 +1,6 @@
 """The buses of a run while it goes: each is asked where it is when it could have come near its stop, and there its
 lanes are looked at and closed as Stopping says; it is asked too when it could be seen by a light that waits for it. The
 commands are kept, so that runs which repeat this one send them again."""
-from __future__ import annotations
-
 from collections import defaultdict
 from collections.abc import Callable, Iterable, Iterator, Mapping, Sequence
 from dataclasses import dataclass
@@ -66,7 +64,7 @@ def dwells(stops: Iterable[Done]) -> dict[int, list[Dwell]]:
 class Bus:
     """A vehicle with stops to come, or lights that wait for it."""
 
-    owner: int  # its place in the run's file
+    owner: int  # its number in the run's file
     plan: Sequence[int]
     visits: list[Visit]  # to come
     lights: list[Ahead]  # to come
@@ -94,7 +92,7 @@ class Calls:
             self.by_light[ahead.light][owner] = ahead.phases
             self.changed.add(ahead.light)
 
-    def taken(self) -> list[tuple[str, frozenset[int]]]:
+    def take_changed(self) -> list[tuple[str, frozenset[int]]]:
         """(light, all phases called there) for the lights where calls have changed since this was asked last; no
         phases: nobody calls there any more."""
         found = [(light, frozenset().union(*self.by_light[light].values())) for light in sorted(self.changed)]
@@ -121,9 +119,9 @@ class Fleet:
             first = max(run.start(), command["depart"]) + 1
             bus = Bus(owner, command["plan"], visits[owner], [*plan.ahead.get(owner, ())], first)
             self.buses[owner] = bus
-            bus.due += self.seconds(bus, 0, 0)
+            bus.due += self.seconds_to_look(bus, 0, 0)
 
-    def due(self) -> int:
+    def next_clock(self) -> int:
         """The next clock at which a bus is looked at; the last possible clock where no bus is left."""
         return min((bus.due for bus in self.buses.values()), default=limits.CLOCK)
 
@@ -132,7 +130,7 @@ class Fleet:
         """Whether any bus stands at its stop now."""
         return any(bus.stopping and bus.stopping.state == STANDING for bus in self.buses.values())
 
-    def look(self, clock: int, ask: Ask, lanes: Look) -> Iterator[Command]:
+    def commands_after_look(self, clock: int, ask: Ask, lanes: Look) -> Iterator[Command]:
         """Looks at the buses that are due at a clock, and gives the commands to send before the next step; it looks as
         these are taken. Buses with nothing to come are dropped. ask: gives replies on vehicles, by their numbers in the
         file; lanes: gives what stands on lanes."""
@@ -141,20 +139,18 @@ class Fleet:
         for bus, reply in zip(far, ask(bus.owner for bus in far) if far else (), strict=True):
             self.locate(clock, bus, reply)
         near = [bus for bus in due if bus.stopping]
-        if near:
-            wanted = {(bus.visits[0].link, lane) for bus in near if bus.stopping for lane in bus.stopping.wants(clock)}
-            seen = lanes(sorted(wanted)) if wanted else {}
-            for bus in near:
-                self.attend(clock, bus, seen, ask)
+        wanted = {(bus.visits[0].link, lane) for bus in near if bus.stopping for lane in bus.stopping.wants(clock)}
+        seen = lanes(sorted(wanted)) if wanted else {}
+        for bus in near:
+            self.attend(clock, bus, seen, ask)
         for bus in due:
             if not bus.visits and not bus.lights:
                 del self.buses[bus.owner]
-        yield from self.changes(clock)
+        yield from self.closing_commands(clock)
 
     def locate(self, clock: int, bus: Bus, reply: Vehicle) -> None:
         """Notes by the program's reply which stops (as missed) and lights a bus has passed, has the next light wait for
-        it where it is near, and begins its stopping where it is near its stop; else sets when it is to be looked at
-        next."""
+        it where it is near, and begins its stopping where it is near its stop; else sets when it is due next."""
         at, cell, waits = len(bus.plan) - len(reply.plan), reply.cell or 0, 0
         if reply.state == "buffer":  # it has left its link
             at, waits = at + 1, max(0, (reply.ready or 0) - clock)
@@ -162,41 +158,37 @@ class Fleet:
             at = len(bus.plan)
         bus.car = reply.car
         while bus.visits and bus.visits[0].at < at:
-            self.note(bus, Done(bus.visits[0], MISSED))
+            self.note_outcome(bus, Done(bus.visits[0], MISSED))
         bus.lights = [one for one in bus.lights if one.at >= at]
         self.call(bus, at, cell, waits)
         if not bus.visits and not bus.lights:
             return
         if reply.state == "cell" and bus.visits and at == bus.visits[0].at:
             visit = bus.visits[0]
-            if visit.last - cell <= self.reach(visit):
+            if visit.last - cell <= self.approach_cells(visit):
                 assert reply.lane is not None
-                bus.stopping = Stopping(visit, self.road(bus, visit), reply.lane)
+                bus.stopping = Stopping(visit, self.road_at_stop(bus, visit), reply.lane)
                 return
-        bus.due = clock + max(1, waits + self.seconds(bus, at, cell))
+        bus.due = clock + max(1, waits + self.seconds_to_look(bus, at, cell))
 
     def call(self, bus: Bus, at: int, cell: int, waits: int) -> None:
         """Has the next light wait for a bus that is near enough, unless the bus stops before it; else no light waits
-        for it any more. at: the place of its link in its plan; cell: of that link; waits: seconds that it stays in the
+        for it any more. at: the index of its link in its plan; cell: of that link; waits: seconds that it stays in the
         junction."""
         ahead = bus.lights[0] if bus.lights else None
-        if ahead and (stops_before(bus, ahead) or waits + self.between(bus, at, cell, ahead) > self.plan.seen):
+        if ahead and (stops_before(bus, ahead) or waits + self.seconds_to_light(bus, at, cell, ahead) > self.plan.seen):
             ahead = None
         self.calls.set(bus.owner, ahead)
 
-    def between(self, bus: Bus, at: int, cell: int, ahead: Ahead) -> int:
-        """The fewest seconds, rounded down, from a cell of the link at a place of a bus's plan to the stop line of a
+    def seconds_to_light(self, bus: Bus, at: int, cell: int, ahead: Ahead) -> int:
+        """The fewest seconds, rounded down, from a cell of the link at an index of a bus's plan to the stop line of a
         light ahead."""
-        return int(self.before(bus, at, cell, ahead.at) + self.links_left(bus, at, cell, ahead.at))
+        link = self.mapping.links[bus.plan[ahead.at]]
+        cells = link.cells - (cell if at == ahead.at else 0)
+        return int(self.seconds_to_link(bus, at, cell, ahead.at) + cells / link.limit)
 
-    def links_left(self, bus: Bus, at: int, cell: int, last: int) -> float:
-        """The seconds on the link at the place last of a bus's plan, at its limit: from the cell where that is the
-        bus's own link, else from its begin."""
-        link = self.mapping.links[bus.plan[last]]
-        return (link.cells - (cell if at == last else 0)) / link.limit
-
-    def before(self, bus: Bus, at: int, cell: int, last: int) -> float:
-        """The fewest seconds from a cell of the link at a place of a bus's plan to the begin of the link at the place
+    def seconds_to_link(self, bus: Bus, at: int, cell: int, last: int) -> float:
+        """The fewest seconds from a cell of the link at an index of a bus's plan to the begin of that at the index
         last."""
         links, begin, found = self.mapping.links, cell, 0.0
         for link in bus.plan[at:last]:
@@ -204,12 +196,12 @@ class Fleet:
             begin = 0
         return found
 
-    def reach(self, visit: Visit) -> int:
+    def approach_cells(self, visit: Visit) -> int:
         """How many cells before a stop the lanes begin to be looked at in each second."""
         link = self.mapping.links[visit.link]
         return APPROACH if len(link.lanes) > 1 else 2 * link.limit
 
-    def road(self, bus: Bus, visit: Visit) -> Road:
+    def road_at_stop(self, bus: Bus, visit: Visit) -> Road:
         """The link of a bus's stop, as Stopping takes it."""
         link = self.mapping.links[visit.link]
         if len(link.lanes) == 1 or visit.at + 1 == len(bus.plan):
@@ -217,16 +209,16 @@ class Fleet:
         leads = [(visit.link, lane, bus.plan[visit.at + 1]) in self.turns for lane in (visit.lane, 1 - visit.lane)]
         return Road(2, link.limit, link.cells, (leads[0], leads[1]))
 
-    def seconds(self, bus: Bus, at: int, cell: int) -> int:
-        """The fewest seconds, from a cell of the link at a place of its plan, until a bus is to be looked at. It must
+    def seconds_to_look(self, bus: Bus, at: int, cell: int) -> int:
+        """The fewest seconds, from a cell of the link at an index of its plan, until a bus is to be looked at. It must
         have a stop or a light to come."""
         found = []
         if bus.visits:
             visit = bus.visits[0]
-            cells = visit.last - self.reach(visit) - (cell if at == visit.at else 0)
-            found.append(self.before(bus, at, cell, visit.at) + cells / self.mapping.links[visit.link].limit)
+            cells = visit.last - self.approach_cells(visit) - (cell if at == visit.at else 0)
+            found.append(self.seconds_to_link(bus, at, cell, visit.at) + cells / self.mapping.links[visit.link].limit)
         if bus.lights and not stops_before(bus, bus.lights[0]):
-            found.append(self.between(bus, at, cell, bus.lights[0]) - self.plan.seen)
+            found.append(self.seconds_to_light(bus, at, cell, bus.lights[0]) - self.plan.seen)
         return max(0, int(min(found)))
 
     def attend(self, clock: int, bus: Bus, seen: Mapping[Place, Lane], ask: Ask) -> None:
@@ -243,21 +235,21 @@ class Fleet:
         if not found:  # it was put down elsewhere, or left by the lane's end
             bus.stopping, bus.closed, bus.due = None, frozenset(), clock + 1
             if stopping.held:
-                self.note(bus, Done(visit, MISSED, stopping.lane, stopping.arrived))
+                self.note_outcome(bus, Done(visit, MISSED, stopping.lane, stopping.arrived))
             return
         stopping.lane, own = found[0]
-        bus.due = clock + stopping.look(clock, own, lanes)
+        bus.due = clock + stopping.decide_closed(clock, own, lanes)
         bus.closed = frozenset((visit.link, lane, cell) for lane, cell in stopping.closed)
         if stopping.is_over:
-            bus.stopping = None
-            self.note(bus, Done(visit, stopping.state, stopping.lane, stopping.arrived, stopping.leaves))
+            self.note_outcome(bus, Done(visit, stopping.state, stopping.lane, stopping.arrived, stopping.leaves))
 
-    def note(self, bus: Bus, done: Done) -> None:
-        """Keeps what became of a bus's next stop, and takes it from its visits; the caller ends its stopping."""
+    def note_outcome(self, bus: Bus, done: Done) -> None:
+        """Keeps what became of a bus's next stop, which is then over for it."""
+        bus.stopping = None
         bus.visits.pop(0)
         self.done.append(done)
 
-    def changes(self, clock: int) -> Iterator[Command]:
+    def closing_commands(self, clock: int) -> Iterator[Command]:
         """The commands at a clock that close and open cells, so that just those are closed that buses need now, or
         works; they count as sent."""
         wanted = frozenset().union(*(bus.closed for bus in self.buses.values()))
@@ -272,17 +264,14 @@ class Fleet:
         own = (one for one in self.works if (one.link, one.lane) == (link, lane) and one.first <= cell <= one.last)
         return any(one.begin <= clock < one.end for one in own)
 
-    def all(self) -> list[Done]:
-        """What became of all stops, those that no bus has come to or could make among them; asked for at the end of a
-        run."""
+    def stop_outcomes(self) -> list[Done]:
+        """What became of all stops of vehicles in the run, those to come and those not made too; asked at its end."""
         left = []
         for bus in self.buses.values():
-            for visit in bus.visits:
-                one = bus.stopping if visit is bus.visits[0] else None
-                if one and one.state == STANDING:
-                    left.append(Done(visit, STANDING, one.lane, one.arrived))
-                else:
-                    left.append(Done(visit, AHEAD))
+            ahead = [Done(visit, AHEAD) for visit in bus.visits]
+            if (one := bus.stopping) and one.state == STANDING:
+                ahead[0] = Done(one.visit, STANDING, one.lane, one.arrived)
+            left += ahead
         return [*self.done, *left, *(Done(visit, UNMADE) for visit in self.plan.off)]
 
 

@@ -1,13 +1,11 @@
 """The stops of a run that are made, and the lights that wait for vehicles with priority."""
-from __future__ import annotations
-
 from collections import defaultdict
 from collections.abc import Iterator, Mapping
 from dataclasses import dataclass, field
 from functools import partial
 
 from streetsim.base import limits
-from streetsim.base.report import some
+from streetsim.base.report import first_few
 from streetsim.model.mapping import Map
 from streetsim.model.runs import Run
 from streetsim.model.stops import Visit
@@ -22,7 +20,7 @@ AT_WORKS = "as their lane is closed there by road works, which end after the veh
 class Ahead:
     """A light on a vehicle's way that waits for it."""
 
-    at: int  # the place in its plan of the link before the light
+    at: int  # the index in its plan of the link before the light
     light: str
     phases: frozenset[int]  # in which its movement is green
 
@@ -43,7 +41,7 @@ class Planned:
         """The texts to tell: what lights do for vehicles with priority, and which stops are not made, by reason."""
         yield from self.told
         for why, names in self.unmade.items():
-            yield f"{len(names):,} stops of vehicles are not made, {why}: {some(names)}"
+            yield f"{len(names):,} stops of vehicles are not made, {why}: {first_few(names)}"
 
 
 NONE = Planned()  # nobody stops

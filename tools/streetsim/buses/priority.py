@@ -1,24 +1,22 @@
 """Which vehicles have priority at which lights of a run, and within which bounds of its phases: by vehicle class or
 line."""
-from __future__ import annotations
-
 from collections import defaultdict
-from collections.abc import Iterable, Iterator, Mapping, Sequence
-from dataclasses import dataclass, replace
+from collections.abc import Iterator, Mapping, Sequence
+from dataclasses import replace
 from itertools import pairwise
 from math import ceil
 from typing import Any
 
 from streetsim.actuated.kept import Listed, node_of
-from streetsim.actuated.lights import Light, Lights
+from streetsim.actuated.lights import DrivenLight, Lights, passing
 from streetsim.actuated.logic import Phase
 from streetsim.base.files import Fault
-from streetsim.base.report import some
+from streetsim.base.report import first_few
 from streetsim.buses.coordinated import Fixed
 from streetsim.buses.planned import SEEN, Ahead, Planned
 from streetsim.model.mapping import Map
 from streetsim.model.runs import Run
-from streetsim.model.stops import classes_of, lines_of
+from streetsim.model.stops import bus_lines_of, vehicle_classes_of
 
 LEAST = 5  # seconds of a green without bounds of its own, or half of what is listed
 LESS_GAIN = (
@@ -26,31 +24,23 @@ LESS_GAIN = (
     "spared saves them the seconds of braking and starting too"
 )
 
-Way = tuple[int, int]  # a link and the next one
-Turns = list[tuple[str, int]]  # lights, and places in their states
+LinkPair = tuple[int, int]  # a link and the next one
+Turns = list[tuple[str, int]]  # lights, and indexes in their states
 
 
-@dataclass(frozen=True)
-class Priority:
-    """The priority of a run. told: texts on it."""
-
-    lights: tuple[Light, ...]  # that are driven for it, beside those that detectors drive
-    ahead: Mapping[int, tuple[Ahead, ...]]  # by vehicle
-    told: tuple[str, ...]
-
-
-def prioritised(run: Run, mapping: Map, names: Sequence[str], seen: int, driven: Lights) -> Priority:
-    """Which lights wait for which vehicles of the classes and lines in names; a light sees one so many seconds (seen)
-    before its stop line. Lights that cannot wait are told with the reason. driven: the lights that detectors drive,
-    which wait too. Fault where a name has no vehicle."""
-    owners = named(run, mapping, names)
+def prioritised(
+    run: Run, mapping: Map, names: Sequence[str], seen: int | None, lights: Lights, buses: Planned
+) -> tuple[Lights, Planned]:
+    """(the lights, the buses) of a run in which lights wait for vehicles of the classes and lines in names; with the
+    buses it is told which cannot, and why. lights: those that detectors drive, which wait too; buses: the stops that
+    are made; seen: seconds before the stop line, None: SEEN. Fault where a name has no vehicle."""
+    owners, seen = named(run, mapping, names), SEEN if seen is None else seen
     timed = {line.command["node"] for _, line in run.timed if line.command["cmd"] == "signal"}
     changed = {light for light, node in mapping.signals if node in timed}
-    wanted = lights_of(run, mapping, owners)
-    found: dict[str, Light] = {one.name: one for one in driven.driven}
+    found: dict[str, DrivenLight] = {one.name: one for one in lights.driven}
     kept, mine = {one["light"]: one for one in mapping.fixed}, []
     unable: defaultdict[str, list[str]] = defaultdict(list)
-    for light in sorted(wanted):
+    for light in sorted(passing((run.enters[owner] for owner in owners), mapping)):
         try:
             if light in changed:
                 found.pop(light, None)
@@ -64,40 +54,21 @@ def prioritised(run: Run, mapping: Map, names: Sequence[str], seen: int, driven:
     ahead = {owner: way for owner, plan in plans.items() if (way := tuple(ahead_of(plan, turns, found)))}
     waits = {one.light for way in ahead.values() for one in way}
     told = [f"{len(waits):,} lights wait for {len(ahead):,} vehicles that are seen {seen} s before"]
-    if by_detectors := sorted(waits & {one.name for one in driven.driven}):
-        told.append(f"{LESS_GAIN}: {some(by_detectors)}")
-    told += [f"lights do not wait for them, {why}: {some(lights)}" for why, lights in unable.items()]
-    return Priority(tuple(mine), ahead, tuple(told))
-
-
-def waiting(
-    run: Run, mapping: Map, names: Sequence[str], seen: int | None, lights: Lights, buses: Planned
-) -> tuple[Lights, Planned]:
-    """(the lights, the buses) of a run with priority for the classes and lines in names. lights: those that detectors
-    drive; buses: the stops that are made; seen: seconds before the stop line, None: SEEN. Fault where a name has no
-    vehicle."""
-    seen = SEEN if seen is None else seen
-    found = prioritised(run, mapping, names, seen, lights)
-    driven = replace(lights, driven=(*lights.driven, *found.lights))
-    return driven, replace(buses, ahead=found.ahead, seen=seen, told=found.told)
+    if by_detectors := sorted(waits & {one.name for one in lights.driven}):
+        told.append(f"{LESS_GAIN}: {first_few(by_detectors)}")
+    told += [f"lights do not wait for them, {why}: {first_few(those)}" for why, those in unable.items()]
+    made = replace(lights, driven=(*lights.driven, *mine))
+    return made, replace(buses, ahead=ahead, seen=seen, told=tuple(told))
 
 
 def named(run: Run, mapping: Map, names: Sequence[str]) -> list[int]:
-    """The numbers in the file of the vehicles whose class or line is one of names; Fault where a name has no
-    vehicle."""
+    """The numbers in the file of the vehicles whose class or line is one of names; Fault where one has none."""
     count = len(run.enters)
-    classes, lines = classes_of(mapping.kinds, count), lines_of(mapping.kinds, count)
+    classes, lines = vehicle_classes_of(mapping.kinds, count), bus_lines_of(mapping.kinds, count)
     for name in names:
         if name not in classes and name not in lines:
             raise Fault(f"priority {name!r}: no vehicle is of this class or line")
     return [owner for owner in range(count) if classes[owner] in names or lines[owner] in names]
-
-
-def lights_of(run: Run, mapping: Map, owners: Iterable[int]) -> set[str]:
-    """The names of the lights that some vehicles (owners: their numbers in the file) pass."""
-    light_at = {(turn.link, turn.next): turn.light for turn in mapping.turns if turn.light}
-    pairs = (pair for owner in owners for pair in pairwise(run.enters[owner].command["plan"]))
-    return {light for pair in pairs if (light := light_at.get(pair))}
 
 
 def fixed_light(light: str, kept: Mapping[str, Any], seen: int) -> Fixed:
@@ -126,18 +97,20 @@ def bounded(kept: Sequence[Any], seen: int) -> Phase:
     return Phase(state, phase.seconds, least, phase.seconds + seen if most is None else max(least, round(most)))
 
 
-def ahead_of(plan: Sequence[int], turns: Mapping[Way, Turns], lights: Mapping[str, Light]) -> Iterator[Ahead]:
+def ahead_of(
+    plan: Sequence[int], turns: Mapping[LinkPair, Turns], lights: Mapping[str, DrivenLight]
+) -> Iterator[Ahead]:
     """The lights on a vehicle's way (plan: links) that wait for it, in their order; lights: all that wait, by name."""
     for at, pair in enumerate(pairwise(plan)):
         own = [(light, index) for light, index in turns.get(pair, ()) if light in lights]
         if own:
             light = lights[own[0][0]]
-            yield Ahead(at, light.name, light.serving({index for _, index in own}))
+            yield Ahead(at, light.name, light.phases_serving({index for _, index in own}))
 
 
-def turns_of(mapping: Map) -> dict[Way, Turns]:
-    """By (link, next link) the lights of its turns, each with the turn's place in the light's state."""
-    found: defaultdict[Way, Turns] = defaultdict(list)
+def turns_of(mapping: Map) -> dict[LinkPair, Turns]:
+    """By (link, next link) the lights of its turns, each with the turn's index in the light's state."""
+    found: defaultdict[LinkPair, Turns] = defaultdict(list)
     for turn in mapping.turns:
         if turn.light:
             found[turn.link, turn.next].append((turn.light, turn.index))

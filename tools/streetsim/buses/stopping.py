@@ -8,8 +8,6 @@ wrong lane is slowed, and those behind it on the right lane are held, until the 
 `Stopping` is told what stands on the lanes and says which cells are to be closed in the next step. It draws nothing and
 sends nothing, so equal states give equal commands. What is chosen, not measured: APPROACH and PATIENCE.
 """
-from __future__ import annotations
-
 from collections.abc import Mapping, Sequence
 from dataclasses import dataclass, field
 
@@ -40,8 +38,8 @@ class Road:
 
 @dataclass(slots=True)
 class Stopping:
-    """A bus on the link of its stop, until the stop is made or missed. lane: where it is, which the caller of `look`
-    keeps."""
+    """A bus on the link of its stop, until the stop is made or missed. lane: where it is, which the caller of
+    `decide_closed` keeps."""
 
     visit: Visit
     road: Road
@@ -62,11 +60,11 @@ class Stopping:
         return self.state in (MADE, OTHER_LANE, MISSED)
 
     @property
-    def other(self) -> int:
+    def lane_beside(self) -> int:
         """The lane beside its own, on a link of two lanes."""
         return 1 - self.lane
 
-    def look(self, clock: int, bus: Seen, lanes: Mapping[int, Sequence[Seen]]) -> int:
+    def decide_closed(self, clock: int, bus: Seen, lanes: Mapping[int, Sequence[Seen]]) -> int:
         """Decides which cells are `closed` in the next step, and whether the stop is over; gives the seconds until the
         next look. bus: as it is seen; lanes: by lane the vehicles on those that `wants` names, the bus among them or
         not."""
@@ -80,10 +78,10 @@ class Stopping:
             return self.arrive(clock, bus, lanes)
         own = [one for one in lanes.get(self.lane, ()) if one.cell > bus.cell]
         if self.is_astray:
-            self.change(bus, own, lanes.get(self.other, ()))
+            self.change_lane(bus, own, lanes.get(self.lane_beside, ()))
         else:
-            self.near(bus, own, self.visit.last)
-            self.keep(bus, own, lanes.get(self.other, ()))
+            self.halt_at(bus, own, self.visit.last)
+            self.keep_lane(bus, own, lanes.get(self.lane_beside, ()))
         return 1
 
     @property
@@ -97,18 +95,17 @@ class Stopping:
         """The lanes whose vehicles it must be told at a clock."""
         ends = self.goes is None and clock >= self.leaves
         own = [self.lane] if not self.held or ends or (self.passing and clock >= self.passes) else []
-        return sorted([*own, *([self.other] if self.road.lanes == 2 else [])])
+        return sorted([*own, *([self.lane_beside] if self.road.lanes == 2 else [])])
 
     def has_come(self, bus: Seen) -> bool:
-        """Whether the bus is at its stop: at the stop's last cell, or standing on the stop; never while it is
-        astray."""
+        """Whether the bus is at its stop: at the stop's last cell, or standing on the stop; never while astray."""
         if self.is_astray:
             return False
         return bus.cell == self.visit.last or (bus.speed == 0 and bus.cell >= self.visit.first)
 
     def arrive(self, clock: int, bus: Seen, lanes: Mapping[int, Sequence[Seen]]) -> int:
-        """Notes that it stands, and when its doors close: after its duration, and not before its until. Gives the
-        seconds until the next look."""
+        """Notes that it stands, and when its doors close: after its duration, and not before its until. What is closed
+        meanwhile, and what it gives, is as of stand."""
         self.state, self.held = STANDING, Seen(bus.car, bus.cell, 0, bus.size)
         self.arrived = clock + round(self.visit.braking)
         self.leaves = max(self.arrived + self.visit.duration, self.visit.until or 0)
@@ -127,7 +124,7 @@ class Stopping:
         self.closed = {(self.lane, bus.cell + 1)}
         if self.road.lanes == 1:
             return max(1, (self.leaves if self.goes is None else self.goes) - clock)
-        self.keep(bus, (), lanes.get(self.other, ()))
+        self.keep_lane(bus, (), lanes.get(self.lane_beside, ()))
         self.let_pass(clock, bus, lanes)
         return 1
 
@@ -137,35 +134,35 @@ class Stopping:
         self.passing = self.passing or Merging(self.road.cells)
         if self.lane in lanes and clock >= self.passes:
             behind = [one for one in lanes[self.lane] if one.cell < bus.rear]
-            sides = [Side(lanes.get(self.other, ()), ()), Side(behind, [(bus.rear, bus.cell + 1)])]
-            self.passing.told(clock, sides if self.lane == 1 else sides[::-1])
-            self.passes = clock + self.passing.seconds()
+            sides = [Side(lanes.get(self.lane_beside, ()), ()), Side(behind, [(bus.rear, bus.cell + 1)])]
+            self.passing.changes_by_turns(clock, sides if self.lane == 1 else sides[::-1])
+            self.passes = clock + self.passing.seconds_to_next_look()
         for lane, cells in enumerate(self.passing.held):
             self.closed |= {(lane, cell) for cell in cells}
 
-    def near(self, bus: Seen, ahead: Sequence[Seen], last: int) -> None:
-        """Closes the cell beyond the cell last, where the bus would pass that in the next step and nobody before it is
-        at that cell or nearer. ahead: vehicles before it on its lane."""
+    def halt_at(self, bus: Seen, ahead: Sequence[Seen], last: int) -> None:
+        """Closes the cell beyond the cell last, where the bus could pass that in the next step and nobody before it is
+        at the cell beyond or nearer. ahead: vehicles before it on its lane."""
         if min(bus.speed + 1, self.road.limit) > last - bus.cell and rear_of(ahead) > last + 1:
             self.closed.add((self.lane, last + 1))
 
-    def keep(self, bus: Seen, ahead: Sequence[Seen], other: Sequence[Seen]) -> None:
+    def keep_lane(self, bus: Seen, ahead: Sequence[Seen], other: Sequence[Seen]) -> None:
         """Closes a cell of the other lane where the bus would change to it, so that it stays on its own. ahead:
         vehicles before it on its lane; other: those on the other lane."""
         if self.road.lanes == 1:
             return
         shut = min((cell for lane, cell in self.closed if lane == self.lane), default=bus.cell + SIGHT + 1)
         gap = min(rear_of(ahead), shut) - bus.cell - 1
-        leads, beside = self.leads(self.lane), self.leads(self.other)
+        leads, beside = self.leads(self.lane), self.leads(self.lane_beside)
         wishes = (gap < bus.speed + 1 or not leads) and (beside or not leads)
         if wishes and may_change(bus, other):
-            self.closed.add((self.other, min(bus.cell + bus.speed + 2, self.road.cells - 1)))
+            self.closed.add((self.lane_beside, min(bus.cell + bus.speed + 2, self.road.cells - 1)))
 
     def leads(self, lane: int) -> bool:
         """Whether a lane of its link leads to the next link of its plan."""
         return self.road.leads[lane != self.visit.lane]
 
-    def change(self, bus: Seen, ahead: Sequence[Seen], right: Sequence[Seen]) -> None:
+    def change_lane(self, bus: Seen, ahead: Sequence[Seen], right: Sequence[Seen]) -> None:
         """Closes cells so that it changes to the stop's lane where the rule allows; else so that it is slowed and waits
         two cells before the stop (its seconds of standing with a free cell ahead are counted), and those behind it on
         that lane are held. ahead, right: vehicles before it on its lane, and those on the stop's lane."""
@@ -177,7 +174,7 @@ class Stopping:
             return
         slow = bus.cell + max(0, self.road.limit - 1)
         last = min(slow, max(bus.cell, wait))
-        self.near(bus, ahead, last)
+        self.halt_at(bus, ahead, last)
         if (hold := bus.rear - BEHIND - 1) > 0:
             self.closed.add((self.visit.lane, hold))
         if bus.speed == 0 and rear_of(ahead) > bus.cell + 1:

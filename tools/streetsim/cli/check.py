@@ -6,23 +6,23 @@ import os
 import re
 import shutil
 import tempfile
-from collections.abc import Sequence
+from collections.abc import Iterator, Sequence
 from pathlib import Path
 
 from streetsim.base import program
 from streetsim.base.files import Fault, open_text, reading
 from streetsim.base.progress import Slow
-from streetsim.base.words import Parser, add_jobs, within
-from streetsim.cli.checking import folder_again, seeds_words, study_again
+from streetsim.base.words import Parser, add_jobs
+from streetsim.cli.checking import folder_again, run_again, study_again, write_files
 from streetsim.cli.report import text_again
-from streetsim.cli.run import main as run
 from streetsim.cli.study import MADE
+from streetsim.cli.words import add_simulator
 from streetsim.model.folder import LIGHTS
-from streetsim.model.sources import digest_of
-from streetsim.reports.elements import Mismatch, differences, numbers_in
-from streetsim.reports.seal import Seal, files_of, seal_of
+from streetsim.model.sources import program_digest
+from streetsim.reports.elements import Mismatch, page_mismatches, numbers_in
+from streetsim.reports.seal import Seal, sealed_files, seal_of
 from streetsim.reports.sealing import COUNTS, NAMES, drawn_by, tools_sum
-from streetsim.results.tallying import Compared, compared
+from streetsim.results.tallying import Compared, folder_differences
 
 MOST = 3  # differences that the line names
 # Of a page's pictures of points: they depend on what drew them; the SHA-256 of what they were drawn from does not.
@@ -38,17 +38,15 @@ def parser() -> Parser:
         "numbers are the simulation's, not that the street will do so. Status 1 where one is not.",
     )
     made.add_argument("target", metavar="PAGE|DIR", help="the page (.html), or the folder")
-    made.add_argument("--program", help=program.HELP)
-    made.add_argument("--workers", type=within(1, 64), default=1, help="of the simulator (default %(default)s)")
+    add_simulator(made)
     add_jobs(made)
     made.add_argument("--study", metavar="FILE", help="of a study's folder: the study, where it lies elsewhere now")
     return made
 
 
 def main(arguments: list[str]) -> int:
-    """Runs streetsim-check: makes the runs again and prints one line; gives its status: 0 where each number is that of
-    a run, else 1. Fault for words that do not fit, and for a target that does not keep what made it, or by which it
-    cannot be made again."""
+    """Runs streetsim-check: makes the runs again and prints one line; gives 0 where each number is that of a run, else
+    1."""
     words = parser().parse_args(arguments)
     words.program = program.find_program(words.program)
     study = os.path.exists(f"{words.target}/{MADE}")
@@ -59,10 +57,16 @@ def main(arguments: list[str]) -> int:
     return check_page(words)
 
 
+@contextlib.contextmanager
+def silent() -> Iterator[None]:
+    """Drops, while the block runs, what commands print."""
+    with contextlib.redirect_stdout(io.StringIO()), contextlib.redirect_stderr(io.StringIO()):
+        yield
+
+
 def check_page(words: argparse.Namespace) -> int:
     """Checks a sealed page, and prints the result; gives the status as `main` does. Pictures of points that another
-    matplotlib drew are left out. Fault where it cannot be read, is not sealed, its seal was changed, or it cannot be
-    made again."""
+    matplotlib drew are left out. Fault where it is not sealed, its seal was changed, or it cannot be made again."""
     with reading(words.target), open_text(words.target) as file:
         text = file.read()
     seal = seal_of(words.target, text)
@@ -72,18 +76,18 @@ def check_page(words: argparse.Namespace) -> int:
     if seal.content["drawn_by"] != drawn_by():
         text, anew = PIXELS.sub("", text), PIXELS.sub("", anew)
         note = "; pictures of points by their data alone, as they were drawn by another matplotlib"
-    found = differences(text, anew)
+    found = page_mismatches(text, anew)
     if found and seal.content["tools"] != tools_sum():
         note += "; the page was made by other tools than these, so that words may differ, too"
     runs = sum(len(plan["seeds"]) for plan in seal.content["plans"])
-    same = all(plan["program"] == digest_of(words.program) for plan in seal.content["plans"])
+    same = all(plan["program"] == program_digest(words.program) for plan in seal.content["plans"])
     which = "the program that made it" if same else "another program than the one that made it"
     again = f"{runs} run{'s' * (runs != 1)} made again by {which}"
     good = f"each of the {numbers_in(text):,} numbers on the page is that of a run ({again})"
-    return tell(words.target, found, good, note)
+    return tell_result(words.target, found, good, note)
 
 
-def tell(target: str, found: Sequence[Mismatch], good: str, note: str = "") -> int:
+def tell_result(target: str, found: Sequence[Mismatch], good: str, note: str = "") -> int:
     """Prints the one line of the result; gives the status. good: what to say where nothing differs; note: what to add
     in any case."""
     if not found:
@@ -99,14 +103,11 @@ def tell(target: str, found: Sequence[Mismatch], good: str, note: str = "") -> i
 def page_again(words: argparse.Namespace, seal: Seal) -> str:
     """The page that the sealed files and words give now, with the same seal; Fault where they give none."""
     refuse_elsewhere(words.target, seal)
-    with tempfile.TemporaryDirectory() as place:
-        for name, content in files_of(seal, words.target):
-            path = Path(place) / name
-            path.parent.mkdir(parents=True, exist_ok=True)
-            path.write_bytes(content)
+    with tempfile.TemporaryDirectory() as temporary:
+        write_files(temporary, sealed_files(seal, words.target))
         try:
-            return made_again(words, seal, place)
-        except (Fault, KeyError, TypeError, AttributeError) as fault:
+            return made_again(words, seal, temporary)
+        except (Fault, LookupError, TypeError, ValueError, AttributeError) as fault:
             raise Fault(f"{words.target}: what is sealed in it gives no such page: {fault}") from None
 
 
@@ -121,22 +122,19 @@ def refuse_elsewhere(target: str, seal: Seal) -> None:
             raise Fault(f"{target}: {lost[0]!r} is not sealed in it: the page was changed")
 
 
-def made_again(words: argparse.Namespace, seal: Seal, place: str) -> str:
-    """The page, of sealed files that were unpacked into the folder `place`; runs are written there too. Fault where
-    they give none."""
+def made_again(words: argparse.Namespace, seal: Seal, temporary: str) -> str:
+    """The page, of sealed files that were unpacked into the folder `temporary`; runs are written there too. Where they
+    give none it raises one of the exceptions that page_again tells as a Fault."""
     plans = seal.content["plans"]
-    folders = [f"{place}/out-{at}" for at in range(len(plans))]
+    folders = [f"{temporary}/out-{at}" for at in range(len(plans))]
     for plan, folder in zip(plans, folders, strict=True):
-        seeds = seeds_words(plan["seeds"]) if plan["several"] else []
-        told = ["--program", words.program, "--workers", str(words.workers), "--jobs", str(words.jobs)]
-        own = [f"{place}/{plan['run']}", "--map", f"{place}/{plan['map']}", *plan["again"], *seeds]
-        with contextlib.redirect_stdout(io.StringIO()), contextlib.redirect_stderr(io.StringIO()):
-            run([*own, *told, "--out", folder])
-        if os.path.exists(lights := f"{place}/{os.path.dirname(plan['run'])}/{LIGHTS}"):
+        with silent():
+            run_again(words, plan, temporary, folder)
+        if os.path.exists(lights := f"{temporary}/{os.path.dirname(plan['run'])}/{LIGHTS}"):
             shutil.copy(lights, folder)
-    names = ["--names", f"{place}/{NAMES}"] if NAMES in seal.content["files"] else []
+    names = ["--names", f"{temporary}/{NAMES}"] if NAMES in seal.content["files"] else []
     counts = sorted((name for name in seal.content["files"] if name.startswith(COUNTS)), key=len)
-    names += ["--counts", *(f"{place}/{name}" for name in counts)] if counts else []
+    names += ["--counts", *(f"{temporary}/{name}" for name in counts)] if counts else []
     called = ["--plans", *(plan["name"] for plan in plans)]
     return text_again([*folders, *seal.content["words"], *names, *called, "-o", words.target], seal)
 
@@ -145,9 +143,9 @@ def check_folder(words: argparse.Namespace, study: bool) -> int:
     """Checks a folder of a run, or of a study, and prints the result; gives the status as `main` does. Fault where the
     folder does not keep what made it, or cannot be made again."""
     counts = Compared()
-    with tempfile.TemporaryDirectory() as place, Slow(f"running again what made {words.target}"):
-        with contextlib.redirect_stdout(io.StringIO()), contextlib.redirect_stderr(io.StringIO()):
-            anew = (study_again if study else folder_again)(words, f"{place}/out")
-        found = [Mismatch(*one) for one in compared(words.target, anew, counts)]
+    with tempfile.TemporaryDirectory() as temporary, Slow(f"running again what made {words.target}"):
+        with silent():
+            anew = (study_again if study else folder_again)(words, f"{temporary}/out")
+        found = [Mismatch(*one) for one in folder_differences(words.target, anew, counts)]
     good = f"each of the {counts.numbers:,} numbers in {counts.files} files is that of a run"
-    return tell(words.target, found, good)
+    return tell_result(words.target, found, good)

@@ -7,7 +7,7 @@ from importlib import import_module
 from typing import NoReturn
 
 
-def start(module: str) -> NoReturn:
+def run_command(module: str) -> NoReturn:
     """Imports a tool's module, by its name below cli, runs it, and ends the process with its status. A Ctrl-C before
     that ends the command in silence, with status 130: nothing is begun."""
     # A command that a script has put into the background does not hear interrupts.
@@ -27,17 +27,17 @@ def start(module: str) -> NoReturn:
     run_tool(begun)
 
 
-import_ = partial(start, "import_")
-run = partial(start, "run")
-plot = partial(start, "plot")
-play = partial(start, "play")
-compare = partial(start, "compare")
-signals = partial(start, "signals")
-study = partial(start, "study")
-live = partial(start, "live")
-route = partial(start, "route")
-report = partial(start, "report")
-export = partial(start, "export")
-demand = partial(start, "demand")
-example = partial(start, "example")
-check = partial(start, "check")
+import_ = partial(run_command, "import_")
+run = partial(run_command, "run")
+plot = partial(run_command, "plot")
+play = partial(run_command, "play")
+compare = partial(run_command, "compare")
+signals = partial(run_command, "signals")
+study = partial(run_command, "study")
+live = partial(run_command, "live")
+route = partial(run_command, "route")
+report = partial(run_command, "report")
+export = partial(run_command, "export")
+demand = partial(run_command, "demand")
+example = partial(run_command, "example")
+check = partial(run_command, "check")

@@ -2,13 +2,15 @@
 import argparse
 from collections.abc import Sequence
 from dataclasses import replace
+from itertools import chain
 
 from streetsim.base import program
-from streetsim.base.files import Fault, refuse_places
+from streetsim.base.files import Fault, refuse_unwritable
 from streetsim.base.progress import Slow, Stopping
 from streetsim.base.report import Report
-from streetsim.base.words import Parser, add_rounds, files_of, share_of, within
+from streetsim.base.words import Parser, add_rounds, integer_within, paths_in, share_of
 from streetsim.cli.import_ import add_options, options_of
+from streetsim.cli.words import add_attribute, add_files, add_made_run, add_network, refuse_half_run
 from streetsim.counts import demanding, making
 from streetsim.counts.demanding import Asked
 from streetsim.counts.fitting import ERROR
@@ -23,16 +25,12 @@ def parser() -> argparse.ArgumentParser:
         description="Makes vehicles with routes of counts of edges and turns, of matrices between zones, or of flows "
         "and turn ratios, and says how well they fit.",
     )
-    made.add_argument("net", help="the network (.net.xml, .net.xml.gz)")
-    made.add_argument(
-        "additional", nargs="*", default=[], help="additional files with signal programs and vehicle types"
-    )
+    add_network(made)
     add_inputs(made)
     add_fit(made)
     made.add_argument("-o", "--output", required=True, help="the vehicles (.rou.xml)")
     made.add_argument("--out", required=True, metavar="DIR", help="the folder for tables and pictures")
-    made.add_argument("--run", help="the run of these vehicles, as streetsim-import makes it (.jsonl); with --map")
-    made.add_argument("--map", help="the map of that run (.json)")
+    add_made_run(made, "vehicles")
     made.add_argument("--program", help=program.HELP)
     add_options(made)
     return made
@@ -48,14 +46,10 @@ def add_inputs(made: argparse.ArgumentParser) -> None:
         ("ratios", "turn ratios, as SUMO's jtrrouter takes them"),
         ("candidates", "files of routes that vehicles may take"),
     ):
-        made.add_argument(f"--{name}", nargs="+", default=[], metavar="FILE", help=words)
+        add_files(made, f"--{name}", words)
+    add_attribute(made)
     made.add_argument(
-        "--attribute", metavar="NAME", help="of SUMO's files, that is the count (default: left, entered or count)"
-    )
-    made.add_argument(
-        "--ends",
-        choices=["fringe", "all"],
-        default="fringe",
+        "--ends", choices=["fringe", "all"], default="fringe",
         help="without zones: fringe: trips begin and end where the network does, if it does; all: on any edge "
         "(default %(default)s)",
     )
@@ -64,23 +58,17 @@ def add_inputs(made: argparse.ArgumentParser) -> None:
 def add_fit(made: argparse.ArgumentParser) -> None:
     """Adds the words that say how the fit is done: ways, error, runs, rounds."""
     made.add_argument(
-        "--ways", type=within(0, 20), metavar="N", help="at most, of each pair (default 3; with --candidates 0)"
+        "--ways", type=integer_within(0, 20), metavar="N", help="at most, of each pair (default 3; with --candidates 0)"
     )
     made.add_argument(
-        "--most",
-        type=within(1, 1_000_000),
-        default=60_000,
-        metavar="N",
+        "--most", type=integer_within(1, 1_000_000), default=60_000, metavar="N",
         help="ways at most, about; of more pairs some are drawn (default %(default)s)",
     )
     made.add_argument(
         "--error", type=share_of, default=ERROR, metavar="SHARE", help="by which counts are wrong (default %(default)s)"
     )
     made.add_argument(
-        "--runs",
-        type=within(0, 100),
-        default=0,
-        metavar="N",
+        "--runs", type=integer_within(0, 100), default=0, metavar="N",
         help="at most so many runs, after each of which the fit is corrected by what passed (default %(default)s)",
     )
     add_rounds(made)
@@ -88,12 +76,13 @@ def add_fit(made: argparse.ArgumentParser) -> None:
 
 def main(arguments: Sequence[str]) -> int:
     """Runs streetsim-demand: makes the demand, writes its files and prints how well it fits; gives its status, as
-    `making.tell` says. Without --begin, or with 0, the demand begins with the first slice, which may lead in to the
-    counts. Fault for words that do not fit, files that cannot be read or written, and inputs from which no demand can
-    be made."""
+    `making.tell_result` says. Without --begin, or with 0, the demand begins with the first slice, which may lead in to
+    counts."""
     words = parser().parse_args(arguments)
     asked, outputs = asked_of(words), Outputs(words.output, words.out, words.run, words.map)
-    check_words(words)
+    additional = paths_in(words.additional)
+    inputs = (asked.counts, asked.zones, asked.matrices, asked.flows, asked.ratios, asked.candidates)
+    check_words(words, [words.net, *additional, *chain(*inputs)])
     running = Running(program.find_program(words.program), words.runs, words.rounds) if words.runs else None
     with Slow(f"reading {words.net}") as shown:
 
@@ -101,40 +90,37 @@ def main(arguments: Sequence[str]) -> int:
             """Shows on the terminal what is done just now."""
             shown.text = text
 
-        town = read_town(words.net, words.additional, options_of(words), Report())
+        town = read_town(words.net, additional, options_of(words), Report())
         basis = demanding.basis_of(town, asked, told)
         if not words.begin:
             town.options = replace(town.options, begin=basis.slices.bounds[0])
         told("fitting")
-        fitted = demanding.fit(basis, asked, basis.free_costs())
+        fitted = demanding.fit_to_counts(basis, asked, basis.free_costs())
         making.tell_inputs(basis, fitted)
         with Stopping() as stopping:
-            tried = making.tried(basis, asked, running, fitted, lambda: stopping.asked, told) if running else []
-        made = making.made_of(basis, asked, fitted, tried)
+            tried = making.run_and_tell(basis, asked, running, fitted, lambda: stopping.asked, told) if running else []
+        made = making.best_demand(basis, asked, fitted, tried)
         told("writing")
-        making.write(outputs, made, making.setting_of(asked, made, words.runs))
-    return making.tell(made)
+        making.write_made(outputs, made, making.setting_of(asked, made, words.runs))
+    return making.tell_result(made)
 
 
 def asked_of(words: argparse.Namespace) -> Asked:
-    """What the words ask for. Changes `words.additional` to the list of the files that it names."""
+    """What the words ask for."""
     names = ("counts", "zones", "flows", "ratios", "candidates")
-    files = {name: tuple(files_of(getattr(words, name))) for name in names}
-    words.additional = files_of(words.additional)
+    files = {name: tuple(paths_in(getattr(words, name))) for name in names}
     return Asked(
-        matrices=tuple(files_of(words.matrix)), attribute=words.attribute, ways=words.ways, most=words.most,
+        matrices=tuple(paths_in(words.matrix)), attribute=words.attribute, ways=words.ways, most=words.most,
         everywhere=words.ends == "all", error=words.error, seed=words.seed, **files,
     )  # fmt: skip
 
 
-def check_words(words: argparse.Namespace) -> None:
-    """Fault for words that do not fit to each other, or outputs that cannot be written, before anything is read."""
-    if (words.run is None) != (words.map is None):
-        raise Fault("--run and --map are given together or not at all")
+def check_words(words: argparse.Namespace, inputs: Sequence[str]) -> None:
+    """Fault for words that do not fit to each other, or outputs that cannot be written, before anything is read;
+    inputs: the files that will be."""
+    refuse_half_run(words)
     if words.runs and not words.counts:
         raise Fault("--runs compares with counts: give --counts")
     if words.ends == "all" and (words.zones or words.matrix or words.flows):
         raise Fault("--ends says where trips begin without zones: give no --zones, --matrix or --flows beside")
-    inputs = [words.net, *words.additional, *words.counts, *words.zones, *words.matrix, *words.flows, *words.ratios]
-    outputs = {"-o": words.output, "--run": words.run, "--map": words.map}
-    refuse_places(words.out, outputs, [*inputs, *words.candidates])
+    refuse_unwritable(words.out, {"-o": words.output, "--run": words.run, "--map": words.map}, inputs)

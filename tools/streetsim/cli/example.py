@@ -19,44 +19,44 @@ def parser() -> Parser:
     return made
 
 
-def goals(example: Path, folder: Path) -> dict[Path, Path]:
+def target_paths(example: Path, folder: Path) -> dict[Path, Path]:
     """{file of an example: where it goes in a folder}; Fault where a file of that name is there already."""
     begin = example if example.is_dir() else example.parent
     found = {path: folder / path.relative_to(begin) for path in example_files(example)}
-    for goal in found.values():
-        if os.path.lexists(goal):
-            raise Fault(f"{goal} is there; give another folder by --out")
+    for target in found.values():
+        if os.path.lexists(target):
+            raise Fault(f"{target} is there; give another folder by --out")
     return found
 
 
-def put(example: Path, folder: Path) -> int:
+def copy_example(example: Path, folder: Path) -> int:
     """Copies an example into a folder, which is made, and gives how many files it has; Fault where that fails, before
     any is copied where one is there already, else with those left that were copied."""
-    found = goals(example, folder)
+    found = target_paths(example, folder)
     try:
-        for path, goal in found.items():
-            goal.parent.mkdir(parents=True, exist_ok=True)
-            shutil.copy(path, goal)
+        for path, target in found.items():
+            target.parent.mkdir(parents=True, exist_ok=True)
+            shutil.copy(path, target)
     except OSError as fault:
         raise Fault(f"{fault.filename}: {fault.strerror}") from None
     return len(found)
 
 
-def counted(files: int) -> str:
+def files_told(files: int) -> str:
     """A number of files in words, such as '3 files'."""
     return f"{files} file{'' if files == 1 else 's'}"
 
 
 def main(arguments: list[str]) -> int:
     """Runs streetsim-example: copies the files of the example and prints how many, or prints which examples there are;
-    gives status 0. Fault for an unknown one, and where a file would be written over."""
+    gives status 0."""
     words = parser().parse_args(arguments)
     known = examples()
     if words.name is None:
-        print(*(f"{name}: {counted(len(example_files(path)))}" for name, path in known.items()), sep="\n")
+        print(*(f"{name}: {files_told(len(example_files(path)))}" for name, path in known.items()), sep="\n")
         return 0
     if words.name not in known:
         raise Fault(f"there is no example {words.name!r}, but {', '.join(known) or 'none'}")
     folder = Path(words.out or words.name)
-    print(f"{counted(put(known[words.name], folder))} in {folder}")
+    print(f"{files_told(copy_example(known[words.name], folder))} in {folder}")
     return 0

@@ -1,14 +1,12 @@
 """streetsim-export: edges and junctions with what is known of them, for geographic information systems."""
-import json
 import os
-import shutil
 
-from streetsim.base.files import Fault, place_of
+from streetsim.base.files import Fault, checked_output_path
 from streetsim.base.words import Parser, add_names
-from streetsim.gis.exporting import features, told, write_package, write_text
-from streetsim.gis.places import places_of
+from streetsim.gis.exporting import features, find_ogr2ogr, export_told, write_geojson, write_package
+from streetsim.gis.projecting import converter_of
 from streetsim.model.names import read_own
-from streetsim.results.reading import read_any
+from streetsim.results.reading import read_with_any_tables
 
 
 def parser() -> Parser:
@@ -27,21 +25,19 @@ def parser() -> Parser:
 
 
 def main(arguments: list[str]) -> int:
-    """Runs streetsim-export: writes the file, and prints what is in it; gives status 0. Fault for a folder of no run,
-    for a name with another ending, where ogr2ogr or a projection is lacking, and where the file cannot be written."""
+    """Runs streetsim-export: writes the file, and prints what is in it; gives status 0."""
     words = parser().parse_args(arguments)
     ending = os.path.splitext(words.output)[1].lower()
     if ending not in (".geojson", ".gpkg"):
         raise Fault(f"{words.output}: an export's name ends with .geojson or .gpkg")
-    if ending == ".gpkg" and not shutil.which("ogr2ogr"):
-        raise Fault("a GeoPackage needs ogr2ogr (Debian: apt install gdal-bin); a .geojson needs none")
-    place_of(words.output)
-    runs = read_any(words.run)
+    if ending == ".gpkg":
+        find_ogr2ogr()
+    checked_output_path(words.output)
+    runs = read_with_any_tables(words.run)
     mapping = runs.first.mapping
     if words.names:
         read_own(words.names, mapping)
-    found = list(features(runs, places_of(mapping.location, words.projection, runs.first.path)))
-    text = json.dumps({"type": "FeatureCollection", "features": found}, separators=(",", ":"))
-    (write_package if ending == ".gpkg" else write_text)(words.output, text)
-    print(told(words.output, runs, found))
+    found = list(features(runs, converter_of(mapping.location, words.projection, runs.first.path)))
+    (write_package if ending == ".gpkg" else write_geojson)(words.output, found)
+    print(export_told(words.output, runs, found))
     return 0

@@ -5,16 +5,27 @@ from dataclasses import replace
 from typing import Any
 
 from streetsim.base import limits
-from streetsim.base.files import Fault, place_of, refuse_equal
+from streetsim.base.files import Fault, checked_output_path, refuse_equal
 from streetsim.base.progress import Slow
 from streetsim.base.report import COLUMNS, Report
-from streetsim.base.words import FALSE, Parser, add_names, files_of, listed, time_within, within
+from streetsim.base.words import FALSE, Parser, add_names, integer_within, names_in, paths_in, share_of
+from streetsim.cli.words import add_clock, add_files
 from streetsim.importing.convert import read_and_converted, write_run
 from streetsim.model.sources import Sources
 from streetsim.model.tables import write_table
 from streetsim.sumo.configuration import DEFAULTS, files_named, read_configuration
 from streetsim.sumo.network import Options
 from streetsim.sumo.types import CLASSES
+
+# Numbers of the model: least, most, what each is.
+NUMBERS = {
+    "dawdle": (0, 1000, "chance of slowing down, of 1,000"),
+    "change": (0, 1000, "chance of changing lane, of 1,000"),
+    "zone": (0, 1000, "turn zone in cells"),
+    "seed": (0, 2**64 - 1, "of all draws"),
+    "residence": (1, limits.RESIDENCE, "steps in a buffer at signals and real junctions"),
+    "buffer": (1, limits.BUFFER, "vehicles in a buffer"),
+}
 
 
 def parser() -> argparse.ArgumentParser:
@@ -25,24 +36,18 @@ def parser() -> argparse.ArgumentParser:
     )
     made.add_argument("net", nargs="?", help="the network (.net.xml, .net.xml.gz)")
     made.add_argument(
-        "-c",
-        "--configuration",
-        metavar="FILE",
+        "-c", "--configuration", metavar="FILE",
         help="SUMO's configuration (.sumocfg): its network, files, begin, end and seed, where no words give others",
     )
     made.add_argument(
-        "additional",
-        nargs="*",
+        "additional", nargs="*",
         help="additional files with signal programs, of which the last of a light counts, vehicle types, "
         "detectors, and demand",
     )
-    made.add_argument("--routes", nargs="+", default=[], metavar="FILE", help="vehicles, flows and routes (.rou.xml)")
-    made.add_argument(
-        "--trips",
-        nargs="+",
-        default=[],
-        metavar="FILE",
-        help="trips, and flows with from and to: each gets the way that is shortest with the waits at signals and the "
+    add_files(made, "--routes", "vehicles, flows and routes (.rou.xml)")
+    add_files(
+        made, "--trips",
+        "trips, and flows with from and to: each gets the way that is shortest with the waits at signals and the "
         "volumes so far (better ways: streetsim-route)",
     )
     made.add_argument("-o", "--output", required=True, help="the run: lines of JSON (.jsonl, .jsonl.gz)")
@@ -51,9 +56,7 @@ def parser() -> argparse.ArgumentParser:
     made.add_argument("--warnings", metavar="FILE", help="a table of all that is said, with all names (.csv)")
     made.add_argument("--strict", action="store_true", help="end with status 1 where vehicles were skipped")
     made.add_argument(
-        "--slow",
-        default="",
-        metavar="EDGE:METRES-METRES:KMH",
+        "--slow", default="", metavar="EDGE:METRES-METRES:KMH",
         help="a lower limit on a stretch of an edge, which becomes up to three that follow each other; several with "
         "commas between",
     )
@@ -67,34 +70,26 @@ def add_options(made: argparse.ArgumentParser) -> None:
     add_vehicles(made)
     add_numbers(made)
     made.add_argument(
-        "--permissive",
-        type=float,
-        metavar="SHARE",
+        "--permissive", type=share_of, metavar="SHARE",
         help="the last share of each permissive green that is shown (default: by the flows that it gives way to)",
     )
 
 
 def add_lanes(made: argparse.ArgumentParser) -> None:
-    """Adds the words that say which lanes there are, and how vehicles go from one to the next."""
+    """Adds the words that say which lanes there are, how vehicles go from one to the next, and their sizes."""
     made.add_argument(
         "--classes", default="passenger", help="keep lanes that allow one of these vehicle classes, with commas between"
     )
     made.add_argument(
-        "--turns",
-        choices=["both", "strict"],
-        default="both",
+        "--turns", choices=["both", "strict"], default="both",
         help="both: each lane of two leads to each next link; strict: SUMO's connections alone",
     )
     made.add_argument(
-        "--sizes",
-        choices=["on", "off"],
-        default="on",
+        "--sizes", choices=["on", "off"], default="on",
         help="on: vehicles take as many cells, 1 to 4, as their type is long with its gap; off: one cell each",
     )
     made.add_argument(
-        "--joint",
-        default="",
-        metavar="NAMES",
+        "--joint", default="", metavar="NAMES",
         help="edges, or lanes (edge_index), with commas between: links of two lanes also where lanes lead to different "
         "edges, so that vehicles change between them; for lanes that a program closes later",
     )
@@ -102,68 +97,39 @@ def add_lanes(made: argparse.ArgumentParser) -> None:
 
 def add_vehicles(made: argparse.ArgumentParser) -> None:
     """Adds the words that say which vehicles there are."""
+    add_clock(made, "--begin", "the clock at the start; vehicles before it are skipped", default=0)
+    add_clock(made, "--end", "leave out vehicles that depart at this time or later")
     made.add_argument(
-        "--begin",
-        type=time_within(0, limits.CLOCK),
-        default=0,
-        metavar="S",
-        help="the clock at the start; vehicles before it are skipped",
-    )
-    made.add_argument(
-        "--end",
-        type=time_within(0, limits.CLOCK),
-        metavar="S",
-        help="leave out vehicles that depart at this time or later",
-    )
-    made.add_argument(
-        "--ignore-route-errors",
-        action="store_true",
+        "--ignore-route-errors", action="store_true",
         help="leave out vehicles whose route has edges without a connection, and count them",
     )
 
 
 def add_numbers(made: argparse.ArgumentParser) -> None:
     """Adds the words that set numbers of the model, each within what the program takes."""
-    for name, most, words in (
-        ("dawdle", 1000, "chance of slowing down, of 1,000"),
-        ("change", 1000, "chance of changing lane, of 1,000"),
-        ("zone", 1000, "turn zone in cells"),
-        ("seed", 2**64 - 1, "of all draws"),
-        ("residence", limits.RESIDENCE, "steps in a buffer at signals and real junctions"),
-        ("buffer", limits.BUFFER, "vehicles in a buffer"),
-    ):
+    for name, (least, most, told) in NUMBERS.items():
+        usual = getattr(Options(), name)
         made.add_argument(
-            f"--{name}",
-            type=within(1 if name in ("residence", "buffer") else 0, most),
-            default=getattr(Options(), name),
-            help=f"{words} (default %(default)s)",
+            f"--{name}", type=integer_within(least, most), default=usual, help=f"{told} (default %(default)s)"
         )
 
 
 def options_of(words: argparse.Namespace) -> Options:
-    """The options that the words of `add_options` name; Fault where they do not fit to each other, --permissive is no
-    share, or SUMO does not have a class of --classes."""
-    if words.permissive is not None and not 0 <= words.permissive <= 1:
-        raise Fault("--permissive is a share from 0 to 1")
+    """The options that the words of `add_options` name; Fault where they do not fit to each other, or SUMO has no class
+    of --classes."""
     if words.end is not None and words.end <= words.begin:
         raise Fault(f"the end, {words.end} s, is not after the begin, {words.begin} s: nobody would depart")
-    classes = tuple(listed(words.classes))
-    unknown = [name for name in classes if name not in CLASSES]
-    if unknown:
+    classes = tuple(names_in(words.classes))
+    if unknown := [name for name in classes if name not in CLASSES]:
         raise Fault(f"--classes: SUMO has no vehicle class {unknown[0]!r}; it has {', '.join(CLASSES)}")
-    names = (
-        "dawdle", "change", "zone", "seed", "residence", "buffer", "permissive", "begin", "end", "ignore_route_errors",
-    )
-    given = {name: getattr(words, name) for name in names}
-    given.update(strict_turns=words.turns == "strict", sizes=words.sizes == "on")
-    given["joint"] = tuple(listed(words.joint))
+    given = {name: getattr(words, name) for name in (*NUMBERS, "permissive", "begin", "end", "ignore_route_errors")}
+    given.update(strict_turns=words.turns == "strict", sizes=words.sizes == "on", joint=tuple(names_in(words.joint)))
     return Options(classes=classes, **given)
 
 
 def words_of(arguments: list[str]) -> tuple[argparse.Namespace, dict[str, str]]:
     """The words of a command, where no word is given completed by the configuration (-c) that they name (its routes
-    only without --trips); and the options of that configuration, empty where they name none. Fault where no network is
-    named, or the configuration cannot be read."""
+    only without --trips); and the options of that configuration, empty where they name none."""
     made = parser()
     words = made.parse_args(arguments)
     if not words.configuration:
@@ -186,15 +152,16 @@ def words_of(arguments: list[str]) -> tuple[argparse.Namespace, dict[str, str]]:
 
 def main(arguments: list[str]) -> int:
     """Runs streetsim-import: writes the run, its map and the table of --warnings, and tells on standard error what is
-    other than in SUMO; gives its status: 1 where --strict is given and vehicles were skipped, else 0. Fault where a
-    file cannot be read or written, or has what cannot be imported."""
+    other than in SUMO; gives 1 where --strict is given and vehicles were skipped, else 0."""
     words, told = words_of(arguments)
-    words.additional, words.routes, words.trips = map(files_of, (words.additional, words.routes, words.trips))
+    words.additional, words.routes, words.trips = map(paths_in, (words.additional, words.routes, words.trips))
     sources = Sources(words.net, words.additional, words.routes, words.trips)
-    outputs = {"-o": words.output, "--map": words.map, **({"--warnings": words.warnings} if words.warnings else {})}
-    refuse_equal(outputs, [*sources.paths(), *([words.names] if words.names else [])])
-    place_of(words.output), place_of(words.map)
-    report, options = Report(), replace(options_of(words), slow=tuple(listed(words.slow)))
+    outputs = {"-o": words.output, "--map": words.map, "--warnings": words.warnings}
+    refuse_equal(
+        {name: path for name, path in outputs.items() if path}, [*sources.paths(), *filter(None, [words.names])]
+    )
+    checked_output_path(words.output), checked_output_path(words.map)
+    report, options = Report(), replace(options_of(words), slow=tuple(names_in(words.slow)))
     with Slow(f"importing {words.net}"):
         made = read_and_converted(sources, options, report, told)
     mapping = write_run(words.output, words.map, made, report, sources, words.names)

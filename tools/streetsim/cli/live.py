@@ -8,17 +8,17 @@ from pathlib import Path
 from streetsim.actuated.lights import driven_lights
 from streetsim.base.files import Fault, refuse_equal, whole_file
 from streetsim.base.program import find_program
-from streetsim.base.report import some
-from streetsim.base.words import Parser, add_rounds, listed, within
+from streetsim.base.report import first_few
+from streetsim.base.words import Parser, add_rounds, integer_within, names_in
 from streetsim.live.bridge import HOST, Bridge
 from streetsim.live.driven import DrivenEngine
 from streetsim.live.engine import Engine
 from streetsim.live.joining import Joining
 from streetsim.live.kept import KeptEngine
-from streetsim.live.programs import NATIVE, VARIABLE, is_built, is_whole_built, module_of, program_of
+from streetsim.live.programs import NATIVE, VARIABLE, is_built, is_whole_built, page_module, page_program
 from streetsim.model.mapping import Map
 from streetsim.model.runs import Run, read_with_map
-from streetsim.model.stops import why_unmade
+from streetsim.model.stops import unmade_stops_told
 
 PROVED = "The program is proved"
 GIVEN = "Nothing is known of a proof of the program that was given"
@@ -41,16 +41,15 @@ def parser() -> Parser:
         "or that ./build --page made)",
     )
     made.add_argument(
-        "--joint",
-        default="",
-        metavar="NAMES",
+        "--joint", default="", metavar="NAMES",
         help="edges or lanes, with commas between, that are imported anew as joint links, so that they can be closed",
     )
-    made.add_argument("--port", type=within(0, 65_535), default=0, help="of the address (default: one that is free)")
+    made.add_argument(
+        "--port", type=integer_within(0, 65_535), default=0, help="of the address (default: one that is free)"
+    )
     made.add_argument("--no-open", action="store_true", help="print the address and open no browser")
     made.add_argument(
-        "--keep",
-        metavar="FILE",
+        "--keep", metavar="FILE",
         help="keep the session in FILE and FILE.page, and go on where it was left, whatever ended; the program is then "
         "streetsim itself (--program, else $STREETSIM_PROGRAM)",
     )
@@ -64,9 +63,9 @@ def engines_of(words: argparse.Namespace, lines: list[bytes], joining: Joining) 
     user's changes. lines: of the run; joining: the page's run, which may be imported anew. Fault where there is no
     program, or the kept session cannot go on."""
     if not words.keep:
-        program = program_of(words.program)
+        program = page_program(words.program)
         if joining.driven:
-            return [DrivenEngine(program, lines, joining.made) for _ in ("as it is", "as it was")]
+            return [DrivenEngine(program, lines, joining.joint_run) for _ in ("as it is", "as it was")]
         return [Engine(program, lines), Engine(program, lines)]
     program = find_program(words.program)
     return [KeptEngine(program, lines, Path(words.keep), joining.run.start()), Engine(program, lines)]
@@ -76,9 +75,9 @@ def program_for_rounds(words: argparse.Namespace) -> str:
     """The path of a program of this machine that can run rounds of giving way; Fault where there is none, as where only
     the module of a page is there."""
     if words.keep or not words.output:
-        return find_program(words.program) if words.keep else program_of(words.program)
+        return find_program(words.program) if words.keep else page_program(words.program)
     with contextlib.suppress(Fault):
-        return program_of(None)
+        return page_program(None)
     with contextlib.suppress(Fault):
         return find_program(None)
     raise Fault("no program finds how vehicles give way without a light: set STREETSIM_PROGRAM, or give --rounds 0")
@@ -90,7 +89,7 @@ def lights_told(run: Run, mapping: Map, driven: bool) -> list[str]:
     if driven or not mapping.actuated:
         return list(driven_lights(run, mapping).notes()) if driven else []
     why = "nobody looks at detectors where a session is kept, or in a page of one file"
-    return [f"lights show their listed seconds, as {why}: {some(mapping.actuated)}"]
+    return [f"lights show their listed seconds, as {why}: {first_few(mapping.actuated)}"]
 
 
 def serve(bridge: Bridge, opens: bool) -> None:
@@ -103,25 +102,23 @@ def serve(bridge: Bridge, opens: bool) -> None:
 
 
 def main(arguments: list[str]) -> int:
-    """Runs streetsim-live: serves the page until Ctrl-C, or writes it to the file of -o; gives status 0. Fault for
-    words that do not fit to each other, where a file cannot be read or written or there is no program, and where the
-    port cannot be had."""
+    """Runs streetsim-live: serves the page until Ctrl-C, or writes it to the file of -o; gives status 0."""
     words = parser().parse_args(arguments)
     if words.keep and words.output:
         raise Fault("--keep is of a page that is served, and -o writes one file")
-    if words.keep:
-        refuse_equal({"--keep": words.keep, "its page": f"{words.keep}.page"}, (words.run, words.map))
+    outputs = {"--keep": words.keep, "its page": f"{words.keep}.page"} if words.keep else {"-o": words.output}
+    refuse_equal({name: path for name, path in outputs.items() if path}, (words.run, words.map))
     kept = find_program(words.program) if words.keep else ""
     proved = is_whole_built(kept) if kept else is_built(words.program, bool(words.output))
     run, mapping = read_with_map(words.run, words.map)
     driven = bool(mapping.programs) and not words.keep and not words.output
     rounds = words.rounds if mapping.yields else 0
-    joining = Joining(run, mapping, words.map, proved, bool(kept), driven, tuple(listed(words.joint)), rounds)
+    joining = Joining(run, mapping, words.map, proved, bool(kept), driven, tuple(names_in(words.joint)), rounds)
     if rounds:
         joining.program = program_for_rounds(words)
-    page, lines, told = joining.page(module_of(words.program) if words.output else None)
-    told += lights_told(*joining.made()[:2], driven)
-    told = [*told, *filter(None, [why_unmade(len(mapping.visits))])]
+    page, lines, told = joining.page(page_module(words.program) if words.output else None)
+    told += lights_told(*joining.joint_run()[:2], driven)
+    told = [*told, *filter(None, [unmade_stops_told(len(mapping.visits))])]
     print(*told, sep="\n", end="\n" if told else "", file=sys.stderr)
     if words.output:
         with whole_file(words.output) as file:

@@ -5,12 +5,10 @@ import json
 
 from streetsim.base import limits
 from streetsim.base.files import Fault, whole_file
-from streetsim.base.words import Parser, time_within
+from streetsim.base.words import Parser
+from streetsim.cli.words import add_clock
 from streetsim.model.folder import read_folder
-from streetsim.pictures.playing import MOST_BYTES, PLACE, data_of
-
-second = time_within(0, limits.CLOCK)
-
+from streetsim.pictures.playing import MOST_BYTES, FOLDER, player_data
 
 def parser() -> Parser:
     """The parser of the words that streetsim-play takes."""
@@ -24,18 +22,17 @@ def parser() -> Parser:
         "folders", nargs="+", metavar="RUN", help="what streetsim-run wrote; with --every 1 vehicles move smoothly"
     )
     made.add_argument("-o", "--output", required=True, help="the page (.html)")
-    made.add_argument("--first", type=second, default=0, metavar="S", help="the first second")
-    made.add_argument("--last", type=second, default=limits.CLOCK, metavar="S", help="the last second")
+    add_clock(made, "--first", "the first second", default=0)
+    add_clock(made, "--last", "the last second", default=limits.CLOCK)
     return made
 
 
 def main(arguments: list[str]) -> int:
-    """Runs streetsim-play: writes the page, and prints how large it is; gives status 0. Fault for more than two runs,
-    where a file cannot be read or written, where nothing was polled, or where the page would be too large."""
+    """Runs streetsim-play: writes the page, and prints how many steps it has and how large it is; gives status 0."""
     words = parser().parse_args(arguments)
     if len(words.folders) > 2:
         raise Fault("a page plays one run, or two side by side")
-    data = [data_of(read_folder(path), words.first, words.last) for path in words.folders]
+    data = [player_data(read_folder(path), words.first, words.last) for path in words.folders]
     for path, run in zip(words.folders, data, strict=True):
         if not run["frames"]:
             raise Fault(f"{path}: nothing was polled from {words.first} to {words.last} s")
@@ -45,7 +42,7 @@ def main(arguments: list[str]) -> int:
     if len(packed) > MOST_BYTES:
         raise Fault(f"{words.folders[0]}: {len(packed):,} bytes are too much for a page: choose --first and --last")
     page, drawing, player = (
-        (PLACE / name).read_text(encoding="utf-8") for name in ("player.html", "drawing.js", "player.js")
+        (FOLDER / name).read_text(encoding="utf-8") for name in ("player.html", "drawing.js", "player.js")
     )
     page = page.replace("/*DRAWING*/", drawing).replace("/*PLAYER*/", player).replace("@DATA@", packed)
     with whole_file(words.output) as file:

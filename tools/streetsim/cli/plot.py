@@ -2,19 +2,17 @@
 import argparse
 
 from streetsim.base import limits, program
-from streetsim.base.files import Fault, place_of
-from streetsim.base.words import Parser, listed, time_within, within
+from streetsim.base.files import Fault, checked_output_path
+from streetsim.base.words import Parser, integer_within, names_in
+from streetsim.cli.words import add_clock
 from streetsim.model.folder import read_folder
 from streetsim.pictures import maps
-from streetsim.pictures.drawing import Figure, Pyplot, drawing, ending_of, save
+from streetsim.pictures.drawing import Figure, Pyplot, load_pyplot, picture_format, save_picture
 from streetsim.pictures.greens import draw_greens
 from streetsim.pictures.plots import (
     MARKERS, Corridor, draw_arrivals, draw_corridor, draw_fundamental, draw_queues, draw_ring,
 )
 from streetsim.pictures.works import draw_works
-
-second = time_within(0, limits.CLOCK)
-
 
 def parser() -> Parser:
     """The parser of the words that streetsim-plot takes: the kind of picture first, and those of the kind."""
@@ -31,7 +29,7 @@ def parser() -> Parser:
     ):
         one = kinds.add_parser(kind, help=words, description=words)
         often = "?" if kind == "fundamental" else None
-        # None is usual.
+        # argparse takes None too, which is its default.
         one.add_argument("folder", nargs=often, help="what streetsim-run wrote")  # type: ignore[arg-type]
         one.add_argument("-o", "--output", required=True, help="the picture (.png, .svg, .pdf)")
         if kind in ("corridor", "fundamental"):
@@ -40,28 +38,13 @@ def parser() -> Parser:
             )
         if kind == "corridor":
             one.add_argument("--both", action="store_true", help="the other direction too, below")
-            one.add_argument("--first", type=second, default=0, metavar="S", help="the first second shown")
-            one.add_argument("--last", type=second, default=600, metavar="S", help="the last second shown")
+            add_clock(one, "--first", "the first second shown", default=0)
+            add_clock(one, "--last", "the last second shown", default=600)
         if kind == "fundamental":
-            one.add_argument("--counts", action="store_true", help="at the stop lines, by counts.csv")
-            one.add_argument(
-                "--ring",
-                type=dawdles,
-                metavar="DAWDLES",
-                help="measure a ring for these chances of dawdling, of 1,000, with commas between",
-            )
-            one.add_argument(
-                "--limit",
-                type=within(1, limits.LIMIT),
-                default=limits.LIMIT,
-                help="of the ring, cells a step (default %(default)s)",
-            )
-            one.add_argument("--program", help=f"for the ring: {program.HELP}")
+            add_diagram(one)
         if kind == "map":
             one.add_argument("--what", choices=maps.WHAT, default="density", help="(default: %(default)s)")
-            one.add_argument(
-                "--begin", type=second, metavar="S", help="the interval shown (default: the busiest; of density all)"
-            )
+            add_clock(one, "--begin", "the interval shown (default: the busiest; of density all)")
         if kind == "greens":
             one.add_argument(
                 "--lights", default="", help="those shown, with spaces or commas between (default: the first six)"
@@ -71,17 +54,30 @@ def parser() -> Parser:
     return made
 
 
+def add_diagram(made: argparse.ArgumentParser) -> None:
+    """Adds the words that say of what flow is drawn over density."""
+    made.add_argument("--counts", action="store_true", help="at the stop lines, by counts.csv")
+    made.add_argument(
+        "--ring", type=dawdles, metavar="DAWDLES",
+        help="measure a ring for these chances of dawdling, of 1,000, with commas between",
+    )
+    made.add_argument(
+        "--limit", type=integer_within(1, limits.LIMIT), default=limits.LIMIT,
+        help="of the ring, cells a step (default %(default)s)",
+    )
+    made.add_argument("--program", help=f"for the ring: {program.HELP}")
+
+
 def dawdles(text: str) -> list[int]:
     """One to six chances of dawdling, 0 to 1,000 of 1,000, with commas between; ArgumentTypeError otherwise."""
-    values = [within(0, 1000)(part) for part in text.split(",")]
+    values = [integer_within(0, 1000)(part) for part in text.split(",")]
     if len(values) > len(MARKERS):
         raise argparse.ArgumentTypeError(f"at most {len(MARKERS)} of them")
     return values
 
 
 def main(arguments: list[str]) -> int:
-    """Runs streetsim-plot: draws and writes the picture; gives status 0. Fault for words that do not fit to each other,
-    and where a file cannot be read or the picture not be drawn or written."""
+    """Runs streetsim-plot: draws and writes the picture; gives status 0."""
     words = parser().parse_args(arguments)
     if words.folder is None and not words.ring:
         raise Fault("fundamental needs a folder or --ring")
@@ -89,27 +85,27 @@ def main(arguments: list[str]) -> int:
         raise Fault("--ring goes without a folder, --edges and --counts")
     if words.kind == "map" and words.what == "density" and words.begin is not None:
         raise Fault("--begin: the map of density is of all polls; it goes with --what delay, los, vc, flow and queue")
-    ending_of(words.output)
-    place_of(words.output)
-    save(drawn(drawing(), words), words.output)
+    picture_format(words.output)
+    checked_output_path(words.output)
+    save_picture(picture_of(load_pyplot(), words), words.output)
     return 0
 
 
-def drawn(pyplot: Pyplot, words: argparse.Namespace) -> Figure:
+def picture_of(pyplot: Pyplot, words: argparse.Namespace) -> Figure:
     """The picture that the words ask for, drawn but not saved. Fault where that cannot be read or drawn."""
     if words.kind == "map" and words.what != "density":
-        return maps.draw(pyplot, words.folder, words.what, words.begin)
+        return maps.draw_measure(pyplot, words.folder, words.what, words.begin)
     if words.kind == "fundamental" and words.ring:
         return draw_ring(pyplot, words.program, words.ring, words.limit)
     folder = read_folder(words.folder)
     if words.kind == "map":
         return maps.draw_density(pyplot, folder)
     if words.kind == "corridor":
-        return draw_corridor(pyplot, folder, Corridor(listed(words.edges), words.first, words.last, words.both))
+        return draw_corridor(pyplot, folder, Corridor(names_in(words.edges), words.first, words.last, words.both))
     if words.kind == "fundamental":
-        return draw_fundamental(pyplot, folder, listed(words.edges), words.counts)
+        return draw_fundamental(pyplot, folder, names_in(words.edges), words.counts)
     if words.kind == "greens":
-        return draw_greens(pyplot, folder, listed(words.lights))
+        return draw_greens(pyplot, folder, names_in(words.lights))
     if words.kind == "works":
         return draw_works(pyplot, folder)
     return draw_queues(pyplot, folder) if words.kind == "queues" else draw_arrivals(pyplot, folder, words.sumo)

@@ -6,12 +6,13 @@ import os
 import tempfile
 from collections.abc import Sequence
 from html import escape
+from pathlib import Path
 
-from streetsim.base import limits
-from streetsim.base.files import Fault, place_of, whole_file
-from streetsim.base.report import some
-from streetsim.base.words import Parser, add_names, files_of, listed, time_within, within
+from streetsim.base.files import Fault, checked_output_path, refuse_equal, whole_file
+from streetsim.base.report import first_few
+from streetsim.base.words import Parser, add_names, integer_within, names_in, paths_in
 from streetsim.cli.given import given_words
+from streetsim.cli.words import add_attribute, add_clock, add_files
 from streetsim.counts.judging import judged
 from streetsim.counts.reading import read_counts
 from streetsim.counts.reporting import counts_section
@@ -19,7 +20,9 @@ from streetsim.counts.seen import passed_in
 from streetsim.model.folder import Folder
 from streetsim.model.names import read_own
 from streetsim.model.tables import write_table
-from streetsim.reports.council import junctions_of
+from streetsim.pictures.drawing import load_pyplot, save_picture
+from streetsim.pictures.plots import Corridor, draw_corridor
+from streetsim.reports.council import ranked_rows
 from streetsim.reports.making import Wishes, report_of
 from streetsim.reports.markup import Section, image
 from streetsim.reports.seal import Seal, beside_of, write_beside
@@ -27,11 +30,11 @@ from streetsim.reports.sealing import COUNTS, NAMES, seal_for
 from streetsim.reports.sheets import Timings, changed, clashes, sheets
 from streetsim.reports.tables import CHANGES, change_rows
 from streetsim.results.reading import Runs, read_runs
+from streetsim.results.series import red_times, trajectories, way_back
 from streetsim.results.timings import timings_of
-from streetsim.results.series import reds, trajectories, way_back
 
-# Words that say where a page is and what it is of; --plans and --names are sealed beside them.
 ALL = "all"  # --sheets without a value
+# Words that say where a page is and what it is of; plans' names, --names and --counts are sealed beside the words.
 ELSEWHERE = ("runs", "output", "csv", "names", "plans", "sealed", "counts")
 DETAIL = 8  # junctions told with all movements
 PICTURE = {"first": 0, "last": 600}  # seconds of the corridor's picture
@@ -56,85 +59,63 @@ def parser() -> Parser:
     )
     made.add_argument("--short", action="store_true", help="the first page alone, without the appendix")
     made.add_argument(
-        "--detail",
-        type=within(0, 10_000),
-        metavar="N",
+        "--detail", type=integer_within(0, 10_000), metavar="N",
         help=f"junctions told with all movements, first those that change or are worse than D (default {DETAIL})",
     )
     made.add_argument(
-        "--sealed",
-        action="store_true",
+        "--sealed", action="store_true",
         help="put into the page what made it, so that streetsim-check can run it again and compare each number",
     )
     made.add_argument(
-        "--sheets",
-        nargs="?",
-        const=ALL,
-        default="",
-        metavar="LIGHTS",
+        "--sheets", nargs="?", const=ALL, default="", metavar="LIGHTS",
         help="a signal timing sheet for each of these lights, with commas between (default: all that plans change, or "
         "all of one plan)",
     )
-    made.add_argument(
-        "--counts", nargs="+", default=[], metavar="FILE", help="counts beside the first RUN, as of streetsim-compare"
-    )
-    made.add_argument(
-        "--attribute", metavar="NAME", help="of SUMO's files of counts, that is the count, as of streetsim-compare"
-    )
+    add_files(made, "--counts", "counts beside the first RUN, as of streetsim-compare")
+    add_attribute(made)
     made.add_argument("--csv", metavar="FILE", help="also write all junctions and movements, before and after (.csv)")
-    made.add_argument(
-        "--begin", type=time_within(0, limits.CLOCK), metavar="S", help="the interval shown (default: the busiest)"
-    )
+    add_clock(made, "--begin", "the interval shown (default: the busiest)")
     add_names(made)
     made.add_argument("--corridor", default="", metavar="EDGES", help="a path to draw, of a run with --every 1 (to 5)")
     for name, default in PICTURE.items():
-        made.add_argument(
-            f"--{name}",
-            type=time_within(0, limits.CLOCK),
-            metavar="S",
-            help=f"of the corridor's picture (default {default})",
-        )
+        add_clock(made, f"--{name}", f"of the corridor's picture (default {default})")
     return made
 
 
 def main(arguments: list[str]) -> int:
     """Runs streetsim-report: writes the page, what is sealed beside it and the table of --csv, and prints how large the
-    page is; gives status 0. Fault for words that do not fit to each other, and where a file cannot be read or
-    written."""
+    page is; gives status 0."""
     made = parser()
     words = made.parse_args(arguments)
     given = given_words(made, words, ELSEWHERE)
-    refuse(words)
-    place_of(words.output)
+    refuse_clashing_words(words)
+    checked_output_path(words.output)
+    beside = {f"{COUNTS}{at}": path for at, path in enumerate(paths_in(words.counts), 1)}
+    beside |= {NAMES: words.names} if words.names else {}
+    refuse_equal({"-o": words.output, **({"--csv": words.csv} if words.csv else {})}, beside.values())
     plans = read_plans(words)
     shown = interval_of(plans, words)
     seal: Seal | None = None
     large: dict[str, bytes] = {}
     if words.sealed:
-        seal, large = seal_for(plans, given, words.output, files_beside(words))
+        seal, large = seal_for(plans, given, words.output, beside)
     text = report_of(plans, shown, wishes_of(plans, words, seal))
     write_beside(words.output, large)
     with whole_file(words.output) as file:
         file.write(text)
     if words.csv:
         write_table(words.csv, CHANGES, change_rows(plans, shown))
-    count = len(junctions_of(plans, shown))
-    beside = f", and {beside_of(words.output)} beside it" if large else ""
-    print(f"{words.output}: {count} junctions, {len(text.encode()):,} bytes{beside}")
+    count = len(ranked_rows(plans, shown))
+    more = f", and {beside_of(words.output)} beside it" if large else ""
+    print(f"{words.output}: {count} junctions, {len(text.encode()):,} bytes{more}")
     return 0
-
-
-def files_beside(words: argparse.Namespace) -> dict[str, str]:
-    """The files that a page is made of beside its runs, {name in its seal: path}: names and counts."""
-    found = {NAMES: words.names} if words.names else {}
-    return found | {f"{COUNTS}{at}": path for at, path in enumerate(files_of(words.counts), 1)}
 
 
 def text_again(arguments: list[str], seal: Seal) -> str:
     """The text of a page by the words that made it, with its seal; for the runs' programs it names those of the seal.
     Fault where they give none."""
     words = parser().parse_args(arguments)
-    refuse(words)
+    refuse_clashing_words(words)
     plans = read_plans(words)
     for runs, plan in zip(plans, seal.content["plans"], strict=True):
         for folder in runs.folders.values():
@@ -142,9 +123,8 @@ def text_again(arguments: list[str], seal: Seal) -> str:
     return report_of(plans, interval_of(plans, words), wishes_of(plans, words, seal))
 
 
-def refuse(words: argparse.Namespace) -> None:
-    """Fault for words that do not fit to each other. Sets detail, first and last of the words where they were not
-    given."""
+def refuse_clashing_words(words: argparse.Namespace) -> None:
+    """Fault for words that do not fit to each other."""
     if len(words.runs) > 2:
         raise Fault("a report is of one run, or of two: before and after")
     if words.plans and len(words.plans) != len(words.runs):
@@ -154,26 +134,19 @@ def refuse(words: argparse.Namespace) -> None:
     for name in ("corridor", "sheets", "counts", "detail"):
         if words.short and getattr(words, name) not in (None, "", []):
             raise Fault(f"--{name} is of the appendix, which --short leaves out")
-    if words.detail is None:
-        words.detail = DETAIL
-    for name, default in PICTURE.items():
-        if getattr(words, name) is None:
-            setattr(words, name, default)
-        elif not words.corridor:
-            raise Fault(f"--{name} is of the corridor's picture: give --corridor too")
+    if given := [name for name in PICTURE if getattr(words, name) is not None and not words.corridor]:
+        raise Fault(f"--{given[0]} is of the corridor's picture: give --corridor too")
 
 
 def read_plans(words: argparse.Namespace) -> list[Runs]:
     """The runs of each plan, one or two, with their names and those of --names put into their maps. Two of one name are
     called by their paths, and all as --plans says where it is given. Fault where one cannot be read."""
     plans = [read_runs(path) for path in words.runs]
-    for runs, path in zip(plans, words.runs, strict=True):
-        if words.names:
-            read_own(words.names, runs.first.mapping)
-        if len(plans) == 2 and plans[0].name == plans[1].name:
-            runs.name = os.path.normpath(path)
-    for runs, name in zip(plans, words.plans):
+    alike = len({runs.name for runs in plans}) < len(plans)
+    for runs, name in zip(plans, words.plans or (map(os.path.normpath, words.runs) if alike else ())):
         runs.name = name
+    for runs in plans if words.names else ():
+        read_own(words.names, runs.first.mapping)
     return plans
 
 
@@ -182,20 +155,21 @@ def wishes_of(plans: Sequence[Runs], words: argparse.Namespace, seal: Seal | Non
     page is not sealed. Fault where one of them cannot be made."""
     pictures = []
     if words.corridor:
-        pictures.append(Section("corridor", "Corridor", "".join(corridor(runs, words) for runs in plans)))
+        pictures.append(Section("corridor", "Corridor", "".join(corridor_told(runs, words) for runs in plans)))
     if words.counts:
         pictures.append(Section("counts", "Beside counts", counts_told(plans[0], words)))
     timings = [timings_of(runs) for runs in plans]
     if words.sheets:
         pictures.append(Section("sheets", "Signal timing sheets", sheets_told(plans, timings, words.sheets)))
     last, doubts = seal.html() if seal else "", clashes(timings[-1], plans[-1])
-    return Wishes(words.title, words.question, words.detail, words.short, doubts, pictures, last)
+    detail = DETAIL if words.detail is None else words.detail
+    return Wishes(words.title, words.question, detail, words.short, doubts, pictures, last)
 
 
 def counts_told(runs: Runs, words: argparse.Namespace) -> str:
-    """How the first seed of a plan meets the counts of --counts, as HTML. Fault where they cannot be read, or the run
-    does not have a place or period of theirs."""
-    counts = read_counts(files_of(words.counts), words.attribute)
+    """How the first seed of a plan meets the counts of --counts, as HTML. Fault where these cannot be read, or as of
+    passed_in."""
+    counts = read_counts(paths_in(words.counts), words.attribute)
     return counts_section(runs.name, judged(counts, passed_in(runs.first, counts)), runs.first.mapping)
 
 
@@ -207,11 +181,13 @@ def sheets_told(plans: Sequence[Runs], timings: Sequence[Timings], asked: str) -
         if not own:
             why = "the files of the import were gone or had changed when it was run"
             raise Fault(f"{runs.first.path}: no program of its lights is kept, as {why}")
-    lights = listed(asked)
+    lights = names_in(asked)
     if asked == ALL:
         lights = changed(timings[0], timings[-1]) if len(plans) == 2 else sorted(timings[-1])
     if unknown := [light for light in lights if light not in timings[-1]]:
-        raise Fault(f"--sheets: the runs keep no program of a light {unknown[0]!r}; of {some(sorted(timings[-1]))}")
+        raise Fault(
+            f"--sheets: the runs keep no program of a light {unknown[0]!r}; of {first_few(sorted(timings[-1]))}"
+        )
     if not lights:
         return "<p>No light shows anything else with the second plan.</p>"
     return sheets([(runs.name, own) for runs, own in zip(plans, timings, strict=True)], lights, plans[-1].names)
@@ -226,49 +202,29 @@ def interval_of(all_runs: Sequence[Runs], words: argparse.Namespace) -> tuple[in
     if words.begin is None:
         busiest = all_runs[0].busiest()
         return busiest if busiest in common else min(common)
-    found = [one for one in sorted(common) if one[0] == words.begin]
-    if not found:
-        raise Fault(
-            f"--begin {words.begin}: no interval begins there, "
-            f"of {', '.join(str(begin) for begin, _ in sorted(common))}"
-        )
-    return found[0]
+    if words.begin not in (found := dict(sorted(common))):
+        raise Fault(f"--begin {words.begin}: no interval begins there, of {', '.join(map(str, found))}")
+    return words.begin, found[words.begin]
 
 
-def corridor(runs: Runs, words: argparse.Namespace) -> str:
-    """The corridor's picture of a plan's first seed, as HTML, in both directions where edges lead back. Fault where the
-    map has no such edge, or the run no polls."""
-    from streetsim.cli.plot import main as plot
-
-    folder = runs.first
-    back = leads_back(folder, words.corridor)
+def corridor_told(runs: Runs, words: argparse.Namespace) -> str:
+    """The corridor's picture of a plan's first seed, as HTML, with the SHA-256 of the data that it is drawn from; in
+    both directions where edges lead back. Fault where it cannot be drawn, as of draw_corridor."""
+    folder, ways = runs.first, path_and_way_back(runs.first, names_in(words.corridor))
+    first, last = (usual if getattr(words, name) is None else getattr(words, name) for name, usual in PICTURE.items())
+    figure = draw_corridor(load_pyplot(), folder, Corridor(ways[0], first, last, both=len(ways) == 2))
     with tempfile.TemporaryDirectory() as made:
-        place = f"{made}/corridor.png"
-        path = [
-            "corridor", folder.path, "--edges", words.corridor, "--first", str(words.first), "--last", str(words.last),
-        ]
-        plot([*path, *(["--both"] if back else []), "-o", place])
-        with open(place, "rb") as file:
-            content = file.read()
-    text = f"Ways of the vehicles along {words.corridor}{', and back' if back else ''}: {runs.name}"
-    drawn = drawn_sum(folder, words, back)
-    return f'<figure data-drawn="{drawn}">{image(content, text)}<figcaption>{escape(text)}</figcaption></figure>'
+        save_picture(figure, f"{made}/corridor.png")
+        content = Path(f"{made}/corridor.png").read_bytes()
+    text = f"Ways of the vehicles along {words.corridor}{', and back' if len(ways) == 2 else ''}: {runs.name}"
+    drawn = json.dumps([[trajectories(folder, way, first, last), red_times(folder, way, first, last)] for way in ways])
+    sum_ = hashlib.sha256(drawn.encode()).hexdigest()
+    return f'<figure data-drawn="{sum_}">{image(content, text)}<figcaption>{escape(text)}</figcaption></figure>'
 
 
-def drawn_sum(folder: Folder, words: argparse.Namespace, back: bool) -> str:
-    """The SHA-256 of the data that a corridor's picture is drawn from; back: whether it shows the way back too. Fault
-    where the map has no such edge, or the run no polls."""
-    edges = listed(words.corridor)
-    ways = [edges, *([way_back(folder, edges)] if back else [])]
-    times = words.first, words.last
-    drawn = [[trajectories(folder, way, *times), reds(folder, way, *times)] for way in ways]
-    return hashlib.sha256(json.dumps(drawn).encode()).hexdigest()
-
-
-def leads_back(folder: Folder, edges: str) -> bool:
-    """Whether each edge of a path (names with blanks or commas between) has one of the other direction; false for an
-    edge that the map does not have."""
+def path_and_way_back(folder: Folder, edges: list[str]) -> list[list[str]]:
+    """The edges of a path and, where each of them has one of the other direction, those of the way back."""
     try:
-        return bool(way_back(folder, listed(edges)))
+        return [edges, way_back(folder, edges)]
     except Fault:
-        return False
+        return [edges]

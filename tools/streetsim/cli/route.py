@@ -4,29 +4,31 @@ import sys
 from collections.abc import Sequence
 
 from streetsim.base import limits, program
-from streetsim.base.files import Fault, refuse_places
+from streetsim.base.files import Fault, refuse_unwritable
 from streetsim.base.progress import Slow, Stopping
 from streetsim.base.report import Report
 from streetsim.base.seeds import seeds_of
 from streetsim.base.words import (
-    Parser, add_lights, add_lost, add_rounds, files_of, listed, share_of, time_within, within,
+    Parser, add_lights, add_lost, add_rounds, integer_within, names_in, paths_in, share_of, time_within,
 )
 from streetsim.cli.import_ import add_options, options_of
-from streetsim.cli.signals import add_machines
+from streetsim.cli.words import (
+    add_check, add_clock, add_machines, add_made_run, add_network, refuse_half_run, seeds_to_check,
+)
 from streetsim.model import trust
-from streetsim.model.sources import digest_of
-from streetsim.model.stops import why_unmade
-from streetsim.routes.diverting import check_works, give_ways
-from streetsim.routes.job import AFTER, Closed, Job, Target, found_routes, tell, write
+from streetsim.model.sources import program_digest
+from streetsim.model.stops import unmade_stops_told
+from streetsim.routes.diverting import check_works, give_ways_of_file
+from streetsim.routes.job import AFTER, Closed, Job, Target, search_routes, tell_found, write_found
 from streetsim.routes.loading import read_town
 from streetsim.routes.search import Asked
 from streetsim.routes.team import team
 from streetsim.routes.watching import Ground
-from streetsim.ways.trips import connected, read_trips
+from streetsim.ways.trips import connected_trips, read_trips
 
 # Words that the setting keeps.
 KEPT = (
-    *("net", "additional", "trips", "anew", "slice", "iterations", "gap", "share", "tried", "rounds", "seeds", "check"),
+    "net", "additional", "trips", "anew", "slice", "iterations", "gap", "share", "tried", "rounds", "seeds", "check",
 )
 
 
@@ -37,20 +39,13 @@ def parser() -> argparse.ArgumentParser:
         description="Finds routes for trips by feedback between a router and runs, until nobody gains much by another "
         "way, and tells by seeds that the search did not see how much that is.",
     )
-    made.add_argument("net", help="the network (.net.xml, .net.xml.gz)")
+    add_network(made)
     made.add_argument(
-        "additional", nargs="*", default=[], help="additional files with signal programs and vehicle types"
-    )
-    made.add_argument(
-        "--trips",
-        required=True,
-        nargs="+",
-        metavar="FILE",
+        "--trips", required=True, nargs="+", metavar="FILE",
         help="trips, flows with from and to, and vehicles, whose routes are first ways",
     )
     made.add_argument("-o", "--output", required=True, help="the routes found (.rou.xml)")
-    made.add_argument("--run", help="the run of these routes, as streetsim-import makes it (.jsonl); with --map")
-    made.add_argument("--map", help="the map of that run (.json)")
+    add_made_run(made, "routes")
     made.add_argument("--out", required=True, metavar="DIR", help="the folder for tables")
     add_search(made)
     add_works(made)
@@ -62,128 +57,92 @@ def parser() -> argparse.ArgumentParser:
 def add_search(made: argparse.ArgumentParser) -> None:
     """Adds the words that say how routes are searched and judged."""
     made.add_argument("--anew", action="store_true", help="forget the routes that vehicles have")
+    until = f"the clock at the end of a run (default: {AFTER:,} s after the last departure)"
+    add_clock(made, "--until", until, least=1)
     made.add_argument(
-        "--until",
-        type=time_within(1, limits.CLOCK),
-        metavar="S",
-        help=f"the clock at the end of a run (default: {AFTER:,} s after the last departure)",
-    )
-    made.add_argument(
-        "--slice",
-        type=time_within(60, 86_400),
-        default=300,
-        metavar="S",
+        "--slice", type=time_within(60, 86_400), default=300, metavar="S",
         help="seconds over which costs are means (default %(default)s)",
     )
     made.add_argument(
-        "--iterations", type=within(0, 1000), default=15, metavar="N", help="at most (default %(default)s)"
+        "--iterations", type=integer_within(0, 1000), default=15, metavar="N", help="at most (default %(default)s)"
     )
     made.add_argument(
-        "--gap",
-        type=share_of,
-        default=0.02,
+        "--gap", type=share_of, default=0.02,
         help="what all could gain by other ways, of the seconds of the shortest ways (default %(default)s)",
     )
     made.add_argument(
         "--share", type=share_of, default=0.2, help="of the trips, that change their way at first (default %(default)s)"
     )
     made.add_argument(
-        "--tried",
-        type=within(1, 8),
-        default=1,
-        metavar="N",
+        "--tried", type=integer_within(1, 8), default=1, metavar="N",
         help="shares tried side by side in an iteration: the share, half of it, a quarter, .. (default %(default)s)",
     )
     add_rounds(made)
     add_lights(made)
     made.add_argument("--seeds", default="1", metavar="FIRST-LAST", help="of the search (default %(default)s)")
-    made.add_argument(
-        "--check",
-        default="101-103",
-        metavar="FIRST-LAST",
-        help="seeds by which the routes are judged, which the search does not see (default %(default)s)",
-    )
+    add_check(made, "101-103", "seeds by which the routes are judged, which the search does not see")
 
 
 def add_works(made: argparse.ArgumentParser) -> None:
     """Adds the words that say what is closed, and who knows of it."""
     made.add_argument(
-        "--close",
-        action="extend",
-        nargs="+",
-        default=[],
-        metavar="LANE:METRES-METRES:S-S",
+        "--close", action="extend", nargs="+", default=[], metavar="LANE:METRES-METRES:S-S",
         help="road works, as of streetsim-run; where all lanes of an edge are closed, those who know of it take "
         "another way from their begin on, and the others turn off before it",
     )
     made.add_argument(
-        "--knowing",
-        type=shares_of,
-        metavar="SHARES",
+        "--knowing", type=shares_of, metavar="SHARES",
         help="of drivers who know of the works, with commas between: each is tried (default 1)",
     )
     made.add_argument(
-        "--sign",
-        nargs="+",
-        default=[],
-        metavar="EDGE",
+        "--sign", nargs="+", default=[], metavar="EDGE",
         help="edges on which the others are told (default: the last before the works)",
     )
     add_lost(made)
     made.add_argument(
-        "--before",
-        metavar="FILE",
+        "--before", metavar="FILE",
         help="routes without the works (.rou.xml; default: those of --trips, or else they are searched first)",
     )
 
 
 def shares_of(text: str) -> list[float]:
-    """The shares, 0 to 1, of a list with commas, in its order; what comes again is left out. ArgumentTypeError where
-    one is no share."""
-    return list(dict.fromkeys(map(share_of, listed(text))))
+    """The shares, 0 to 1, of a list with commas, in its order, each once; ArgumentTypeError where one is no share."""
+    return list(dict.fromkeys(map(share_of, names_in(text))))
 
 
 def main(arguments: Sequence[str]) -> int:
     """Runs streetsim-route: searches, writes the routes and tables, and prints what was found; gives the greatest
-    status that `tell` gives for one of the shares of drivers who know. Fault for words that do not fit, files that
-    cannot be read or written, and trips without a way."""
+    status that `tell_found` gives for one of the shares of drivers who know."""
     words = parser().parse_args(arguments)
     check_words(words)
     with Slow(f"reading {words.net}"):
         job = job_of(words)
     with team(job.ground, words.jobs, words.cluster) as workers, Stopping() as stopping:
-        all_ = found_routes(job, workers, stopping)
-    write(job, all_)
-    status = max([tell(job, one, all_[0]) for one in all_[len(all_) > 1 :]])
+        all_ = search_routes(job, workers, stopping)
+    write_found(job, all_)
+    status = max([tell_found(job, one, all_[0]) for one in all_[len(all_) > 1 :]])
     if named := list(dict.fromkeys(text for one in all_ for text in one.named_doubts())):
         print(trust.verdict(named))
     return status
 
 
 def check_words(words: argparse.Namespace) -> None:
-    """Fault for words that do not fit to each other, or outputs that cannot be written, before anything is read.
-    Changes `words.close` to a list of single works."""
-    if (words.run is None) != (words.map is None):
-        raise Fault("--run and --map are given together or not at all")
+    """Fault for words that do not fit to each other, or outputs that cannot be written, before anything is read."""
+    refuse_half_run(words)
+    seeds_to_check(words)
     outputs = {"-o": words.output, "--run": words.run, "--map": words.map}
-    read = [words.net, *files_of(words.additional), *files_of(words.trips), *([words.before] if words.before else [])]
-    refuse_places(words.out, outputs, read)
+    read = [words.net, *paths_in([*words.additional, *words.trips]), *filter(None, [words.before])]
+    refuse_unwritable(words.out, outputs, read)
     for name in ("knowing", "sign", "before", "lost"):
         if getattr(words, name) and not words.close:
             raise Fault(f"--{name} is of road works: give --close too")
-    words.close = [one for text in words.close for one in listed(text)]
-    if set(seeds_of(words.seeds, "--seeds")) & set(seeds_of(words.check, "--check")):
-        raise Fault(
-            f"--seeds {words.seeds} and --check {words.check} overlap: routes must not be judged by what "
-            "they were found by"
-        )
 
 
 def job_of(words: argparse.Namespace) -> Job:
     """The search that the words ask for, with its files read and checked; prints what is left out or changed in them.
     Fault where something in them cannot be used."""
     report, simulator = Report(), program.find_program(words.program)
-    files = {"additional": files_of(words.additional), "trips": files_of(words.trips)}
+    files = {"additional": paths_in(words.additional), "trips": paths_in(words.trips)}
     town = read_town(words.net, files["additional"], options_of(words), report)
     trips = read_trips(files["trips"], town.net, town.graph, town.types, town.options, report)
     if back := sum(not trip.changes for trip in trips.all):
@@ -191,27 +150,29 @@ def job_of(words: argparse.Namespace) -> Job:
     if words.anew:
         for trip in (one for one in trips.all if one.changes):
             trip.path = ()
-    trips.all = connected(trips.all, town.net, town.graph, town.options.ignore_route_errors, report)
+    trips.all = connected_trips(trips.all, town.net, town.graph, town.options.ignore_route_errors, report)
     if words.before:
         before = read_trips([words.before], town.net, town.graph, town.types, town.options, Report())
-        give_ways(trips.all, before, town.graph, words.before)
-    if unmade := why_unmade(sum(len(trip.stops) for trip in trips.all)):
+        give_ways_of_file(trips.all, before, town.graph, words.before)
+    if unmade := unmade_stops_told(sum(len(trip.stops) for trip in trips.all)):
         report.warn(f"{unmade}; they are not in the routes that are written")
     print(*report.lines(), sep="\n", end="\n" if any(report.lines()) else "", file=sys.stderr)
     last = int(trips.all[-1].depart)
     until = min(limits.CLOCK, last + AFTER) if words.until is None else words.until
     if until <= last:
         raise Fault(f"--until {until}: the last trip departs at {last:,} s")
-    check_works(words.close, words.sign, trips.all, town, until)
+    closed = [one for text in words.close for one in names_in(text)]
+    check_works(closed, words.sign, trips.all, town, until)
     return Job(
         town,
         trips,
         ground=Ground(
-            simulator, digest_of(simulator), town.graph, words.slice, until, words.rounds, words.lights == "actuated"
+            simulator, program_digest(simulator), town.graph, words.slice, until, words.rounds,
+            words.lights == "actuated",
         ),
         asked=Asked(words.iterations, words.gap, words.share, seeds_of(words.seeds, "--seeds"), words.tried),
-        check=seeds_of(words.check, "--check"),
-        works=Closed(words.close, words.sign, words.lost or "lead", words.knowing or [1.0], words.before),
+        check=seeds_to_check(words),
+        works=Closed(closed, words.sign, words.lost or "lead", words.knowing or [1.0], words.before),
         target=Target(words.output, words.run, words.map, words.out),
         words={**{name: getattr(words, name) for name in KEPT}, **files},
     )

@@ -1,17 +1,18 @@
 """streetsim-run: the words by which a file is run and its tables are written."""
 import argparse
 
-from streetsim.base import limits, program
+from streetsim.base import limits
 from streetsim.base.words import (
-    Parser, add_jobs, add_lights, add_lost, add_rounds, add_run, time_within, within,
+    Parser, add_jobs, add_lights, add_lost, add_rounds, add_run, integer_within, time_within,
 )
 from streetsim.buses.planned import MOST_SEEN, SEEN
 from streetsim.cli.given import given_words
+from streetsim.cli.words import add_clock, add_simulator
 from streetsim.outputs.kinds import KINDS, kinds_of
 from streetsim.sumo.slowing import LIMITS
 
-# Words that say where and on what a run is made, and change no number of it.
-OF_WORKS = ("close", "joint", "lost", "works_limit")  # which the lines that a folder keeps have
+OF_WORKS = ("close", "joint", "lost", "works_limit")  # words that the lines that a folder keeps have in them
+# Words that say where, on what and with which seeds a run is made.
 ELSEWHERE = ("run", "map", "out", "program", "workers", "jobs", "seeds")
 
 
@@ -24,94 +25,65 @@ def parser() -> argparse.ArgumentParser:
     )
     add_run(made)
     add_looks(made)
-    add_seeds(made)
+    made.add_argument(
+        "--seeds", metavar="FIRST-LAST", help="run each of these seeds, side by side, into folders of their own"
+    )
+    add_jobs(made)
     add_lanes(made)
     add_outputs(made)
     add_lights(made)
     add_buses(made)
-    made.add_argument("--program", help=program.HELP)
-    made.add_argument("--workers", type=within(1, 64), default=1, help="of the simulator (default %(default)s)")
+    add_simulator(made)
     return made
 
 
 def add_looks(made: argparse.ArgumentParser) -> None:
-    """Adds the words that say when a run ends, and what is looked at on the way."""
-    made.add_argument(
-        "--until",
-        type=time_within(1, limits.CLOCK),
-        metavar="S",
-        help="the clock at the end (default: when all have arrived, or no vehicle has changed its cell for longer than "
-        "the longest cycle)",
+    """Adds the words that say when a run ends, what is polled and counted on the way, and who is rescued."""
+    add_clock(
+        made, "--until",
+        "the clock at the end (default: when all have arrived, or no vehicle has changed its cell for longer than the "
+        "longest cycle)", least=1,
     )
+    add_clock(made, "--every", "seconds between polls of the lanes; 0: never (default: 10)")
     made.add_argument(
-        "--every",
-        type=time_within(0, limits.CLOCK),
-        metavar="S",
-        help="seconds between polls of the lanes; 0: never (default: 10)",
-    )
-    made.add_argument(
-        "--period",
-        type=time_within(1, limits.PERIOD),
-        default=900,
-        metavar="S",
+        "--period", type=time_within(1, limits.PERIOD), default=900, metavar="S",
         help="seconds of a count (default %(default)s)",
     )
     made.add_argument(
         "--edges", default="", help="edges whose lanes are polled, with spaces or commas between (default: all)"
     )
-    made.add_argument(
-        "--rescue",
-        type=time_within(0, limits.CLOCK),
+    add_clock(
+        made, "--rescue",
+        "take out who stood so long at a stop line and enter it on the next link; 0: never (default %(default)s)",
         default=300,
-        metavar="S",
-        help="take out who stood so long at a stop line and enter it on the next link; 0: never (default %(default)s)",
     )
     made.add_argument(
-        "--counted",
-        choices=["all", "busiest"],
-        default="all",
+        "--counted", choices=["all", "busiest"], default="all",
         help=f"all: where a run has more than {limits.METERS:,} lanes, further runs repeat it to count the others; "
         "busiest: the lanes on most plans alone",
     )
-
-
-def add_seeds(made: argparse.ArgumentParser) -> None:
-    """Adds the words that say with which seeds is run, and how many runs go side by side."""
-    made.add_argument(
-        "--seeds", metavar="FIRST-LAST", help="run each of these seeds, side by side, into folders of their own"
-    )
-    add_jobs(made)
 
 
 def add_lanes(made: argparse.ArgumentParser) -> None:
     """Adds the words of road works: those that close lanes or make them joint, and say how vehicles merge there, what
     those do who lose their only lane, and which limit holds along the works."""
     made.add_argument(
-        "--close",
-        action="append",
-        default=[],
-        metavar="LANE:METRES-METRES:S-S",
+        "--close", action="append", default=[], metavar="LANE:METRES-METRES:S-S",
         help="road works: close a lane (edge_index) between two places, from one second to another; "
         "several with commas between, or by the word again",
     )
     made.add_argument(
-        "--merge",
-        choices=["turns", "none"],
-        default="turns",
+        "--merge", choices=["turns", "none"], default="turns",
         help="before road works on one lane of a joint link the lanes take turns; none: who stands there waits for a "
         "gap (default %(default)s)",
     )
     add_lost(made)
     made.add_argument(
-        "--works-limit",
-        type=within(LIMITS[0], LIMITS[-1]),
-        metavar="KMH",
+        "--works-limit", type=integer_within(LIMITS[0], LIMITS[-1]), metavar="KMH",
         help="the limit along the works of --close, for the whole run; their edges are imported anew in parts",
     )
     made.add_argument(
-        "--joint",
-        default="",
-        metavar="NAMES",
+        "--joint", default="", metavar="NAMES",
         help="edges or lanes, with commas between, that are joint as if they had road works, for a run to compare with",
     )
 
@@ -119,21 +91,15 @@ def add_lanes(made: argparse.ArgumentParser) -> None:
 def add_buses(made: argparse.ArgumentParser) -> None:
     """Adds the words that say how buses stop, and which lights wait for them."""
     made.add_argument(
-        "--stops",
-        choices=["made", "none"],
-        default="made",
+        "--stops", choices=["made", "none"], default="made",
         help="made: vehicles stop where and as long as SUMO's files say; none: they drive by (default %(default)s)",
     )
     made.add_argument(
-        "--priority",
-        default="",
-        metavar="NAMES",
+        "--priority", default="", metavar="NAMES",
         help="classes of vehicles or lines, with commas between, for which lights keep or fetch a green within bounds",
     )
     made.add_argument(
-        "--seen",
-        type=within(1, MOST_SEEN),
-        metavar="S",
+        "--seen", type=integer_within(1, MOST_SEEN), metavar="S",
         help=f"seconds before the stop line from which on such a vehicle is seen (default {SEEN})",
     )
 
@@ -141,19 +107,12 @@ def add_buses(made: argparse.ArgumentParser) -> None:
 def add_outputs(made: argparse.ArgumentParser) -> None:
     """Adds the words that say what is written and where, and how many rounds find who gives way."""
     made.add_argument(
-        "--sumo-output",
-        type=kinds_of,
-        default=(),
-        metavar="KINDS",
+        "--sumo-output", type=kinds_of, default=(), metavar="KINDS",
         help=f"also write SUMO's own output files into DIR/sumo: of {','.join(KINDS)}",
     )
     add_rounds(made)
     made.add_argument(
-        "--junctions",
-        nargs="?",
-        type=within(60, limits.CLOCK),
-        const=0,
-        metavar="S",
+        "--junctions", nargs="?", type=integer_within(60, limits.CLOCK), const=0, metavar="S",
         help="also write delay, level of service, queues and v/c of movements, approaches and junctions, "
         "by intervals of so many seconds (default: --period)",
     )
@@ -161,7 +120,7 @@ def add_outputs(made: argparse.ArgumentParser) -> None:
 
 
 def main(arguments: list[str]) -> int:
-    """Runs streetsim-run, as `running.run_by` says; gives status 0. Fault where run_by raises one."""
+    """Runs streetsim-run, as `running.run_by` says; gives status 0."""
     made = parser()
     words = made.parse_args(arguments)
     from streetsim.cli.running import run_by

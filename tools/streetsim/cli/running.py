@@ -11,24 +11,24 @@ from streetsim.base.client import Census
 from streetsim.base.files import Fault, whole_folder
 from streetsim.base.jobs import side_by_side
 from streetsim.base.progress import UnderWay
-from streetsim.base.seeds import interval, seeds_of
-from streetsim.base.words import listed
+from streetsim.base.seeds import mean_and_half_width, seeds_of
+from streetsim.base.words import names_in
 from streetsim.buses.planned import planned
-from streetsim.buses.priority import waiting
+from streetsim.buses.priority import prioritised
 from streetsim.model import trust
 from streetsim.model.folder import LIGHTS, NAME
 from streetsim.model.mapping import Map
 from streetsim.model.runs import Run, read_with_map, with_load
 from streetsim.model.tables import PHASES_FILE, SEEDS, STOPS_FILE, WORKS_FILE, write_table
 from streetsim.outputs.folder import Figures, Making, first_poll, one_run
-from streetsim.outputs.kept import by_which, write_kept, write_lights
+from streetsim.outputs.kept import how_made_again, write_kept, write_lights
 from streetsim.outputs.kinds import KINDS
 from streetsim.run.asking import told_of_polls
-from streetsim.run.ending import first_guess
+from streetsim.run.ending import after_departures
 from streetsim.run.settings import Settings
 from streetsim.works.asked import all_works
 from streetsim.works.closures import closures_of
-from streetsim.works.sites import Asking, with_works
+from streetsim.works.sites import WorksOptions, with_works
 
 DETECTORS = {"e1": "inductionLoop", "e2": "laneAreaDetector"}  # SUMO's names, by the kind of output
 # What a run writes where a word asks for it.
@@ -41,15 +41,14 @@ AT_WISH = (
 def run_by(words: argparse.Namespace, given: Sequence[str], again: Sequence[str]) -> int:
     """Makes the run, or the runs of --seeds, that the words ask for, writes the folder of --out, prints what it gave,
     and gives status 0. given: the words that change its numbers, for the setting; again: those by which it is made
-    again of the lines that its folder keeps. Fault for words that do not fit to the run, where a file cannot be read or
-    written, and where a run fails."""
+    again of the lines that its folder keeps."""
     run, mapping = read_with_map(words.run, words.map)
     settings = settings_of(words, run)
     refuse_unknown(words, settings, mapping)
     refuse_unused(words, run, mapping)
     works = all_works(words.close, mapping, run.start(), words.until)
-    asking = Asking(tuple(listed(words.joint)), words.lost or "lead", words.works_limit)
-    run, mapping, told = with_works(run, mapping, words.map, works, asking)
+    options = WorksOptions(tuple(names_in(words.joint)), words.lost or "lead", words.works_limit)
+    run, mapping, told = with_works(run, mapping, words.map, works, options)
     print(*told, sep="\n", end="\n" if told else "", file=sys.stderr)
     if settings.until <= run.start():
         raise Fault(f"--until {settings.until}: the run starts at {run.start()}")
@@ -57,18 +56,17 @@ def run_by(words: argparse.Namespace, given: Sequence[str], again: Sequence[str]
         refuse_no_poll(settings, run.start())
     simulator = program.find_program(words.program)
     more = words.rounds, words.workers, words.jobs, words.sumo_output, words.junctions
-    making = Making(simulator, *more, by_which(run, given, again))
+    making = Making(simulator, *more, how_made_again(run, given, again))
     if words.stops == "made":
         settings = replace(settings, buses=planned(run, mapping))
     if words.lights == "actuated" and mapping.actuated:
         settings = replace(settings, lights=driven_lights(run, mapping))
     settings = with_priority(words, run, mapping, settings)
-    if told_of := told_of_polls(run, mapping, settings):
-        print(told_of, file=sys.stderr)
+    if polled := told_of_polls(run, mapping, settings):
+        print(polled, file=sys.stderr)
     if words.seeds:
         return run_seeds(words, making, run, mapping, settings)
-    shown = UnderWay(settings.until)
-    with whole_folder(words.out, NAME, AT_WISH) as folder:
+    with whole_folder(words.out, NAME, AT_WISH) as folder, UnderWay(run.start(), settings.until) as shown:
         write_inputs(words, folder, run, mapping)
         figures = one_run(making, run, mapping, settings, folder, shown.show)
     report(figures, "")
@@ -86,8 +84,7 @@ def refuse_unused(words: argparse.Namespace, run: Run, mapping: Map) -> None:
 
 
 def write_inputs(words: argparse.Namespace, folder: str, run: Run, mapping: Map) -> None:
-    """Writes into a run's folder what it is made again by, and with junction tables what its lights show. Fault where
-    it cannot be written."""
+    """Writes into a run's folder what it is made again by, and with junction tables what its lights show."""
     write_kept(folder, run)
     if words.junctions is not None:
         write_lights(folder, mapping, words.map)
@@ -97,25 +94,25 @@ def with_priority(words: argparse.Namespace, run: Run, mapping: Map, settings: S
     """The settings with lights that wait for the vehicles of --priority, unchanged where it is not given; Fault where a
     name has no vehicle, for --seen without it, and for --lights listed beside it in a map with lights that detectors
     drive."""
-    names = listed(words.priority)
+    names = names_in(words.priority)
     if not names:
         if words.seen is not None:
             raise Fault("--seen is of vehicles with --priority")
         return settings
     if words.lights == "listed" and mapping.actuated:
         raise Fault("--priority and --lights listed: lights that wait for buses do not show their listed seconds")
-    lights, buses = waiting(run, mapping, names, words.seen, settings.lights, settings.buses)
+    lights, buses = prioritised(run, mapping, names, words.seen, settings.lights, settings.buses)
     return replace(settings, buses=buses, lights=lights)
 
 
 def settings_of(words: argparse.Namespace, run: Run) -> Settings:
     """What the words ask of a run; without --until its end is a first guess, which the run moves."""
     return Settings(
-        until=words.until or first_guess(run),
+        until=words.until or after_departures(run),
         every=words.every,
         period=words.period,
         rescue=words.rescue,
-        edges=tuple(listed(words.edges)),
+        edges=tuple(names_in(words.edges)),
         all_counted=words.counted == "all",
         open_end=words.until is None,
         merging=words.merge == "turns",
@@ -129,8 +126,8 @@ def refuse_unknown(words: argparse.Namespace, settings: Settings, mapping: Map) 
         raise Fault(f"--edges: the map has no edge {unknown[0]!r}")
     if settings.edges and settings.every == 0:
         raise Fault("--edges are those whose lanes are polled, and --every 0 polls none")
-    for kind in DETECTORS.keys() & set(words.sumo_output):
-        if not any(one.kind == kind for one in mapping.detectors):
+    for kind in words.sumo_output:
+        if kind in DETECTORS and not any(one.kind == kind for one in mapping.detectors):
             missing = f"the map has no {DETECTORS[kind]}: import an additional file that has one"
             raise Fault(f"--sumo-output {kind}: {missing}")
 
@@ -149,42 +146,44 @@ def report(figures: Figures, name: str) -> None:
     for told in figures.notes:
         print(f"{name}{told}", file=sys.stderr)
     print(f"{name}{figures.told}")
-    if figures.apart:
-        print(f"{name}{figures.apart}")
+    if figures.by_class:
+        print(f"{name}{figures.by_class}")
     if figures.doubts:
         print(f"{name}{trust.verdict(figures.doubts)}")
 
 
 def run_seeds(words: argparse.Namespace, making: Making, run: Run, mapping: Map, settings: Settings) -> int:
     """Makes a run for each seed of --seeds, side by side, each into a folder of its own below --out; prints and writes
-    (seeds.csv) each mean trip, and prints their mean and its 95 % interval, seeds in which nobody arrived left out.
-    Gives status 0. Fault where seeds are none, a run fails, or a file cannot be written."""
+    (seeds.csv) what each gave, prints their mean trip with its 95 % interval, seeds in which nobody arrived left out,
+    and which seeds are not to be trusted; gives status 0."""
     seeds, making = seeds_of(words.seeds, "--seeds"), replace(making, jobs=1)
-    shown = UnderWay(settings.until, len(seeds))
-    with whole_folder(words.out, NAME, AT_WISH) as folder:
+    shown = UnderWay(run.start(), settings.until, len(seeds))
+    with whole_folder(words.out, NAME, AT_WISH) as folder, shown:
         write_inputs(words, folder, run, mapping)
 
-        def run_seed(seed: int, tell: Callable[[tuple[int, Census | None]], object]) -> Figures:
+        def run_seed(seed: int, tell: Callable[[tuple[int, Census | None] | None], object]) -> Figures:
             """Makes the run of a seed, in a process of its own, and gives its figures; tell: gets (clock, census) while
-            it goes."""
-            place = f"{folder}/seed-{seed}"
-            os.mkdir(place)
+            it goes, and None at its end."""
+            own_folder = f"{folder}/seed-{seed}"
+            os.mkdir(own_folder)
+            seeded = with_load(run, seed=seed)
+            figures = one_run(
+                making, seeded, mapping, settings, own_folder, lambda clock, census: tell((clock, census))
+            )
+            tell(None)
+            return figures
 
-            def told(clock: int, census: Census | None) -> None:
-                """Passes on to the first process how far the run is."""
-                tell((clock, census))
+        def show(index: int, seen: tuple[int, Census | None] | None) -> None:
+            """Shows what the run of a seed, by its index among them, told."""
+            shown.show(*seen, index) if seen else shown.note_end()
 
-            return one_run(making, with_load(run, seed=seed), mapping, settings, place, told)
-
-        figures = side_by_side(
-            run_seed, seeds, words.jobs, lambda place, values: shown.show(values[0], values[1], place)
-        )
+        figures = side_by_side(run_seed, seeds, words.jobs, show)
         rows = [(seed, *(getattr(one, name) for name in SEEDS[1:])) for seed, one in zip(seeds, figures, strict=True)]
         write_table(f"{folder}/seeds.csv", SEEDS, rows)
     for seed, one in zip(seeds, figures, strict=True):
         report(one, f"seed {seed}: ")
     if means := [one.mean_trip_s for one in figures if one.mean_trip_s is not None]:
-        mean, half = interval(means)
+        mean, half = mean_and_half_width(means)
         told = f", 95 % interval {mean - half:.1f} to {mean + half:.1f} s" if half is not None else ""
         print(f"mean trip {mean:.1f} s{told}")
     if doubtful := [str(seed) for seed, one in zip(seeds, figures, strict=True) if one.doubts]:

@@ -1,26 +1,28 @@
 """streetsim-signals: finds signal plans by simulation."""
 import argparse
 import sys
-from collections.abc import Generator, Sequence
+from collections.abc import Iterator, Sequence
+from contextlib import contextmanager
 from statistics import fmean, stdev
 
 from streetsim.base import limits, program
-from streetsim.base.files import Fault, refuse_places
+from streetsim.base.files import Fault, refuse_unwritable
 from streetsim.base.progress import Slow
 from streetsim.base.seeds import seeds_for, seeds_of
-from streetsim.base.words import Parser, add_jobs, add_rounds, add_run, files_of, listed, time_within, within
+from streetsim.base.words import Parser, add_rounds, add_run, integer_within, names_in, paths_in, time_within
+from streetsim.cli.words import add_check, add_clock, add_machines, seeds_to_check
 from streetsim.model.folder import Folder
 from streetsim.outputs.folder import Making
-from streetsim.pictures.drawing import drawing
+from streetsim.pictures.drawing import load_pyplot
 from streetsim.pictures.plots import Corridor, refuse_broken
 from streetsim.sessions.machines import machines
-from streetsim.signals.bounded import Asked, Found, ground_of, outcomes, searched_bounds, write_found_bounds
+from streetsim.signals.bounded import Asked, Found, bounded_outcomes, ground_of, searched_bounds, write_found_bounds
 from streetsim.signals.bounds import bounds_text
 from streetsim.signals.formulas import streets_of
-from streetsim.signals.found import Target, compared, doubts_of, tell, write_found
+from streetsim.signals.found import Target, before_after_rows, doubts_of, tell_found, write_found
 from streetsim.signals.in_sumo import PROGRAM_ID, sumo_for, verified
-from streetsim.signals.planning import CHANGES, CYCLES, DRAWN, ended_search, lengths, refuse_budget, tried_seeds
-from streetsim.signals.plans import LEAST, Plan, plan_text
+from streetsim.signals.planning import CHANGES, CYCLES, DRAWN, ended_search, proposed_cycles, refuse_budget, tried_seeds
+from streetsim.signals.plans import LEAST, plan_text
 from streetsim.signals.search import Search, search_plan
 from streetsim.signals.town import Reading, Runner, Town, read_town, sessions_of
 
@@ -36,10 +38,7 @@ def parser() -> Parser:
     )
     add_run(made)
     made.add_argument(
-        "--plans",
-        required=True,
-        nargs="+",
-        metavar="FILE",
+        "--plans", required=True, nargs="+", metavar="FILE",
         help="the network (.net.xml), and additional files with programs, of which the last of a light counts",
     )
     made.add_argument(
@@ -49,23 +48,12 @@ def parser() -> Parser:
     add_rounds(made)
     add_machines(made)
     made.add_argument(
-        "--verify-sumo",
-        action="store_true",
+        "--verify-sumo", action="store_true",
         help="run SUMO too with the plan given and the plan found, with the seeds of --check; both must say better",
     )
     made.add_argument("--edges", default="", help="draw the ways of the vehicles along these edges, before and after")
-    made.add_argument(
-        "--first",
-        type=time_within(0, limits.CLOCK),
-        metavar="S",
-        help="the first second drawn (default: a third of the run)",
-    )
-    made.add_argument(
-        "--last",
-        type=time_within(0, limits.CLOCK),
-        metavar="S",
-        help=f"the last second drawn (default: {DRAWN} s later)",
-    )
+    add_clock(made, "--first", "the first second drawn (default: a third of the run)")
+    add_clock(made, "--last", f"the last second drawn (default: {DRAWN} s later)")
     made.add_argument("-o", "--output", required=True, help="the plan found (.add.xml)")
     made.add_argument("--out", required=True, metavar="DIR", help="the folder for tables and pictures")
     return made
@@ -77,123 +65,89 @@ def add_search(made: argparse.ArgumentParser) -> None:
         "--change", default=",".join(CHANGES), help="what may be changed, with commas between (default %(default)s)"
     )
     made.add_argument(
-        "--bounds",
-        action="store_true",
+        "--bounds", action="store_true",
         help="find least, most and max-gap (vehext) of actuated and NEMA lights, which detectors then drive, in place "
         "of plans of seconds; the best of those is found too, with the other words, and said beside it",
     )
     made.add_argument("--cycle", metavar="S-S", help=f"cycles to try (default {CYCLES})")
     made.add_argument(
-        "--least",
-        type=within(1, limits.PHASE_STEPS),
-        default=LEAST,
-        metavar="S",
+        "--least", type=integer_within(1, limits.PHASE_STEPS), default=LEAST, metavar="S",
         help="the least green (default %(default)s); a phase's minDur and maxDur bound it too",
     )
     made.add_argument(
         "--keep", default="", metavar='"LIGHT .."', help="lights that stay as they are, with spaces or commas between"
     )
     made.add_argument(
-        "--seeds",
-        metavar="FIRST-LAST",
+        "--seeds", metavar="FIRST-LAST",
         help="of the search (default: one, or more where runs of the given plan differ much)",
     )
+    add_check(made, "101-110", "seeds of the report, which the search does not see")
     made.add_argument(
-        "--check",
-        default="101-110",
-        metavar="FIRST-LAST",
-        help="seeds of the report, which the search does not see (default %(default)s)",
-    )
-    made.add_argument(
-        "--reserve",
-        type=within(0, 1000),
-        default=RESERVE,
-        metavar="N",
+        "--reserve", type=integer_within(0, 1000), default=RESERVE, metavar="N",
         help="of 1,000, by which vehicles slow down more often in the search than in the report, "
         "so that what it finds has room (default %(default)s: a green lets some 10 %% fewer pass; 0: as many). "
         "Offsets alone are searched without",
     )
     made.add_argument(
-        "--budget",
-        type=within(0, limits.VEHICLES),
-        default=1000,
-        metavar="N",
+        "--budget", type=integer_within(0, limits.VEHICLES), default=1000, metavar="N",
         help="simulations of the search (default %(default)s)",
     )
 
 
-def add_machines(made: argparse.ArgumentParser) -> None:
-    """Adds the words that say where runs are made: --jobs, --cluster, --program."""
-    add_jobs(made)
-    made.add_argument(
-        "--cluster", metavar="HOST:PORT", help="do the runs on the workers of this scheduler of dask.distributed"
-    )
-    made.add_argument("--program", help=program.HELP)
-
-
 def main(arguments: list[str]) -> int:
     """Runs streetsim-signals: searches, writes the plan (or the bounds) and tables, and prints what was found; gives
-    the status, as `tell` says. Fault for words that do not fit, files that cannot be read or written, and runs that
-    fail."""
+    the status, as `tell_found` says, or with --bounds `write_found_bounds`."""
     words = parser().parse_args(arguments)
-    changed, cycles = changes_of(words)
+    refuse_unused(words)
     check = check_seeds(words)
-    reading = reading_of(words, changed)
+    reading = reading_of(words)
     with Slow(f"reading {words.run}"):
         town = read_town(reading)
-    check_cycles(words, town, cycles)
+    check_cycles(words, town)
     if words.bounds:
-        return bounds_found(words, reading, town, changed, cycles)
+        return find_bounds(words, reading, town, check)
     making = Making(reading.program, words.rounds)
     target = Target(words.output, words.out, corridor_of(words, town), making, words.until)
     in_sumo = sumo_for(reading, town.mapping, town.run) if words.verify_sumo else None
-    tried = tried_seeds(check)
-    with machines(words.jobs, words.cluster, [town.session]) as workers:
-        known = sorted({*tried, *(seeds_of(words.seeds, "--seeds") if words.seeds else ())})
-        sessions = sessions_of(town, known, Runner(workers, town))
-    with machines(words.jobs, words.cluster, sessions) as workers:
-        runner = Runner(workers, town)
-        seeds = search_seeds(words, runner, tried)
-        search, stopped = searched(words, runner, changed, cycles, seeds)
+    with runner_of(words, town, check) as runner:
+        search, stopped = search_for_plan(words, runner, check)
         before, after = (runner.outcomes(plan, check) for plan in (town.plan, search.best[1]))
     texts = [plan_text(town.lights, plan, PROGRAM_ID) for plan in (town.plan, search.best[1])]
     sumo = verified(in_sumo, town, texts, check, words.jobs) if in_sumo else None
-    rows, doubts = compared(town, before, after, sumo), list(doubts_of(town, before, after, sumo))
+    rows, doubts = before_after_rows(town, before, after, sumo), list(doubts_of(town, before, after, sumo))
     write_found(target, town, search, rows, doubts)
-    return tell(town, search, rows, stopped, doubts, sumo)
+    return tell_found(town, search, rows, stopped, doubts, sumo)
 
 
-def bounds_found(
-    words: argparse.Namespace, reading: Reading, town: Town, changed: Sequence[str], cycles: range
-) -> int:
+def find_bounds(words: argparse.Namespace, reading: Reading, town: Town, check: range) -> int:
     """Finds bounds of actuated and NEMA lights, and the best plan of seconds to compare them with; writes and prints
-    both, and gives the exit status of write_found_bounds. changed, cycles: as `changes_of` gives them. Fault where
-    --edges is given, and where a run fails."""
-    if words.edges:
-        raise Fault("--edges draws plans of seconds, and --bounds finds none")
-    ground, check = ground_of(reading, town), check_seeds(words)
-    tried = tried_seeds(check)
+    both, and gives the exit status of write_found_bounds. check: seeds by which both are judged."""
+    ground = ground_of(reading, town)
     in_sumo = sumo_for(reading, town.mapping, town.run) if words.verify_sumo else None
     with machines(words.jobs, words.cluster, ground.sessions) as workers:
-        seeds = seeds_of(words.seeds, "--seeds") if words.seeds else ()
-        search, stopped = searched_bounds(Asked(words.budget, seeds, words.least), workers, ground, tried)
-        before, after = ([*outcomes(workers, [one], check)] for one in (ground.given, search.best[1]))
-    with machines(words.jobs, words.cluster, [town.session]) as workers:
-        known = sorted({*tried, *(seeds_of(words.seeds, "--seeds") if words.seeds else ())})
-        sessions = sessions_of(town, known, Runner(workers, town))
-    with machines(words.jobs, words.cluster, sessions) as workers:
-        runner = Runner(workers, town)
-        fixed, _ = searched(words, runner, changed, cycles, search_seeds(words, runner, tried))
+        asked = Asked(words.budget, given_seeds(words), words.least)
+        search, stopped = searched_bounds(asked, workers, ground, tried_seeds(check))
+        before, after = ([*bounded_outcomes(workers, [one], check)] for one in (ground.given, search.best[1]))
+    with runner_of(words, town, check) as runner:
+        fixed, _ = search_for_plan(words, runner, check)
         beside = runner.outcomes(fixed.best[1], check)
     texts = [bounds_text(town.mapping, one, PROGRAM_ID) for one in (ground.given, search.best[1])]
     sumo = verified(in_sumo, town, texts, check, words.jobs) if in_sumo else None
     return write_found_bounds(words.output, words.out, ground, Found(search, stopped, before, after, beside, sumo))
 
 
-def changes_of(words: argparse.Namespace) -> tuple[list[str], range]:
+def refuse_unused(words: argparse.Namespace) -> None:
+    """Fault for --first and --last without --edges, and for --edges with --bounds."""
+    if given := [name for name in ("first", "last") if getattr(words, name) is not None and not words.edges]:
+        raise Fault(f"--{given[0]} is of the pictures: give --edges too")
+    if words.bounds and words.edges:
+        raise Fault("--edges draws plans of seconds, and --bounds finds none")
+
+
+def changes_and_cycles(words: argparse.Namespace) -> tuple[list[str], range]:
     """(what may be changed, of CHANGES; cycles to try, in seconds), an empty range where cycles stay; Fault where the
     words name others, and for --cycle where cycles stay or that is no S-S."""
-    changed = listed(words.change)
+    changed = names_in(words.change)
     if unknown := [name for name in changed if name not in CHANGES]:
         raise Fault(f"--change: {unknown[0]!r} is none of {', '.join(CHANGES)}")
     if words.cycle and "cycle" not in changed:
@@ -205,26 +159,26 @@ def changes_of(words: argparse.Namespace) -> tuple[list[str], range]:
     return changed, range(int(first), int(last) + 1) if "cycle" in changed else range(0)
 
 
+def given_seeds(words: argparse.Namespace) -> Sequence[int]:
+    """The seeds of --seeds, empty where it is not given; Fault where they are none."""
+    return seeds_of(words.seeds, "--seeds") if words.seeds else ()
+
+
 def check_seeds(words: argparse.Namespace) -> range:
     """The seeds of --check, by which the plan that is found is judged. Fault for fewer than two of them, one that
     --seeds names too, and a --budget below the simulations of one plan: one for each seed of --seeds."""
-    seeds, check = seeds_of(words.seeds, "--seeds") if words.seeds else range(1), seeds_of(words.check, "--check")
+    check = seeds_to_check(words)
     if len(check) < 2:
         raise Fault(f"--check {words.check}: an interval needs two seeds at least")
-    if words.seeds and set(seeds) & set(check):
-        raise Fault(
-            f"--seeds {words.seeds} and --check {words.check} overlap: a plan must not be judged by "
-            "what it was found by"
-        )
-    refuse_budget(words.budget, seeds)
+    refuse_budget(words.budget, given_seeds(words) or range(1))
     return check
 
 
-def reading_of(words: argparse.Namespace, changed: Sequence[str]) -> Reading:
-    """What is to be read of a town; Fault where an output has no place or is an input, and where there is no program.
-    The reserve is 0 where offsets alone are changed and no bounds are to be found."""
-    plans = files_of(words.plans)
-    refuse_places(words.out, {"-o": words.output}, [words.run, words.map, *plans])
+def reading_of(words: argparse.Namespace) -> Reading:
+    """What is to be read of a town; Fault where an output cannot be written or is an input, where there is no program,
+    and as of changes_and_cycles. The reserve is 0 where offsets alone are changed and no bounds are to be found."""
+    plans, (changed, _) = paths_in(words.plans), changes_and_cycles(words)
+    refuse_unwritable(words.out, {"-o": words.output}, [words.run, words.map, *plans])
     return Reading(
         run=words.run,
         map=words.map,
@@ -232,33 +186,29 @@ def reading_of(words: argparse.Namespace, changed: Sequence[str]) -> Reading:
         until=words.until,
         program=program.find_program(words.program),
         least=words.least,
-        keep=listed(words.keep),
+        keep=names_in(words.keep),
         rounds=words.rounds,
         reserve=words.reserve if {"splits", "cycle"} & {*changed} or words.bounds else 0,
         fixed=words.bounds,
     )
 
 
-def check_cycles(words: argparse.Namespace, town: Town, cycles: range) -> None:
+def check_cycles(words: argparse.Namespace, town: Town) -> None:
     """Fault where there are cycles to try and no light can keep any of them."""
+    _, cycles = changes_and_cycles(words)
     able = (town.lights[name].scaled(timing, cycle) for name, timing in town.plan.items() for cycle in cycles)
     if cycles and not any(able):
-        raise Fault(
-            f"--cycle {words.cycle or CYCLES}: no light can keep such a cycle (--least {words.least}, "
-            "and the bounds of its phases)"
-        )
+        told = f"no light can keep such a cycle (--least {words.least}, and the bounds of its phases)"
+        raise Fault(f"--cycle {words.cycle or CYCLES}: {told}")
 
 
 def corridor_of(words: argparse.Namespace, town: Town) -> Corridor | None:
-    """The ways that are drawn in the end, none where --edges is not given; Fault for what could not be drawn then, and
-    for --first or --last without --edges."""
+    """What is drawn in the end of ways along --edges, none where it is not given; Fault for what could not be drawn."""
     if not words.edges:
-        if given := [name for name in ("first", "last") if getattr(words, name) is not None]:
-            raise Fault(f"--{given[0]} is of the pictures: give --edges too")
         return None
-    edges = listed(words.edges)
+    edges = names_in(words.edges)
     refuse_broken(Folder("--edges", town.mapping, [], 0, 1, 0), edges)
-    drawing()
+    load_pyplot()
     first = words.until // 3 if words.first is None else words.first
     last = min(words.until, first + DRAWN) if words.last is None else words.last
     if not first < last <= words.until:
@@ -266,13 +216,24 @@ def corridor_of(words: argparse.Namespace, town: Town) -> Corridor | None:
     return Corridor(edges, first, last)
 
 
-def search_seeds(words: argparse.Namespace, runner: Runner, tried: Sequence[int]) -> Sequence[int]:
-    """The seeds of the search: those of --seeds, else the first of `tried`, as many as the spread of runs of the given
-    plan asks for. Makes these runs, with the seeds `tried`, in both cases; prints which seeds, and why. Fault where
-    --budget is below them, and where a run fails."""
-    means = list(runner.means([runner.town.plan], tried))
+@contextmanager
+def runner_of(words: argparse.Namespace, town: Town, check: range) -> Iterator[Runner]:
+    """What runs plans of a town, as long as the block lasts; for the seeds of the search it finds first, by runs, the
+    gaps by which vehicles give way without a light. check: seeds that it does not see. Fault where a run fails."""
+    with machines(words.jobs, words.cluster, [town.session]) as workers:
+        known = sorted({*tried_seeds(check), *given_seeds(words)})
+        sessions, places = sessions_of(town, known, Runner(workers, town))
+    with machines(words.jobs, words.cluster, sessions) as workers:
+        yield Runner(workers, town, places)
+
+
+def search_seeds(words: argparse.Namespace, runner: Runner, check: range) -> Sequence[int]:
+    """The seeds of the search: those of --seeds, else of tried_seeds as many as the spread of runs of the given plan
+    asks for. Makes these runs in both cases; prints how many seeds, and why. Fault where --budget is below them."""
+    tried = tried_seeds(check)
+    means = list(runner.mean_trips([runner.town.plan], tried))
     needed = seeds_for(means)
-    seeds = seeds_of(words.seeds, "--seeds") if words.seeds else tried[:needed]
+    seeds = given_seeds(words) or tried[:needed]
     differ = f"trips of the given plan differ by {100 * stdev(means) / fmean(means):.1f} % from seed to seed"
     advice = f", {needed} are advised" if len(seeds) < needed else ""
     print(f"{differ}: the search uses {len(seeds)} seed{'s' if len(seeds) > 1 else ''}{advice}", file=sys.stderr)
@@ -280,22 +241,13 @@ def search_seeds(words: argparse.Namespace, runner: Runner, tried: Sequence[int]
     return seeds
 
 
-def searched(
-    words: argparse.Namespace, runner: Runner, changed: Sequence[str], cycles: range, seeds: Sequence[int]
-) -> tuple[Search, bool]:
-    """Searches for a plan; gives (search when it has ended, whether the user ended it by Ctrl-C). changed, cycles: as
-    `changes_of` gives them; seeds: of the search. Fault where a run fails."""
-    town = runner.town
+def search_for_plan(words: argparse.Namespace, runner: Runner, check: range) -> tuple[Search, bool]:
+    """Searches for a plan; gives (search when it has ended, whether the user ended it by Ctrl-C)."""
+    town, seeds, (changed, cycles) = runner.town, search_seeds(words, runner, check), changes_and_cycles(words)
     streets = streets_of(town.run, town.mapping, town.lights)
 
-    def values(plans: Sequence[Plan]) -> Generator[float, None, None]:
-        """The mean trip, in seconds, of each plan over the seeds of the search, in the plans' order."""
-        means = runner.means(plans, seeds)
-        for _ in plans:
-            yield fmean(next(means) for _ in seeds)
-
-    def climbs(search: Search) -> None:
+    def search_from_given(search: Search) -> None:
         """Searches from the given plan."""
-        search_plan(search, town.plan, town.lights, streets, changed, lengths(cycles, town, streets))
+        search_plan(search, town.plan, town.lights, streets, changed, proposed_cycles(cycles, town, streets))
 
-    return ended_search(values, words.budget, len(seeds), climbs)
+    return ended_search(lambda plans: runner.mean_trips(plans, seeds), words.budget, len(seeds), search_from_given)

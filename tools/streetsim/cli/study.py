@@ -2,21 +2,22 @@
 import argparse
 import json
 import os
+from dataclasses import astuple
 
 from streetsim.base import program
-from streetsim.base.files import refuse_places, whole_file, whole_folder
+from streetsim.base.files import refuse_unwritable, whole_file, whole_folder
 from streetsim.base.progress import Meanwhile, Slow
 from streetsim.base.words import ROUNDS, Parser, add_rounds
 from streetsim.cli.given import given_words
-from streetsim.cli.signals import add_machines
+from streetsim.cli.words import add_machines
 from streetsim.model import trust
 from streetsim.model.sources import sum_of
 from streetsim.model.tables import write_table
 from streetsim.sessions.giving import outcome_giving_way
 from streetsim.sessions.machines import machines
 from streetsim.sessions.prepared import Outcome
-from streetsim.study.differences import DIFFERENCES, RUNS, differences, run_rows, written
-from streetsim.study.telling import doubts, draw, tell, tell_ends, tell_giving_way
+from streetsim.study.differences import DIFFERENCES, RUNS, cell_values, differences, run_rows
+from streetsim.study.telling import doubts, draw_differences, tell_differences, tell_ends, tell_giving_way
 from streetsim.study.variants import Study, read_study
 
 LAST = "differences.csv"
@@ -36,10 +37,7 @@ def parser() -> Parser:
     add_machines(made)
     add_rounds(made, None, f"default: rounds of the study, else {ROUNDS}")
     made.add_argument(
-        "--precision",
-        type=percent,
-        default=1.0,
-        metavar="PERCENT",
+        "--precision", type=percent, default=1.0, metavar="PERCENT",
         help="half the width that intervals are to have, of the base's mean trip (default %(default)s)",
     )
     made.add_argument("--out", required=True, metavar="DIR", help="the folder to write to")
@@ -58,11 +56,10 @@ def percent(text: str) -> float:
 
 
 def main(arguments: list[str]) -> int:
-    """Runs streetsim-study: makes the runs, writes the folder of --out, and prints the differences; gives status 0.
-    Fault where --out is no folder, the study cannot be read, a run fails, or a file cannot be written."""
+    """Runs streetsim-study: makes the runs, writes the folder of --out, and prints the differences; gives status 0."""
     made = parser()
     words = made.parse_args(arguments)
-    refuse_places(words.out, {}, ())
+    refuse_unwritable(words.out, {}, ())
     words.program = program.find_program(words.program)
     with Slow(f"reading {words.study}"):
         study = read_study(words.study, words.program, words.rounds)
@@ -72,11 +69,12 @@ def main(arguments: list[str]) -> int:
     named = [f"{name}: {text}" for name, texts in found.items() for text in texts]
     with whole_folder(words.out, LAST) as folder:
         write_table(f"{folder}/runs.csv", RUNS, run_rows(study, results))
-        write_table(f"{folder}/{LAST}", DIFFERENCES, (written((*row, "; ".join(found[row[0]]))) for row in rows))
+        told = (cell_values((*astuple(row), "; ".join(found[row.variant]))) for row in rows)
+        write_table(f"{folder}/{LAST}", DIFFERENCES, told)
         trust.write_doubts(folder, named)
         write_made(words, given_words(made, words, ELSEWHERE), folder)
-        draw(study, rows, f"{folder}/differences.png")
-    tell(rows)
+        draw_differences(study, rows, f"{folder}/differences.png")
+    tell_differences(rows)
     tell_ends(study, results)
     tell_giving_way(results)
     if named:
@@ -86,8 +84,7 @@ def main(arguments: list[str]) -> int:
 
 def write_made(words: argparse.Namespace, given: list[str], folder: str) -> None:
     """Writes by what the study is made again: its file, as a path from the folder of --out, its SHA-256, and the words
-    that change numbers (given). folder: where the file is written until it is whole. Fault where it cannot be
-    written."""
+    that change numbers (given). folder: where the file is written until it is whole."""
     path = os.path.relpath(os.path.realpath(words.study), os.path.realpath(words.out))
     with whole_file(f"{folder}/{MADE}") as file:
         json.dump({"study": path, "sum": sum_of(words.study), "words": given}, file)
@@ -101,8 +98,8 @@ def run_all(words: argparse.Namespace, study: Study) -> dict[str, list[Outcome]]
     results: dict[str, list[Outcome]] = {}
     with machines(words.jobs, words.cluster, sessions) as workers:
         tasks = [
-            (f"variant {name!r}, seed {seed}", outcome_giving_way, place, variant.signals, seed)
-            for place, (name, variant) in enumerate(study.variants.items())
+            (f"variant {name!r}, seed {seed}", outcome_giving_way, index, variant.signals, seed)
+            for index, (name, variant) in enumerate(study.variants.items())
             for seed in study.seeds
         ]
         found = workers.ordered(tasks)

@@ -1,12 +1,12 @@
 """Tables as planners keep them: CSV with commas, semicolons or tabs, whose rows know their line."""
 import csv
-from collections.abc import Callable, Collection, Iterator, Mapping, Sequence
+from collections.abc import Callable, Collection, Iterable, Iterator, Mapping, Sequence
 from dataclasses import dataclass
 from difflib import get_close_matches
-from math import isfinite
+from itertools import chain
 from typing import TypeVar
 
-from streetsim.base.files import Fault, FilePath, open_text, reading
+from streetsim.base.files import Fault, FilePath, at_least_zero, number, open_text, reading
 
 Value = TypeVar("Value")
 SEPARATORS = (";", "\t", ",")
@@ -40,71 +40,75 @@ class Row:
         return self.cells.get(name, "").strip()
 
 
-def rows_of(path: FilePath, needed: Sequence[str], more: Collection[str] = ()) -> Iterator[Row]:
-    """The rows of a table whose first line (blank ones apart) has the columns `needed`, and maybe those of `more`
-    (given in small letters; the file may have capital ones). Blank rows, and those that begin with #, are left out.
-    Fault where the file cannot be read, a column is missing, stands there twice or is none of these, or a row has more
-    or fewer values than the first line."""
+def table_rows(path: FilePath, needed: Sequence[str], more: Collection[str] = ()) -> Iterator[Row]:
+    """The rows of a table whose first row has the columns `needed`, and maybe those of `more` (given in small letters;
+    the file may have capital ones). Blank rows, and those that begin with #, are left out. Fault where the file cannot
+    be read or is no such table: a column is missing, stands there twice or is none of these, or a row has more or fewer
+    values than the first."""
     with reading(path), open_text(path) as file:
-        lines = (line for line in file)
-        first = next((line for line in lines if line.strip()), "")
-        separator = next((one for one in SEPARATORS if one in first), ",")
-        names = [name.strip().strip('"').lower() for name in first.strip().split(separator)]
-        check_columns(path, names, needed, more)
-        reader = csv.reader(lines, delimiter=separator)
-        for values in reader:
-            line = reader.line_num + 1
-            if not any(value.strip() for value in values) or values[0].startswith("#"):
-                continue
+        rows = values_in(path, file)
+        line, head = next(rows, (0, []))
+        if not head:
+            raise Fault(f"{path}: nothing is in it; expected the columns {','.join(needed)}")
+        names = [name.strip().lower() for name in head]
+        check_columns(f"{path}: line {line}", names, needed, more)
+        for line, values in rows:
             if len(values) != len(names):
                 raise Fault(f"{path}: line {line}: {len(values)} values, and the first line has {len(names)} columns")
             yield Row(path, line, dict(zip(names, values, strict=True)))
 
 
-def check_columns(path: FilePath, names: Sequence[str], needed: Sequence[str], more: Collection[str]) -> None:
+def values_in(path: FilePath, file: Iterable[str]) -> Iterator[tuple[int, list[str]]]:
+    """(the line on which it begins, its values) of each row that is not blank and does not begin with #; the first one
+    tells what stands between values. Fault for a quote that is not closed, or a text right behind one."""
+    lines, separator = enumerate(file, 1), ""
+    for line, text in lines:
+        if not text.strip() or text.startswith("#"):
+            continue
+        separator = separator or next((one for one in SEPARATORS if one in text), ",")
+        row = chain([text], (further for _, further in lines))  # as many lines as its quotes span
+        try:
+            values = next(csv.reader(row, delimiter=separator, strict=True))
+        except csv.Error as fault:
+            raise Fault(f"{path}: line {line}: not CSV: {fault}") from None
+        if any(value.strip() for value in values):
+            yield line, values
+
+
+def check_columns(where: str, names: Sequence[str], needed: Sequence[str], more: Collection[str]) -> None:
     """Fault for a table without a needed column, with one that is neither needed nor one of `more`, or with one twice.
-    names: the columns that it has."""
-    if names == [""]:
-        raise Fault(f"{path}: nothing is in it; expected the columns {','.join(needed)}")
+    where: the file and the line of its columns; names: these."""
     if missing := [name for name in needed if name not in names]:
-        raise Fault(f"{path}: line 1: no column {missing[0]!r}; it has {','.join(names)}")
-    if unknown := [name for name in names if name not in needed and name not in more]:
-        near = get_close_matches(unknown[0], [*needed, *more], 1)
-        raise Fault(
-            f"{path}: line 1: column {unknown[0]!r} is none of {','.join([*needed, *more])}"
-            f"{f': {near[0]!r}?' if near else ''}"
-        )
+        raise Fault(f"{where}: no column {missing[0]!r}; it has {','.join(names)}")
+    all_ = [*needed, *more]
+    if unknown := [name for name in names if name not in all_]:
+        near = get_close_matches(unknown[0], all_, 1)
+        raise Fault(f"{where}: column {unknown[0]!r} is none of {','.join(all_)}{f': {near[0]!r}?' if near else ''}")
     if len(set(names)) < len(names):
-        raise Fault(f"{path}: line 1: a column twice")
+        raise Fault(f"{where}: a column twice")
 
 
 def clock_of(text: str) -> int:
     """Whole seconds, 0 to 1,000,000,000, of 3600, 01:00:00, 0:01:00:00 (with days), or 01:00 (HH:MM) as planners write
-    it, with minutes and seconds below 60; ValueError otherwise."""
+    it, with minutes and seconds below 60; maybe with .00 behind, as SUMO writes. ValueError otherwise."""
     parts = text.split(":")
     try:
-        values = [float(part) for part in parts]
+        values = [float(part) for part in reversed(parts if len(parts) != 2 else [*parts, "0"])]
     except ValueError:
         values = []
-    if len(values) == 2:
-        values.append(0.0)
-    value = sum(part * scale for part, scale in zip(reversed(values), (1, 60, 3600, 86_400)))
-    if not 1 <= len(values) <= 4 or not isfinite(value) or value != int(value) or not 0 <= value <= MOST_SECONDS:
-        raise ValueError("is no time in whole seconds, HH:MM or HH:MM:SS")
-    if len(values) > 1 and not all(0 <= part < most for part, most in zip(reversed(values), (60, 60))):
+    value = sum(part * scale for part, scale in zip(values, (1, 60, 3600, 86_400)))
+    below = len(values) == 1 or all(0 <= part < 60 for part in values[:2])
+    if not (1 <= len(values) <= 4 and below and 0 <= value <= MOST_SECONDS and value == int(value)):
         raise ValueError("is no time in whole seconds, HH:MM or HH:MM:SS")
     return int(value)
 
 
-def vehicles_of(text: str) -> float:
+def vehicle_number(text: str) -> float:
     """A number of vehicles from 0 on, not always whole, as it may be a mean over days; ValueError otherwise."""
     try:
-        value = float(text)
+        return at_least_zero(number)(text)
     except ValueError:
         raise ValueError("is no number of vehicles") from None
-    if not isfinite(value) or value < 0:
-        raise ValueError("is no number of vehicles")
-    return value
 
 
 def name_of(text: str) -> str:

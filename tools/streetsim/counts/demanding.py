@@ -1,6 +1,6 @@
-"""Makes a demand from what a planner has: inputs read and checked, candidate ways, and the fit. What reckons with NumPy
-and SciPy raises a Fault where these are missing (science.needed)."""
-from collections import Counter
+"""Makes a demand from what a planner has: inputs read and checked, candidate ways, and the fit."""
+from bisect import bisect_right
+from collections import defaultdict
 from collections.abc import Callable, Iterable, Mapping, Sequence
 from dataclasses import dataclass
 from itertools import pairwise
@@ -11,22 +11,21 @@ from streetsim.base.report import Report
 from streetsim.counts import candidates, checking, fitting, matrices, ratios, walking
 from streetsim.counts.candidates import Pair, Times, Way
 from streetsim.counts.departing import trips_of
-from streetsim.counts.fitting import Expecting, Problem, counted_of, deviations
-from streetsim.counts.passing import Places, Slices, passing_matrix, slices_of
+from streetsim.counts.fitting import Expecting, Problem, counted_vehicles, deviations
+from streetsim.counts.passing import CountsByEdges, Slices, passing_matrix, slices_of
 from streetsim.counts.reading import read_counts
-from streetsim.counts.rounding import rounded
-from streetsim.counts.science import Array, Sparse, needed
-from streetsim.counts.values import Cell, Count, Zone
+from streetsim.counts.rounding import whole_vehicles
+from streetsim.counts.science import Array, Sparse, numpy_and_scipy
+from streetsim.counts.values import Count, MatrixCell, Zone, share_between
 from streetsim.counts.zones import read_zones
 from streetsim.routes.loading import Town
 from streetsim.sumo.demand import Demand
 from streetsim.sumo.types import CLASSES, Types
 from streetsim.ways.costs import Costs, flat_costs
-from streetsim.ways.empty import map_without_routes, times_without_routes
+from streetsim.ways.empty import map_without_routes, times_and_capacities_without_routes
 from streetsim.ways.seconds import free_seconds
 from streetsim.ways.trips import Trip
 
-CAR = "passenger"  # a class that needs no type of its own
 Told = Callable[[str], object]  # takes what is done just now, in words
 
 
@@ -41,7 +40,7 @@ class Asked:
     flows: tuple[str, ...] = ()
     ratios: tuple[str, ...] = ()
     candidates: tuple[str, ...] = ()
-    ways: int | None = None  # of a pair at most; none: 3, or 0 with files of candidates
+    ways: int | None = None  # between two edges at most; none: 3, or 0 with files of candidates
     most: int = 60_000  # candidate ways, about
     everywhere: bool = False  # trips begin and end on any edge
     error: float = fitting.ERROR  # of a count, as a share, by which it is taken to be wrong
@@ -51,20 +50,20 @@ class Asked:
 @dataclass(frozen=True, slots=True)
 class Basis:
     """What a fit stands on. kinds: vehicle classes that are told apart, empty for all others; given: by class the
-    vehicles of a matrix or of turn ratios, an array in one row, at the place way * slices + slice; free: seconds of
+    vehicles of a matrix or of turn ratios, an array in one row, at index way * slices + slice; free: seconds of
     each movement without other traffic, with the mean waits at signals."""
 
     town: Town
     counts: list[Count]
-    apart: list[checking.Contradiction]  # counts that contradict each other
+    contradictions: list[checking.Contradiction]  # of counts
     kinds: tuple[str, ...]
     pairs: list[Pair]
     ways: list[Way]
     slices: Slices
-    places: Places
+    by_edges: CountsByEdges
     given: Mapping[str, Array]
     free: Sequence[float]
-    thinned: tuple[int, int]  # pairs that were kept, of how many
+    kept_pairs: tuple[int, int]  # pairs that were kept, of how many
 
     def free_costs(self) -> Costs:
         """The costs of movements without other traffic, equal in all slices of time: the seconds of free, and more for
@@ -74,8 +73,8 @@ class Basis:
 
 @dataclass(frozen=True, slots=True)
 class Fitted:
-    """A fit on paper. Vehicles are arrays in one row, at the place (class * ways + way) * slices + slice. passing: the
-    matrix of the counts, a row for each count and a column for each place; expected: vehicles before anything was
+    """A fit on paper. Vehicles are arrays in one row, at index (class * ways + way) * slices + slice. passing: the
+    matrix of the counts, a row for each count and a column for each index; expected: vehicles before anything was
     counted; vehicles: of the fit; whole: the same in whole vehicles."""
 
     passing: Sparse
@@ -83,46 +82,46 @@ class Fitted:
     vehicles: Array
     whole: Array
 
-    def passed(self) -> list[float]:
+    def passed_by_count(self) -> list[float]:
         """How many of the whole vehicles would pass each count, by the seconds of the fit."""
-        return [float(value) for value in self.passing @ self.whole]
+        return (self.passing @ self.whole).tolist()
 
 
-def basis_of(town: Town, asked: Asked, told: Told = lambda _text: None) -> Basis:
+def basis_of(town: Town, asked: Asked, told: Told) -> Basis:
     """Reads and checks what was asked for, and finds the candidate ways. Classes of counts and matrices, and types of
-    files of candidates, are added to the vehicle types of the town. Fault for what cannot be used, and without SciPy.
-    told: gets what is done just now."""
-    needed()
-    refuse_nothing(asked)
+    files of candidates, are added to the vehicle types of the town. Fault for what cannot be used and without SciPy."""
+    numpy_and_scipy()
+    check_asked(asked)
     told("reading counts")
     counts = read_counts(asked.counts, asked.attribute)
     if counts:
         checking.check_counts(counts, town.net, town.graph)
-    free = list(times_without_routes(town.net, town.graph, town.options)[0])
+    free = list(times_and_capacities_without_routes(town.net, town.graph, town.options)[0])
     driven = free_seconds(town.graph, map_without_routes(town.net, town.options), [], town.dawdle)
     zones, cells = read_matrix(asked, counts, town)
-    kinds = kinds_of(counts, cells, town.types)
+    kinds = kinds_of(counts, cells)
+    add_types(kinds, town.types)
     told("finding ways")
     if asked.flows:
-        pairs, ways, departs = by_ratios(town, asked, free)
+        pairs, ways, departs = ways_by_ratios(town, asked, free)
         thinned = len(pairs), len(pairs)
     else:
-        pairs, ways, thinned = by_pairs(town, asked, Times(free, driven), zones, cells)
+        pairs, ways, thinned = ways_of_pairs(town, asked, Times(free, driven), zones, cells)
         departs = []
     if not ways:
         raise Fault("no way leads from any place where trips begin to one where they end")
     lead = max(way.seconds for way in ways) if counts and not cells and not departs else 0.0
-    slices = slices_of(bounds_of(counts, cells, departs), lead, town.options.begin)
-    places = Places(counts, town.graph)
-    given = by_cells(cells, pairs, ways, slices) if cells else by_departures(departs, slices, len(ways))
+    slices = slices_of(slice_bounds(counts, cells, departs), lead, town.options.begin)
+    by_edges = CountsByEdges(counts, town.graph)
+    given = cell_vehicles(cells, pairs, ways, slices) if cells else departing_vehicles(departs, slices, len(ways))
     begins, ends = {one for pair in pairs for one in pair.sources}, {one for pair in pairs for one in pair.sinks}
     apart = checking.contradictions(counts, town.graph, begins, ends)
-    return Basis(town, counts, apart, kinds, pairs, ways, slices, places, given, free, thinned)
+    return Basis(town, counts, apart, kinds, pairs, ways, slices, by_edges, given, free, thinned)
 
 
-def refuse_nothing(asked: Asked) -> None:
-    """Fault where nothing is given that a demand could be made of, or words do not fit together, so that one leaves
-    another without effect."""
+def check_asked(asked: Asked) -> None:
+    """Fault where nothing is given that a demand could be made of, files that do not go together are given, or ways are
+    neither searched nor given."""
     if not (asked.counts or asked.matrices or asked.flows):
         raise Fault("nothing to make a demand of: give --counts, --matrix or --flows with --ratios")
     if bool(asked.flows) != bool(asked.ratios):
@@ -133,10 +132,10 @@ def refuse_nothing(asked: Asked) -> None:
         raise Fault("--ways 0 leaves no candidates: give files of routes after --candidates")
 
 
-def read_matrix(asked: Asked, counts: Sequence[Count], town: Town) -> tuple[dict[str, Zone], list[Cell]]:
+def read_matrix(asked: Asked, counts: Sequence[Count], town: Town) -> tuple[dict[str, Zone], list[MatrixCell]]:
     """({name: zone}, cells of the matrix between zones); without zones a matrix is between edges, each of which is then
-    a zone. Cells without a period have that from the first begin to the last end of counts. Fault for zones or edges
-    that are not known, and for a matrix without a vehicle."""
+    a zone. Cells without a period have that from the first begin to the last end of counts. Fault for files that cannot
+    be read, zones or edges that are not known, and a matrix without a vehicle."""
     zones = read_zones(asked.zones)
     for zone in zones.values():
         checking.check_edges([*zone.sources, *zone.sinks], zone.where, town.net)
@@ -153,25 +152,26 @@ def read_matrix(asked: Asked, counts: Sequence[Count], town: Town) -> tuple[dict
     return zones, cells
 
 
-def kinds_of(counts: Iterable[Count], cells: Iterable[Cell], types: Types) -> tuple[str, ...]:
+def kinds_of(counts: Iterable[Count], cells: Iterable[MatrixCell]) -> tuple[str, ...]:
     """The classes that are told apart by counts and matrix, sorted; empty stands for all others, which are cars, and is
-    alone where none is told apart. Each other one becomes a vehicle type in `types`, if none of its name is there;
-    Fault for one that SUMO does not have."""
-    found = dict.fromkeys([*((one.kind, one.where) for one in counts), *((one.kind, one.where) for one in cells)])
-    for kind, where in found:
-        if kind and kind not in CLASSES:
-            raise Fault(f"{where}: SUMO has no vehicle class {kind!r}; it has {', '.join(CLASSES)}")
-    kinds = tuple(sorted({kind for kind, _ in found})) or ("",)
-    for kind in kinds:
-        if kind and kind not in types.kinds:
-            types.read("the classes of counts", Element("vType", {"id": kind, "vClass": kind}))
-    return kinds
+    alone where none is told apart. Fault for one that SUMO does not have."""
+    dated: list[Count | MatrixCell] = [*counts, *cells]
+    for one in dated:
+        if one.kind and one.kind not in CLASSES:
+            raise Fault(f"{one.where}: SUMO has no vehicle class {one.kind!r}; it has {', '.join(CLASSES)}")
+    return tuple(sorted({one.kind for one in dated})) or ("",)
 
 
-def by_pairs(
-    town: Town, asked: Asked, times: Times, zones: Mapping[str, Zone], cells: Sequence[Cell]
+def add_types(kinds: Iterable[str], types: Types) -> None:
+    """Adds to the types one for each class, but the empty one, where there is none of its name."""
+    for kind in sorted({*kinds} - {"", *types.kinds}):
+        types.read_element("the classes of counts", Element("vType", {"id": kind, "vClass": kind}))
+
+
+def ways_of_pairs(
+    town: Town, asked: Asked, times: Times, zones: Mapping[str, Zone], cells: Sequence[MatrixCell]
 ) -> tuple[list[Pair], list[Way], tuple[int, int]]:
-    """(pairs of a matrix, else of zones, else of entries and exits; their ways, with those of route files; (pairs that
+    """(pairs of a matrix, else of zones, else as of pairs_of_edges, and those of route files; their ways; (pairs that
     were kept, of how many)). Without a matrix pairs and ways are thinned to about `asked.most` ways. Where no ways are
     searched (asked.ways), all are of the route files. Fault as of given_routes."""
     graph = town.graph
@@ -187,11 +187,11 @@ def by_pairs(
         pairs = []
     kept = pairs
     if count and not cells:
-        kept, count = candidates.thinned(pairs, count, asked.most, asked.seed)
+        kept, count = candidates.thinned_pairs(pairs, count, asked.most, asked.seed)
     ways = candidates.ways_between(graph, kept, times, count, asked.seed) if count else []
     if asked.candidates:
         routes = given_routes(town, asked)
-        kept, ways = candidates.with_given(graph, kept, ways, routes, times.whole)
+        kept, ways = candidates.with_given_routes(graph, kept, ways, routes, times.whole)
     return kept, ways, (len(kept), max(len(pairs), len(kept)))
 
 
@@ -201,8 +201,8 @@ def given_routes(town: Town, asked: Asked) -> list[tuple[str, ...]]:
     Fault where the files have no route, or no connection leads from an edge to the next."""
     demand = Demand(town.net, town.types, asked.seed, Report())
     for path in asked.candidates:
-        demand.read(path)
-    driven = [vehicle.edges for vehicle in demand.finish()]
+        demand.read_file(path)
+    driven = [vehicle.edges for vehicle in demand.completed_vehicles()]
     taken = set(driven)
     found = [*driven, *(edges for edges in demand.routes.values() if edges not in taken)]
     if not found:
@@ -215,116 +215,112 @@ def given_routes(town: Town, asked: Asked) -> list[tuple[str, ...]]:
     return [edges for edges in found if len(edges) > 1]
 
 
-def by_ratios(
+def ways_by_ratios(
     town: Town, asked: Asked, free: Sequence[float]
 ) -> tuple[list[Pair], list[Way], list[tuple[float, int]]]:
-    """(pairs that turn ratios give, their ways, (departure in seconds, place of its way among these) of each vehicle).
+    """(pairs that turn ratios give, their ways, (departure in seconds, index of its way among these) of each vehicle).
     free: seconds of each movement. Fault for a file that is wrong, and where the ratios lead to no end."""
     found, sinks = ratios.read_ratios(asked.ratios)
     inflows = ratios.read_inflows(asked.flows, asked.seed)
     turns = walking.Turns(found, sinks, town.net, town.graph)
-    walks = list(walking.walked(inflows, turns, free, town.net, asked.seed))
+    walks = list(walking.walks_of(inflows, turns, free, town.net, asked.seed))
     routes = [town.graph.names(path) for _, path in walks]
-    pairs, ways = candidates.with_given(town.graph, [], [], routes, free)
-    place = {way.path: at for at, way in enumerate(ways)}
-    return pairs, ways, [(depart, place[path]) for depart, path in walks]
+    pairs, ways = candidates.with_given_routes(town.graph, [], [], routes, free)
+    index = {way.path: at for at, way in enumerate(ways)}
+    return pairs, ways, [(depart, index[path]) for depart, path in walks]
 
 
-def bounds_of(counts: Iterable[Count], cells: Iterable[Cell], departs: Sequence[tuple[float, int]]) -> list[int]:
-    """The begins and ends of slices in seconds, rising: of counts and of cells, and where there are departures (second,
-    place of the way) too, the first of these if it is sooner; without counts and cells the first departure and the
-    second after the last. Fault where they make no period."""
+def slice_bounds(
+    counts: Iterable[Count], cells: Iterable[MatrixCell], departs: Sequence[tuple[float, int]]
+) -> list[int]:
+    """The begins and ends of slices in seconds, rising: of counts and of cells, and of departures (second, index of the
+    way) the first one and the second after the last, where these are sooner and later. Fault where there are none."""
     periods = [*((one.begin, one.end) for one in counts), *((one.begin, one.end) for one in cells)]
     bounds = {bound for period in periods for bound in period}
-    if departs and not bounds:
-        bounds = {int(min(depart for depart, _ in departs)), int(max(depart for depart, _ in departs)) + 1}
-    elif departs:
-        bounds |= {min(*bounds, int(min(depart for depart, _ in departs)))}
-    if len(bounds) < 2:
+    if departs:
+        seconds = [int(depart) for depart, _ in departs]
+        bounds |= {min([*bounds, *seconds]), max([*bounds, max(seconds) + 1])}
+    if not bounds:
         raise Fault("there is no period in which vehicles depart")
     return sorted(bounds)
 
 
-def by_cells(cells: Sequence[Cell], pairs: Sequence[Pair], ways: Sequence[Way], slices: Slices) -> dict[str, Array]:
-    """{class: the vehicles of a matrix, an array in one row, at the place way * slices + slice}: those of a cell over
+def cell_vehicles(
+    cells: list[MatrixCell], pairs: Sequence[Pair], ways: Sequence[Way], slices: Slices
+) -> dict[str, Array]:
+    """{class: the vehicles of a matrix, an array in one row, at index way * slices + slice}: those of a cell over
     the slices of its period, evenly, and over the ways of its pair by their shares. Cells whose pair is not among
     `pairs`, or has no way, are left out."""
-    numpy, _ = needed()
-    place = {(pair.source, pair.target): at for at, pair in enumerate(pairs)}
+    numpy, _ = numpy_and_scipy()
+    pair_of = {(pair.source, pair.target): at for at, pair in enumerate(pairs)}
     of_pair: dict[str, Array] = {}
     for cell in cells:
         rows = of_pair.setdefault(cell.kind, numpy.zeros((len(pairs), len(slices))))
-        at = place.get((cell.source, cell.target))
-        for slice_, (begin, end) in enumerate(pairwise(slices.bounds)):
-            share = (min(end, cell.end) - max(begin, cell.begin)) / (cell.end - cell.begin)
-            if share > 0 and at is not None:
-                rows[at, slice_] += cell.vehicles * share
+        if (at := pair_of.get((cell.source, cell.target))) is not None:
+            rows[at] += [cell.vehicles * share_between(cell, *bounds) for bounds in pairwise(slices.bounds)]
     pair, shares = numpy.array([way.pair for way in ways]), numpy.array([[way.share] for way in ways])
     return {kind: (rows[pair] * shares).ravel() for kind, rows in of_pair.items()}
 
 
-def by_departures(departs: Sequence[tuple[float, int]], slices: Slices, ways: int) -> dict[str, Array]:
-    """{"": the vehicles, an array in one row, at the place way * slices + slice}, of departures (second, place of the
-    way); an empty dict where there are none. One before the first slice counts in it, one after the last in that. ways:
-    how many there are."""
+def departing_vehicles(departs: Sequence[tuple[float, int]], slices: Slices, ways: int) -> dict[str, Array]:
+    """{"": the vehicles, an array in one row, at index way * slices + slice}, of departures (second, index of the
+    way), all within the slices; an empty dict where there are none. ways: how many there are."""
     if not departs:
         return {}
-    numpy, _ = needed()
+    numpy, _ = numpy_and_scipy()
     found = numpy.zeros((ways, len(slices)))
     for depart, way in departs:
-        slice_ = next((at for at, end in enumerate(slices.bounds[1:]) if depart < end), len(slices) - 1)
-        found[way, slice_] += 1
+        found[way, bisect_right(slices.bounds, depart) - 1] += 1
     return {"": found.ravel()}
 
 
-def stacked(basis: Basis, costs: Costs) -> Sparse:
+def passing_by_class(basis: Basis, costs: Costs) -> Sparse:
     """The passing_matrix of each class, side by side, as one sparse matrix: rows are counts, columns class, way and
-    slice, as Fitted has the places. A count of one class has shares in the columns of this alone, one without a class
+    slice, as Fitted has them. A count of one class has shares in the columns of this alone, one without a class
     in all. costs: seconds of movements."""
-    numpy, scipy = needed()
-    base = passing_matrix(basis.town.graph, basis.ways, basis.slices, basis.places, costs)
+    numpy, scipy = numpy_and_scipy()
+    base = passing_matrix(basis.town.graph, basis.ways, basis.slices, basis.by_edges, costs)
     masks = [numpy.array([float(one.kind in ("", kind)) for one in basis.counts]) for kind in basis.kinds]
     return scipy.sparse.hstack([scipy.sparse.diags(mask) @ base for mask in masks]).tocsr()
 
 
-def fit(basis: Basis, asked: Asked, costs: Costs, counted: Array = None) -> Fitted:
+def fit_to_counts(basis: Basis, asked: Asked, costs: Costs, counted: Array = None) -> Fitted:
     """The vehicles that fit the counts best; without counts those that are expected. costs: seconds of movements, by
     which it is known who passes when; counted: an array of the vehicles to be met, by count, where a run has corrected
     them; None: what was counted. Fault where there are counts, and too many ways and slices (passing_matrix)."""
-    numpy, scipy = needed()
+    numpy, scipy = numpy_and_scipy()
     size = len(basis.ways) * len(basis.slices)
-    passing = stacked(basis, costs) if basis.counts else scipy.sparse.csr_matrix((0, len(basis.kinds) * size))
-    counted = counted_of(basis.counts) if counted is None else counted
+    passing = passing_by_class(basis, costs) if basis.counts else scipy.sparse.csr_matrix((0, len(basis.kinds) * size))
+    counted = counted_vehicles(basis.counts) if counted is None else counted
     parts = [
-        expected_of(basis, asked, kind, passing[:, at * size : (at + 1) * size], counted)
+        expected_vehicles(basis, asked, kind, passing[:, at * size : (at + 1) * size], counted)
         for at, kind in enumerate(basis.kinds)
     ]
     vehicles = expected = numpy.concatenate(parts)
     if basis.counts:
         deviation = deviations(counted, asked.error) / fitting.FIRM**0.5
-        vehicles = fitting.solved(Problem(passing, expected, counted, deviation))
-    return Fitted(passing, expected, vehicles, rounded(vehicles, passing, asked.seed, asked.error))
+        vehicles, _ = fitting.least_squares(Problem(passing, expected, counted, deviation))
+    return Fitted(passing, expected, vehicles, whole_vehicles(vehicles, passing, asked.seed, asked.error))
 
 
-def expected_of(basis: Basis, asked: Asked, kind: str, base: Sparse, counted: Array) -> Array:
+def expected_vehicles(basis: Basis, asked: Asked, kind: str, base: Sparse, counted: Array) -> Array:
     """The vehicles of a class that are expected of each way and slice, an array in one row: of a matrix or of ratios,
     else by the counts of the class; for the empty class by those of all vehicles, less those of classes that are
-    counted at the same place and period. base: the matrix's columns of this class; counted: vehicles by count. All 0
-    where the class has no count."""
-    numpy, _ = needed()
+    counted there in that time; else 0. base: the class's columns of passing_by_class; counted: vehicles by count."""
+    numpy, _ = numpy_and_scipy()
     if kind in basis.given:
         return basis.given[kind]
     rows = [at for at, one in enumerate(basis.counts) if one.kind == kind]
     if not rows:
         return numpy.zeros(base.shape[1])
-    others: Counter[tuple[int, int, tuple[str, ...]]] = Counter()
-    for one in basis.counts if not kind else ():
-        if one.kind:
-            others[one.begin, one.end, one.edges] += one.vehicles  # type: ignore[assignment]
-    less = [others[one.begin, one.end, one.edges] for one in (basis.counts[at] for at in rows)]
+    others: defaultdict[tuple[str, ...], list[Count]] = defaultdict(list)
+    for one in basis.counts:
+        if one.kind and not kind:
+            others[one.edges].append(one)
+    whole = [basis.counts[at] for at in rows]
+    less = [sum(some.vehicles * share_between(some, one.begin, one.end) for some in others[one.edges]) for one in whole]
     own = numpy.maximum(counted[rows] - numpy.array(less), 0.0)
-    expecting = Expecting(basis.ways, basis.pairs, basis.slices, asked.error)
-    return expecting.without_matrix(base[rows], own)
+    return Expecting(basis.ways, basis.pairs, basis.slices, asked.error).vehicles_by_counts(base[rows], own)
 
 
 def trips_of_fit(basis: Basis, asked: Asked, fitted: Fitted) -> list[Trip]:

@@ -12,9 +12,8 @@ from streetsim.ways.trips import Trip
 
 def trips_of(whole: Array, kinds: Sequence[str], ways: Sequence[Way], slices: Slices, seed: int) -> list[Trip]:
     """Trips by departure, with numbers as names. Those of a slice that begin on one edge are spread over all of it, one
-    after another in random order, each at a random moment of its part. whole: numbers of vehicles in one row, at the
-    place (class * ways + way) * slices + slice; kinds: the classes, an empty text for the usual one; seed: of the
-    draws."""
+    after another in random order, each at a random moment of its part. whole: numbers of vehicles in one row, at
+    index (class * ways + way) * slices + slice; kinds: the classes, an empty text for the usual one."""
     count = len(slices)
     begun: defaultdict[tuple[int, int], list[tuple[str, Way]]] = defaultdict(list)
     for at in whole.nonzero()[0].tolist():
@@ -25,8 +24,8 @@ def trips_of(whole: Array, kinds: Sequence[str], ways: Sequence[Way], slices: Sl
     for (slice_, _), some in sorted(begun.items()):
         draws.shuffle(some)
         width = (slices.bounds[slice_ + 1] - slices.bounds[slice_]) / len(some)
-        for place, (kind, way) in enumerate(some):
-            found.append((slices.bounds[slice_] + width * (place + draws.random()), kind, way))
+        for at, (kind, way) in enumerate(some):
+            found.append((slices.bounds[slice_] + width * (at + draws.random()), kind, way))
     found.sort(key=lambda one: one[0])
     return [
         Trip(str(at), depart, way.path[0], way.path[-1], kind or DEFAULT, way.path, depart)

@@ -1,6 +1,6 @@
 """Makes a demand from its basis to its files: fitted, run as often as asked for, written, and told."""
 import sys
-from collections.abc import Callable
+from collections.abc import Callable, Sequence
 from dataclasses import asdict, dataclass
 
 from streetsim.base import limits
@@ -8,24 +8,25 @@ from streetsim.base.files import Json, whole_folder
 from streetsim.counts import correcting, demanding
 from streetsim.counts.correcting import Attempt
 from streetsim.counts.demanding import Asked, Basis, Fitted
-from streetsim.counts.fitting import uncounted
+from streetsim.counts.fitting import unreachable_counts
 from streetsim.counts.judging import Judged, judged
-from streetsim.counts.pictures import draw
-from streetsim.counts.writing import AT_WISH, NAME, write_demand, write_judged, write_setting
+from streetsim.counts.pictures import draw_fit
+from streetsim.counts.writing import AT_WISH, write_demand, write_judged
 from streetsim.model import trust
 from streetsim.routes.loading import write_loaded
+from streetsim.routes.results import NAME, write_setting
 from streetsim.routes.watching import Ground
-from streetsim.sessions.prepared import digest_of
+from streetsim.sessions.prepared import program_digest
 from streetsim.ways.trips import Trip, Trips, write_routes
 
-SLICE = 300  # seconds over which the seconds of movements are means
-MOST_TOLD = 5  # warnings of a kind
+SLICE = 300  # seconds of a slice of time, over which the seconds of movements are means
+MOST_TOLD = 5  # warnings of one sort
 
 
 @dataclass(frozen=True, slots=True)
 class Outputs:
-    """Where outputs go: paths of the vehicles, of the folder of tables, and of the run with its map; none where these
-    are not asked for."""
+    """Where outputs go: paths of the vehicles, of the folder of tables, and of the run with its map; these two are none
+    where they are not asked for."""
 
     routes: str
     folder: str
@@ -45,31 +46,26 @@ class Running:
 @dataclass(frozen=True, slots=True)
 class Made:
     """A demand, with all runs that were tried. judged: how it meets the counts, none where there are none; trips: its
-    vehicles."""
+    vehicles; best: the run that it is of, none where nothing was run."""
 
     basis: Basis
     fitted: Fitted
     tried: list[Attempt]
     judged: Judged | None
     trips: list[Trip]
-
-    @property
-    def best(self) -> Attempt | None:
-        """The run that fits best; none where nothing was run."""
-        return correcting.best_of(self.tried) if self.tried else None
+    best: Attempt | None
 
 
-def tried(
+def run_and_tell(
     basis: Basis, asked: Asked, wanted: Running, fitted: Fitted, ends: Callable[[], bool], told: demanding.Told
 ) -> list[Attempt]:
     """Runs until the demand fits, all runs are used up, or the user asks for an end (which `ends` tells); prints a line
     on standard error after each, and gives them all. Each run ends correcting.AFTER seconds after the last slice at the
     latest. Fault where a run cannot be made."""
     until = min(limits.CLOCK, basis.slices.bounds[-1] + correcting.AFTER)
-    program = wanted.program
-    ground = Ground(program, digest_of(program), basis.town.graph, SLICE, until, wanted.rounds)
+    ground = Ground(wanted.program, program_digest(wanted.program), basis.town.graph, SLICE, until, wanted.rounds)
     found: list[Attempt] = []
-    for one in correcting.attempts(basis, asked, ground, wanted.runs, fitted, told):
+    for one in correcting.try_demands(basis, asked, ground, wanted.runs, fitted, told):
         print(one.line(), file=sys.stderr, flush=True)
         found.append(one)
         if ends():
@@ -77,48 +73,59 @@ def tried(
     return found
 
 
-def made_of(basis: Basis, asked: Asked, fitted: Fitted, tried: list[Attempt]) -> Made:
+def best_demand(basis: Basis, asked: Asked, fitted: Fitted, tried: list[Attempt]) -> Made:
     """The demand of the run that fits best, or of the fit on paper where nothing was run. Fault where that has no
     vehicle."""
     if tried:
-        best = correcting.best_of(tried)
-        return Made(basis, best.fitted, tried, best.judged, best.trips)
-    on_paper = judged(basis.counts, fitted.passed()) if basis.counts else None
-    return Made(basis, fitted, [], on_paper, demanding.trips_of_fit(basis, asked, fitted))
+        best = max(tried, key=Attempt.rank)  # the first of equal ones
+        return Made(basis, best.fitted, tried, best.judged, best.trips, best)
+    on_paper = judged(basis.counts, fitted.passed_by_count()) if basis.counts else None
+    return Made(basis, fitted, [], on_paper, demanding.trips_of_fit(basis, asked, fitted), None)
 
 
 def tell_inputs(basis: Basis, fitted: Fitted) -> None:
-    """Prints on standard error what is noticed of the counts before anything runs: contradictions and counts that no
-    way passes (five of each, and how many more), and how many pairs were left out."""
-    for one in basis.apart[:MOST_TOLD]:
-        print(f"warning: counts contradict each other: {one.told()}", file=sys.stderr)
-    if (more := len(basis.apart) - MOST_TOLD) > 0:
-        print(f"warning: {more:,} more contradictions: contradictions.csv", file=sys.stderr)
-    none = uncounted(fitted.passing, basis.counts)
-    for count in none[:MOST_TOLD]:
-        period = f"from {count.begin:,} to {count.end:,} s"
-        print(f"warning: no way passes {count.place()} {period}: {count.where}", file=sys.stderr)
-    if (more := len(none) - MOST_TOLD) > 0:
-        print(f"warning: no way passes {more:,} more counts", file=sys.stderr)
-    kept, all_ = basis.thinned
+    """Prints on standard error what is noticed before anything runs: counts that contradict each other, counts that no
+    way passes, pairs of a matrix without a way, and how many of the pairs were kept, where not all were."""
+    apart = [f"counts contradict each other: {one.line()}" for one in basis.contradictions]
+    warn(apart, "{:,} more contradictions: contradictions.csv")
+    none = [
+        f"no way passes {one.edges_told()} from {one.begin:,} to {one.end:,} s: {one.where}"
+        for one in unreachable_counts(fitted.passing, basis.counts)
+    ]
+    warn(none, "no way passes {:,} more counts")
+    joined = {way.pair for way in basis.ways}
+    lost = [pair for at, pair in enumerate(basis.pairs) if basis.given and at not in joined]
+    warn(
+        [f"no way leads from {one.source} to {one.target}: vehicles of the matrix are left out" for one in lost],
+        "no way leads from one to the other zone of {:,} more pairs",
+    )
+    kept, all_ = basis.kept_pairs
     if kept < all_:
         print(f"{kept:,} of {all_:,} pairs are drawn, for {len(basis.ways):,} ways (--most)", file=sys.stderr)
 
 
-def write(places: Outputs, made: Made, setting: Json) -> None:
+def warn(texts: Sequence[str], more: str) -> None:
+    """Prints warnings of one sort on standard error, five at most, and how many more there are by `more`."""
+    further = [more.format(len(texts) - MOST_TOLD)] if len(texts) > MOST_TOLD else []
+    for text in [*texts[:MOST_TOLD], *further]:
+        print(f"warning: {text}", file=sys.stderr)
+
+
+def write_made(paths: Outputs, made: Made, setting: Json) -> None:
     """Writes the vehicles, the tables and pictures, and the run with its map where they are asked for; setting: what
     goes into setting.json. Fault where a file cannot be written, and without runs as of Town.loaded."""
     basis = made.basis
     loaded = made.best.loaded if made.best else basis.town.loaded(made.trips)
     types = [f'<vType id="{kind}" vClass="{kind}"/>' for kind in basis.kinds if kind]
-    write_routes(places.routes, Trips(list(made.trips), types), basis.town.graph)
-    if places.run and places.mapping:
-        write_loaded(loaded, places.run, places.mapping)
-    with whole_folder(places.folder, NAME, AT_WISH) as folder:
+    write_routes(paths.routes, Trips(list(made.trips), types), basis.town.graph)
+    if paths.run and paths.mapping:
+        write_loaded(loaded, paths.run, paths.mapping)
+    with whole_folder(paths.folder, NAME, AT_WISH) as folder:
         write_demand(folder, basis, made.fitted, made.tried)
         if made.judged:
             write_judged(folder, made.judged)
-            draw(folder, made.judged, loaded.mapping.links, "passed in the run" if made.tried else "fitted on paper")
+            what = "passed in the run" if made.tried else "fitted on paper"
+            draw_fit(folder, made.judged, loaded.mapping.links, what)
         write_setting(folder, setting)
 
 
@@ -133,8 +140,9 @@ def setting_of(asked: Asked, made: Made, runs: int) -> Json:
     }
 
 
-def tell(made: Made) -> int:
-    """Prints what was made and how well it fits; gives the status: 1 where counts do not fit, else 0."""
+def tell_result(made: Made) -> int:
+    """Prints what was made, how well it fits and why it is not to be trusted; gives the status: 1 where counts do not
+    fit, else 0."""
     slices, ways = made.basis.slices, made.basis.ways
     print(
         f"{len(made.trips):,} vehicles from {slices.bounds[0]:,} to {slices.bounds[-1]:,} s on "
@@ -146,8 +154,8 @@ def tell(made: Made) -> int:
         print("on paper, by seconds without other traffic (--runs N judges in the simulation):")
     print(*made.judged.lines(), sep="\n")
     if made.best:
-        for line in correcting.left_over(made.basis, made.best):
+        for line in correcting.misfits_told(made.basis, made.best):
             print(line)
         if doubts := correcting.doubts_of(made.best):
             print(trust.verdict(doubts))
-    return 0 if made.judged.fits else 1
+    return 0 if made.judged.meets_criteria else 1

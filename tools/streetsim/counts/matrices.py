@@ -4,27 +4,27 @@ from collections.abc import Iterable, Iterator, Mapping
 from dataclasses import replace
 
 from streetsim.base.files import Fault, FilePath, open_text, reading
-from streetsim.counts.cells import begins_with, clock_of, name_of, period_of, rows_of, vehicles_of
-from streetsim.counts.reading import BY_TURN, clock_rounded, number_in
-from streetsim.counts.tags import tags
-from streetsim.counts.values import Cell, Zone, overlapping
+from streetsim.counts.cells import begins_with, clock_of, name_of, period_of, table_rows, vehicle_number
+from streetsim.counts.reading import BY_TURN, vehicles_of_tag
+from streetsim.counts.tags import read_tags
+from streetsim.counts.values import MatrixCell, Zone, overlapping_pairs
 
 COLUMNS = ("from", "to", "vehicles")
 MORE = ("begin", "end", "class")
 
 
-def read_matrices(paths: Iterable[FilePath], period: tuple[int, int] | None) -> list[Cell]:
+def read_matrices(paths: Iterable[FilePath], period: tuple[int, int] | None) -> list[MatrixCell]:
     """The cells of files, by the format that each begins with. Fault where a file cannot be read, is of none of the
     formats or has no cell, or two cells of one pair and class have periods that overlap. period: (begin, end),
-    seconds, of cells of tables without these columns; None: such tables are a Fault."""
-    found: list[Cell] = []
+    seconds, of rows of tables that tell none; None: such rows are a Fault."""
+    found: list[MatrixCell] = []
     for path in paths:
         if begins_with(path, "<"):
-            own = list(of_sumo(path))
+            own = list(cells_in_sumo(path))
         elif begins_with(path, "$"):
-            own = list(of_format(path))
+            own = list(cells_in_o_or_v(path))
         else:
-            own = list(of_table(path, period))
+            own = list(cells_in_table(path, period))
         if not own:
             raise Fault(f"{path}: no pair of zones is in it")
         found += own
@@ -32,18 +32,18 @@ def read_matrices(paths: Iterable[FilePath], period: tuple[int, int] | None) -> 
     return found
 
 
-def refuse_twice(cells: Iterable[Cell]) -> None:
+def refuse_twice(cells: Iterable[MatrixCell]) -> None:
     """Fault for two cells of one pair and class whose periods overlap."""
-    for first, second in overlapping(cells, lambda one: (one.source, one.target, one.kind)):
+    for first, second in overlapping_pairs(cells, lambda one: (one.source, one.target, one.kind)):
         same = (first.begin, first.end) == (second.begin, second.end)
         how = "a second time, as" if same else f"is told already until {first.end:,} s, by"
         raise Fault(f"{second.where}: {second.source} to {second.target} {how} {first.where}")
 
 
-def of_table(path: FilePath, period: tuple[int, int] | None) -> Iterator[Cell]:
+def cells_in_table(path: FilePath, period: tuple[int, int] | None) -> Iterator[MatrixCell]:
     """The cells of a CSV table: from,to,vehicles, and maybe begin,end,class; Fault for other columns or values, and
     where a row has no period and none is given."""
-    for row in rows_of(path, COLUMNS, MORE):
+    for row in table_rows(path, COLUMNS, MORE):
         if row.text("begin") or row.text("end"):
             begin, end = period_of(row.get("begin", clock_of), row.get("end", clock_of), row.where)
         elif period:
@@ -51,26 +51,25 @@ def of_table(path: FilePath, period: tuple[int, int] | None) -> Iterator[Cell]:
         else:
             raise Fault(f"{path}: no columns begin and end, and no counts whose periods would be those of the matrix")
         source, target = row.get("from", name_of), row.get("to", name_of)
-        yield Cell(begin, end, source, target, row.get("vehicles", vehicles_of), row.where, row.text("class"))
+        yield MatrixCell(begin, end, source, target, row.get("vehicles", vehicle_number), row.where, row.text("class"))
 
 
-def of_sumo(path: FilePath) -> Iterator[Cell]:
-    """The cells of a file of SUMO's tazRelations; Fault for any other element, and for a relation before the first
-    interval, which would have no end."""
+def cells_in_sumo(path: FilePath) -> Iterator[MatrixCell]:
+    """The cells of a file of SUMO's tazRelations; Fault for any other element, and for a relation in no interval."""
     begin = end = 0
-    for tag in tags(path, ("data", "meandata", "tazRelations")):
+    for tag in read_tags(path, ("data", "meandata", "tazRelations")):
         if tag.name == "interval":
-            begin, end = period_of(tag.get("begin", clock_rounded), tag.get("end", clock_rounded), tag.where)
-        elif tag.name == "tazRelation" and not end:
+            begin, end = period_of(tag.get("begin", clock_of), tag.get("end", clock_of), tag.where)
+        elif tag.name == "tazRelation" and "interval" not in tag.inside:
             raise Fault(f"{tag.where}: <tazRelation> stands in no <interval>")
         elif tag.name == "tazRelation":
             ends = tag.get("from", name_of), tag.get("to", name_of)
-            yield Cell(begin, end, *ends, number_in(tag, BY_TURN, None), tag.where)
+            yield MatrixCell(begin, end, *ends, vehicles_of_tag(tag, BY_TURN, None), tag.where)
         else:
             raise Fault(f"{tag.where}: <{tag.name}> is no <tazRelation> in an <interval>")
 
 
-class Words:
+class MatrixLines:
     """The words of a matrix in O or V format, line by line; blank lines and comments (*) are left out."""
 
     def __init__(self, path: FilePath, lines: Iterable[str]) -> None:
@@ -79,10 +78,10 @@ class Words:
 
     @property
     def where(self) -> str:
-        """The file and its line, as faults name it."""
+        """The file and the line that was read last, as faults name it."""
         return f"{self.path}: line {self.line}"
 
-    def following(self) -> list[str]:
+    def next_line(self) -> list[str]:
         """The words of the next line; blank lines, and those that begin with *, are left out. Empty at the end of the
         file."""
         for self.line, text in self.lines:
@@ -90,86 +89,85 @@ class Words:
                 return text.split()
         return []
 
-    def number(self, text: str) -> float:
+    def vehicles(self, text: str) -> float:
         """A word as a number of vehicles; Fault, with the line, where it is none."""
         try:
-            return vehicles_of(text)
+            return vehicle_number(text)
         except ValueError as fault:
             raise Fault(f"{self.where}: {text!r} {fault}") from None
 
-    def one(self, what: str) -> str:
-        """The first word of the next line; Fault at the end of the file, with what was expected."""
-        words = self.following()
+    def next_first_word(self, what: str) -> str:
+        """The first word of the next line, others passed over; Fault at the end of the file. what: is expected."""
+        words = self.next_line()
         if not words:
             raise Fault(f"{self.path}: ends before {what}")
         return words[0]
 
 
-def of_format(path: FilePath) -> Iterator[Cell]:
+def cells_in_o_or_v(path: FilePath) -> Iterator[MatrixCell]:
     """The cells of a file in SUMO's formats $O.. (from, to, vehicles) or $V.. (a square matrix), with its factor; an M
-    in the first word means that a line with the vehicle type follows, which is passed over. Fault for any other
-    file."""
+    in the first word means that a line with the vehicle type follows, which is passed over. Fault for another file."""
     with reading(path), open_text(path) as file:
-        words = Words(path, file.read().splitlines())
-    head = words.one("its first line")
+        lines = MatrixLines(path, file.read().splitlines())
+    head = lines.next_first_word("its first line")
     kind = head[1:].split(";")[0].upper()
     if kind[:1] not in ("O", "V"):
-        raise Fault(f"{words.where}: {head!r} is neither SUMO's O format ($OR) nor its V format ($VMR)")
+        raise Fault(f"{lines.where}: {head!r} is neither SUMO's O format ($OR) nor its V format ($VMR)")
     if "M" in kind:
-        words.one("its vehicle type")
-    times = words.following()
+        lines.next_first_word("its vehicle type")
+    times = lines.next_line()
     if len(times) != 2:
-        raise Fault(f"{words.where}: expected from-time and to-time, as 7.00 8.00")
-    begin, end = period_of(hours_of(words, times[0]), hours_of(words, times[1]), words.where)
-    factor = words.number(words.one("its factor"))
-    for cell in pairs(words) if kind[0] == "O" else square(words):
+        raise Fault(f"{lines.where}: expected from-time and to-time, as 7.00 8.00")
+    begin, end = period_of(seconds_of_time(lines, times[0]), seconds_of_time(lines, times[1]), lines.where)
+    factor = lines.vehicles(lines.next_first_word("its factor"))
+    for cell in cells_by_line(lines) if kind[0] == "O" else cells_by_row(lines):
         yield replace(cell, begin=begin, end=end, vehicles=cell.vehicles * factor)
 
 
-def hours_of(words: Words, text: str) -> int:
+def seconds_of_time(lines: MatrixLines, text: str) -> int:
     """The seconds of a time HH.MM, as 7.30 (7.5 is five minutes past seven); Fault otherwise."""
     hours, _, minutes = text.partition(".")
     if not (hours.isdecimal() and minutes.isdecimal() and int(minutes) < 60):
-        raise Fault(f"{words.where}: {text!r} is no time as HH.MM")
+        raise Fault(f"{lines.where}: {text!r} is no time as HH.MM")
     return 3600 * int(hours) + 60 * int(minutes)
 
 
-def pairs(words: Words) -> Iterator[Cell]:
+def cells_by_line(lines: MatrixLines) -> Iterator[MatrixCell]:
     """The cells of the O format's lines, still without period and factor; Fault for a line of another form."""
-    while row := words.following():
+    while row := lines.next_line():
         if len(row) != 3:
-            raise Fault(f"{words.where}: expected from, to and vehicles")
-        yield Cell(0, 0, row[0], row[1], words.number(row[2]), words.where)
+            raise Fault(f"{lines.where}: expected from, to and vehicles")
+        yield MatrixCell(0, 0, row[0], row[1], lines.vehicles(row[2]), lines.where)
 
 
-def square(words: Words) -> Iterator[Cell]:
+def cells_by_row(lines: MatrixLines) -> Iterator[MatrixCell]:
     """The cells of the V format's matrix, still without period and factor; Fault where its rows do not fit to the
     number of its districts."""
-    text = words.one("the number of its districts")
+    text = lines.next_first_word("the number of its districts")
     if not text.isdecimal() or not int(text):
-        raise Fault(f"{words.where}: {text!r} is no number of districts")
+        raise Fault(f"{lines.where}: {text!r} is no number of districts")
     count = int(text)
-    names = several(words, count, "names of districts")
+    names = next_words(lines, count, "names of districts")
     for source in names:
-        for target, value in zip(names, several(words, count, f"vehicles from {source}"), strict=True):
-            yield Cell(0, 0, source, target, words.number(value), words.where)
+        for target, value in zip(names, next_words(lines, count, f"vehicles from {source}"), strict=True):
+            yield MatrixCell(0, 0, source, target, lines.vehicles(value), lines.where)
 
 
-def several(words: Words, count: int, what: str) -> list[str]:
+def next_words(lines: MatrixLines, count: int, what: str) -> list[str]:
     """The next `count` words, over as many lines as they need; Fault where there are fewer or more. what: their name in
     faults."""
     found: list[str] = []
     while len(found) < count:
-        row = words.following()
+        row = lines.next_line()
         if not row:
-            raise Fault(f"{words.path}: ends after {len(found)} of {count} {what}")
+            raise Fault(f"{lines.path}: ends after {len(found)} of {count} {what}")
         found += row
     if len(found) > count:
-        raise Fault(f"{words.where}: {len(found)} {what}, and there are {count} districts")
+        raise Fault(f"{lines.where}: {len(found)} {what}, and there are {count} districts")
     return found
 
 
-def check_zones(cells: Iterable[Cell], zones: Mapping[str, Zone]) -> None:
+def check_zones(cells: Iterable[MatrixCell], zones: Mapping[str, Zone]) -> None:
     """Fault for cells of zones that are not known, and for vehicles from or to a zone where no trip may begin or
     end."""
     for cell in cells:

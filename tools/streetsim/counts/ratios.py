@@ -3,10 +3,9 @@ raises Fault, with file and line or element, where a value is absent or cannot b
 import random
 from collections.abc import Iterable
 
-from streetsim.base.files import Fault, FilePath, elements, optional, seconds, told
-from streetsim.counts.cells import MOST_SECONDS, name_of, period_of, vehicles_of
-from streetsim.counts.reading import clock_rounded
-from streetsim.counts.tags import Tag, tags
+from streetsim.base.files import Fault, FilePath, element_told, elements, optional, seconds
+from streetsim.counts.cells import MOST_SECONDS, clock_of, name_of, period_of, vehicle_number
+from streetsim.counts.tags import Tag, read_tags
 from streetsim.counts.values import Inflow, Ratio
 from streetsim.sumo.flows import departs
 
@@ -16,7 +15,7 @@ TURNS = ("turns", "edgeRelations", "turn-defs", "data")
 
 def read_inflows(paths: Iterable[FilePath], seed: int) -> list[Inflow]:
     """Flows that have a `from` alone. Of each the begin, the last departure and the number of vehicles are kept, and
-    its departures then are even. Fault where a file cannot be read or has no flow, for a flow with a `to` or a route,
+    its departures then are even. Fault where a file cannot be read or has no flow, for a flow with a `to` or a <route>,
     and for another element; vehicle types are passed over. seed: of departures by chance."""
     found: list[Inflow] = []
     draws = random.Random(f"inflows {seed}")
@@ -26,14 +25,15 @@ def read_inflows(paths: Iterable[FilePath], seed: int) -> list[Inflow]:
             if element.tag in ("vType", "vTypeDistribution"):
                 continue
             if element.tag != "flow" or not element.get("from"):
-                raise Fault(f"{told(path, element)}: expected a <flow> with from, which turn ratios lead on")
+                raise Fault(f"{element_told(path, element)}: expected a <flow> with from, which turn ratios lead on")
             if element.get("to") or element.find("route") is not None:
-                raise Fault(f"{told(path, element)}: it has an end: give it to --candidates or streetsim-route --trips")
+                raise Fault(
+                    f"{element_told(path, element)}: it has an end: give it to --candidates or streetsim-route --trips"
+                )
             times = departs(path, element, draws)
             begin = int(optional(path, element, "begin", seconds, 0.0))
             end = int(max(times, default=begin)) + 1
-            name, edge = element.get("id", ""), element.get("from", "")
-            found.append(Inflow(name, edge, begin, end, len(times), told(path, element)))
+            found.append(Inflow(element.get("from", ""), begin, end, len(times), element_told(path, element)))
         if len(found) == before:
             raise Fault(f"{path}: no flow is in it")
     return found
@@ -41,20 +41,20 @@ def read_inflows(paths: Iterable[FilePath], seed: int) -> list[Inflow]:
 
 def read_ratios(paths: Iterable[FilePath]) -> tuple[list[Ratio], set[str]]:
     """(turn ratios, names of the edges that are said to be sinks, where vehicles end); Fault where a file cannot be
-    read, has no ratio, or another element. Ratios before the first interval hold at any time, as in SUMO's
-    jtrrouter."""
+    read, has no ratio, or another element. Ratios in no interval hold at any time, as in SUMO's jtrrouter."""
     found: list[Ratio] = []
     sinks: set[str] = set()
     for path in paths:
         before = len(found)
-        begin, end = 0, MOST_SECONDS
         source = ""
-        for tag in tags(path, TURNS):
+        for tag in read_tags(path, TURNS):
+            if "interval" not in tag.inside:
+                begin, end = 0, MOST_SECONDS
             if tag.name == "interval":
-                begin, end = period_of(tag.get("begin", clock_rounded), tag.get("end", clock_rounded), tag.where)
+                begin, end = period_of(tag.get("begin", clock_of), tag.get("end", clock_of), tag.where)
             elif tag.name == "fromEdge":
                 source = tag.get("id", name_of)
-            elif tag.name == "toEdge":
+            elif tag.name == "toEdge" and "fromEdge" in tag.inside:
                 found.append(Ratio(begin, end, source, tag.get("id", name_of), weight_of(tag), tag.where))
             elif tag.name == "edgeRelation":
                 ends = tag.get("from", name_of), tag.get("to", name_of)
@@ -71,4 +71,4 @@ def read_ratios(paths: Iterable[FilePath]) -> tuple[list[Ratio], set[str]]:
 def weight_of(tag: Tag) -> float:
     """The weight of a turn: its attribute probability, else count; any number from 0 on. Fault where it has neither, or
     it is no such number."""
-    return tag.get("probability" if "probability" in tag.attributes else "count", vehicles_of)
+    return tag.get("probability" if "probability" in tag.attributes else "count", vehicle_number)

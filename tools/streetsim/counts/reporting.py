@@ -1,11 +1,12 @@
 """Counts beside a run on a page, as HTML: by hour, screen lines, scatter, map of the differences, and the worst."""
 from html import escape
 
-from streetsim.counts.judging import GOOD, Judged, differences_of, line_through, of_geh, worst
+from streetsim.base.words import time_of_day
+from streetsim.counts.judging import GOOD, Judged, correlation_and_slope, differences_of, volume_at_geh_5, worst_fits
 from streetsim.model.mapping import Map
 from streetsim.model.names import Names
-from streetsim.reports.drawing import lines_picture
-from streetsim.reports.markup import clock, table
+from streetsim.reports.drawing import difference_map
+from streetsim.reports.markup import table
 
 SIDE, EDGE = 420, 45  # pixels of the scatter
 POINTS = 40  # of the curves of GEH
@@ -15,10 +16,10 @@ BAD, GOOD_COLOUR = "#c04000", "#225588"
 def counts_section(name: str, fit: Judged, mapping: Map) -> str:
     """How well what passed in a plan's first seed meets the counts, as HTML; name: of the plan."""
     names = Names(mapping)
-    line = line_through(fit.each)
+    line = correlation_and_slope(fit.each)
     more = f"; all {len(fit.each):,} counts: r = {line[0]:.3f}, slope {line[1]:.3f}" if line else ""
-    shares = f"GEH is below 5 for {100 * fit.share:.1f} % of the counts by hour"
-    criteria = "which passes the usual criteria" if fit.fits else "which does not pass the usual criteria"
+    shares = f"GEH is below 5 for {100 * fit.good_share:.1f} % of the counts by hour"
+    criteria = "which passes the usual criteria" if fit.meets_criteria else "which does not pass the usual criteria"
     told = f"{name}, its first seed: {shares}, {criteria}{more}."
     parts = [f"<p>{escape(told)}</p>", hours_table(fit), groups_table(fit), worst_table(fit, names)]
     pictures = f'<div class="whole">{scatter(fit)}{differences_map(fit, mapping)}</div>'
@@ -29,8 +30,9 @@ def hours_table(fit: Judged) -> str:
     """A table of the criteria by hour, as HTML."""
     rows = [
         [
-            f"{clock(one.begin)} to {clock(one.end)}", str(one.counts), f"{100 * one.share:.1f}", f"{one.counted:,.0f}",
-            f"{one.passed:,.0f}", f"{100 * one.difference:+.1f}", "passed" if one.fits else "not passed",
+            f"{time_of_day(one.begin)} to {time_of_day(one.end)}", str(one.counts), f"{100 * one.good_share:.1f}",
+            f"{one.counted:,.0f}", f"{one.passed:,.0f}", f"{100 * one.relative_difference:+.1f}",
+            "passed" if one.meets_criteria else "not passed",
         ]
         for one in fit.hours
     ]
@@ -42,8 +44,8 @@ def groups_table(fit: Judged) -> str:
     """A table of the screen lines by hour, as HTML; empty where there are none."""
     rows = [
         [
-            escape(one.group), f"{clock(one.begin)} to {clock(one.end)}", f"{one.counted:,.0f}", f"{one.passed:,.0f}",
-            f"{100 * one.difference:+.1f}",
+            escape(one.group), f"{time_of_day(one.begin)} to {time_of_day(one.end)}", f"{one.counted:,.0f}",
+            f"{one.passed:,.0f}", f"{100 * one.relative_difference:+.1f}",
         ]
         for one in fit.groups
     ]
@@ -53,17 +55,17 @@ def groups_table(fit: Judged) -> str:
 def worst_table(fit: Judged, names: Names) -> str:
     """A table of the counts that fit worst, as HTML; empty where all fit."""
     rows = []
-    for one in worst(fit):
+    for one in worst_fits(fit):
         called = names.approach(one.edges[0]) if len(one.edges) == 1 else names.movement(*one.edges[:2])
         numbers = f"{one.counted:,.0f}", f"{one.passed:,.0f}", f"{one.geh:.1f}"
-        rows.append([escape(called), escape(" to ".join(one.edges)), clock(one.begin), *numbers])
+        rows.append([escape(called), escape(" to ".join(one.edges)), time_of_day(one.begin), *numbers])
     return table(["fits worst", "edges", "from", "counted", "passed in the run", "GEH"], rows, 2) if rows else ""
 
 
 def scatter(fit: Judged) -> str:
-    """A picture (SVG) of passed over counted, vehicles an hour, by place and hour, with the curves on which GEH is
+    """A picture (SVG) of passed over counted, vehicles an hour, by edges and hour, with the curves on which GEH is
     5."""
-    points = [(one.counted * one.per_hour, one.passed * one.per_hour, one.geh < GOOD) for one in fit.hourly]
+    points = [(*one.volumes, one.geh < GOOD) for one in fit.hourly]
     most = 1.08 * max([1.0, *(max(counted, passed) for counted, passed, _ in points)])
     scale = (SIDE - EDGE - 10) / most
 
@@ -73,8 +75,8 @@ def scatter(fit: Judged) -> str:
 
     parts = [f'<polyline points="{at(0, 0)} {at(most, most)}" stroke="#000" fill="none"/>']
     for sign in (1, -1):
-        curve = [(value, of_geh(value, sign)) for value in (most * step / POINTS for step in range(POINTS + 1))]
-        way = " ".join(at(counted, min(passed, most)) for counted, passed in curve)
+        curve = (most * step / POINTS for step in range(POINTS + 1))
+        way = " ".join(at(counted, min(volume_at_geh_5(counted, sign), most)) for counted in curve)
         parts.append(f'<polyline points="{way}" stroke="#777" stroke-dasharray="4 3" fill="none"/>')
     for counted, passed, good in points:
         x, y = at(counted, passed).split(",")
@@ -94,4 +96,4 @@ def differences_map(fit: Judged, mapping: Map) -> str:
     """A map of how many vehicles an hour more or fewer passed than were counted, of an edge, else of its turns
     together, as HTML."""
     told = "Vehicles an hour more (red) or fewer (blue) in the run than counted; dark grey: as many; light: not counted"
-    return f"<figure>{lines_picture(mapping, differences_of(fit.hourly))}<figcaption>{told}</figcaption></figure>"
+    return f"<figure>{difference_map(mapping, differences_of(fit.hourly))}<figcaption>{told}</figcaption></figure>"

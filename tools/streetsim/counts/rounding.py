@@ -1,32 +1,29 @@
-"""Makes the vehicles of a fit whole, so that their sums stay those of the fit. What reckons with NumPy and SciPy raises
-a Fault where these are missing (science.needed)."""
-
+"""Makes the vehicles of a fit whole, so that their sums stay near those of the fit."""
 from streetsim.counts.fitting import deviations
-from streetsim.counts.science import Array, Sparse, needed
+from streetsim.counts.science import Array, Sparse, numpy_and_scipy
 
 SWAPS = 20_000  # of a vehicle of one way and slice for one of another, at most
 LEAST_GAIN = 1e-9  # in the sum of squares, for which one is swapped
 
 
-def rounded(vehicles: Array, passing: Sparse, seed: int, error: float) -> Array:
+def whole_vehicles(vehicles: Array, passing: Sparse, seed: int, error: float) -> Array:
     """The vehicles of a fit in whole numbers, an array of integers: each is rounded up or down, so that the sum of any
     that follow each other is within one of what it was; then some are swapped so that what passes the counts is near
-    the fit. passing: as `Problem` has it; seed: of the rounding; error: share of a count by which it is taken to be
-    wrong."""
-    numpy, _ = needed()
+    the fit. passing: as `Problem` has it; seed: of the rounding; error: of a count, as a share."""
+    numpy, _ = numpy_and_scipy()
     start = numpy.random.default_rng(seed).random()
     whole = numpy.diff(numpy.floor(numpy.concatenate(([0.0], numpy.cumsum(vehicles))) + start))
     low = numpy.floor(vehicles)
-    whole = numpy.clip(whole, low, low + 1)
-    return improved(whole, vehicles, passing, error) if passing.shape[0] else whole.astype(int)
+    whole = numpy.clip(whole, low, low + 1).astype(int)
+    return swapped_to_fit(whole, vehicles, passing, error) if passing.shape[0] else whole
 
 
-def improved(whole: Array, vehicles: Array, passing: Sparse, error: float) -> Array:
-    """The rounded numbers, as integers, after swaps of one that was rounded up with one that was rounded down, as long
-    as what passes the counts comes nearer to that of `vehicles`, SWAPS of them at most. whole: the rounded numbers,
-    which it changes; passing, error: as `rounded` has them."""
-    numpy, scipy = needed()
-    wanted = passing @ vehicles
+def swapped_to_fit(whole: Array, vehicles: Array, passing: Sparse, error: float) -> Array:
+    """The rounded numbers (whole) after swaps of one that was rounded up with one that was rounded down, as long as
+    what passes the counts comes nearer to that of `vehicles`, at most SWAPS times. passing,
+    error: as of `whole_vehicles`."""
+    numpy, scipy = numpy_and_scipy()
+    wanted, whole = passing @ vehicles, whole.copy()
     scaled = (scipy.sparse.diags(1 / deviations(wanted, error)) @ passing).tocsc()
     across, squares = scaled.T.tocsr(), numpy.asarray(scaled.multiply(scaled).sum(axis=0)).ravel()
     low = numpy.floor(vehicles)
@@ -44,4 +41,4 @@ def improved(whole: Array, vehicles: Array, passing: Sparse, error: float) -> Ar
         whole[up] += 1
         whole[down] -= 1
         apart = apart + both.toarray().ravel()
-    return whole.astype(int)
+    return whole

@@ -1,8 +1,8 @@
-"""Runs a demand in the simulation: when its vehicles passed the places that were counted, and what their ways took."""
+"""Runs a demand in the simulation: when its vehicles passed where was counted, and what their ways took."""
 from collections.abc import Sequence
 from dataclasses import dataclass
 
-from streetsim.counts.passing import Places
+from streetsim.counts.passing import CountsByEdges
 from streetsim.routes.loading import Loaded
 from streetsim.routes.watching import Ground, run_with_gaps, seen_run
 from streetsim.ways.costs import Costs, Observed
@@ -13,47 +13,49 @@ from streetsim.ways.router import Path
 @dataclass(frozen=True, slots=True)
 class Ran:
     """What one run gave. left: for each vehicle the clocks at which it left each edge of its way, as far as it came;
-    ends: the clock at which each arrived, none where it did not; observed: seconds of movements by time; rescues: how
-    many in all, also of one vehicle again; waiting: the most vehicles that waited to enter at once, and the clock."""
+    arrivals: the clocks, none where it did not arrive; observed: seconds of movements by time; rescues: how many in
+    all, also of one vehicle again; most_waiting: the most vehicles that waited to enter at once, and the clock."""
 
     left: list[list[float]]
-    ends: list[int | None]
+    arrivals: list[int | None]
     observed: Observed
     rescues: int
-    waiting: tuple[int, int]
+    most_waiting: tuple[int, int]
 
 
-def ran(ground: Ground, loaded: Loaded, expected: Costs, seed: int) -> Ran:
-    """Makes one run of a demand, with rounds of giving way as streetsim-run makes them; Fault where the program refuses
-    it or ends before. expected: seconds of movements; by these the time between two looks at a vehicle is shared among
-    the movements that it made."""
+def run_demand(ground: Ground, loaded: Loaded, expected: Costs, seed: int) -> Ran:
+    """Makes one run of a demand, after rounds of giving way as streetsim-run makes them; Fault where the program
+    refuses one of them or ends before. expected: seconds of movements; by these the time between two looks at a vehicle
+    is shared among the movements that it made."""
     run = run_with_gaps(ground, loaded.run, loaded.mapping, seed)
     seen = seen_run(ground, run, loaded.mapping, expected, seed, False)
-    pairs = zip(seen.clocks, seen.ends, strict=True)
+    pairs = zip(seen.clocks, seen.arrivals, strict=True)
     left = [[*clocks[1:], *([float(end)] if end is not None else [])] for clocks, end in pairs]
-    return Ran(left, seen.ends, seen.observed, seen.watcher.records.rescues.total(), seen.waiting)
+    return Ran(left, seen.arrivals, seen.observed, seen.watcher.records.rescues.total(), seen.most_waiting)
 
 
-def passed(places: Places, paths: Sequence[Path], kinds: Sequence[str], left: Sequence[Sequence[float]]) -> list[int]:
+def passed_by_count(
+    by_edges: CountsByEdges, paths: Sequence[Path], kinds: Sequence[str], left: Sequence[Sequence[float]]
+) -> list[int]:
     """How many vehicles passed in each count's period (its end belongs to it, its begin does not), of its class, in the
     counts' order. paths, kinds, left: the way, class and clocks (of leaving each edge) of each vehicle."""
-    found = [0] * len(places.counts)
+    found = [0] * len(by_edges.counts)
     for path, kind, clocks in zip(paths, kinds, left, strict=True):
-        for some, edge in places.along(path):
+        for some, edge in by_edges.counts_along(path):
             if edge < len(clocks):
                 for at in some:
-                    count = places.counts[at]
+                    count = by_edges.counts[at]
                     found[at] += count.begin < clocks[edge] <= count.end and count.kind in ("", kind)
     return found
 
 
-def delays(graph: Graph, observed: Observed, free: Sequence[float]) -> list[float]:
-    """For each movement how many seconds its slowest slice took on the mean beyond the free ones (less than 0 where it
-    was quicker); 0 where nobody was seen. free: seconds of each movement."""
+def movement_delays(graph: Graph, observed: Observed, free: Sequence[float]) -> list[float]:
+    """For each movement how many seconds it took on the mean in the slowest of the slices of time of `observed`, beyond
+    the free ones (less than 0 where it was quicker); 0 where nobody was seen. free: seconds of each movement."""
     found = []
     for movement in range(len(graph.movements)):
         base = movement * observed.slices
-        places = (at for at in range(base, base + observed.slices) if observed.counts[at])
-        means = [observed.seconds[at] / observed.counts[at] for at in places]
+        some = (at for at in range(base, base + observed.slices) if observed.counts[at])
+        means = [observed.seconds[at] / observed.counts[at] for at in some]
         found.append(max(means, default=free[movement]) - free[movement])
     return found

@@ -9,7 +9,7 @@ Sparse = Any  # matrix of SciPy
 THREADS = ("OPENBLAS_NUM_THREADS", "OMP_NUM_THREADS", "MKL_NUM_THREADS")
 
 
-def needed() -> Any:
+def numpy_and_scipy() -> Any:
     """(NumPy, SciPy); Fault, which says what to install, where they are missing. Sets environment variables, where they
     are not set, so that both take one thread: with several, sums hang on chance."""
     for name in THREADS:

@@ -1,6 +1,8 @@
 """Reads XML files tag by tag, with the line of each, so that a fault can name it."""
 from collections.abc import Callable, Collection, Iterator, Mapping
 from dataclasses import dataclass
+from functools import partial
+from itertools import chain
 from typing import TypeVar
 from xml.parsers import expat
 
@@ -37,7 +39,7 @@ class Tag:
             raise Fault(f"{self.where}: {name}={text!r} {fault}") from None
 
 
-def tags(path: FilePath, roots: Collection[str]) -> Iterator[Tag]:
+def read_tags(path: FilePath, roots: Collection[str]) -> Iterator[Tag]:
     """All elements of a file below its root, in the order in which they begin; Fault where the file cannot be read or
     is no XML, or the root's name is none of `roots`."""
     found: list[Tag] = []
@@ -55,12 +57,9 @@ def tags(path: FilePath, roots: Collection[str]) -> Iterator[Tag]:
     parser.StartElementHandler = begin
     parser.EndElementHandler = lambda _name: inside.pop()
     with reading(path), open_bytes(path) as file:
-        last = False
-        while not last:
-            chunk = file.read(CHUNK)
-            last = not chunk
+        for chunk in chain(iter(partial(file.read, CHUNK), b""), [b""]):
             try:
-                parser.Parse(chunk, last)
+                parser.Parse(chunk, not chunk)
             except expat.ExpatError as fault:
                 raise Fault(f"{path}: not XML: {fault}") from None
             yield from found

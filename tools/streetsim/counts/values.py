@@ -24,7 +24,7 @@ class Count:
         """The length of its period in hours."""
         return (self.end - self.begin) / 3600
 
-    def place(self) -> str:
+    def edges_told(self) -> str:
         """Its edges with blanks between, as the user is told."""
         return " ".join(self.edges)
 
@@ -32,32 +32,31 @@ class Count:
 @dataclass(frozen=True, slots=True)
 class Zone:
     """Edges on which trips of a zone begin (sources), and those on which they end (sinks), by name, each with its
-    weight beside the others of the zone; where: the file and its line."""
+    weight beside the others of the zone."""
 
     name: str
     sources: Mapping[str, float]
     sinks: Mapping[str, float]
-    where: str
+    where: str  # the file and its line
 
 
 @dataclass(frozen=True, slots=True)
-class Cell:
-    """Vehicles that want to go from one zone to another and depart in a period, in seconds; where: the file and its
-    line."""
+class MatrixCell:
+    """A cell of a matrix: vehicles from one zone to another that depart in a period, in seconds."""
 
     begin: int
     end: int
     source: str
     target: str
     vehicles: float
-    where: str
+    where: str  # the file and its line
     kind: str = ""  # the vehicle class; empty: a car
 
 
-Dated = TypeVar("Dated", Count, Cell)
+Dated = TypeVar("Dated", Count, MatrixCell)
 
 
-def overlapping(some: Iterable[Dated], key: Callable[[Dated], object]) -> Iterator[tuple[Dated, Dated]]:
+def overlapping_pairs(some: Iterable[Dated], key: Callable[[Dated], object]) -> Iterator[tuple[Dated, Dated]]:
     """Pairs of counts, or of cells, of one key whose periods overlap, the one that begins sooner first. Only those that
     follow each other by their begins are compared, so that there is a pair where any two overlap."""
     found: defaultdict[object, list[Dated]] = defaultdict(list)
@@ -68,17 +67,20 @@ def overlapping(some: Iterable[Dated], key: Callable[[Dated], object]) -> Iterat
         yield from ((first, second) for first, second in pairwise(alike) if second.begin < first.end)
 
 
+def share_between(one: Dated, begin: float, end: float) -> float:
+    """The share, 0 to 1, of the period of a count or a cell that lies between two clocks."""
+    return max(0.0, min(end, one.end) - max(begin, one.begin)) / (one.end - one.begin)
+
+
 @dataclass(frozen=True, slots=True)
 class Inflow:
-    """Vehicles that depart evenly on an edge in a period, in seconds, and go on by turn ratios; where: the file and the
-    element."""
+    """Vehicles that depart evenly on an edge in a period, in seconds, and go on by turn ratios."""
 
-    name: str
     edge: str
     begin: int
     end: int
-    vehicles: float
-    where: str
+    vehicles: int
+    where: str  # the file and the element
 
 
 @dataclass(frozen=True, slots=True)

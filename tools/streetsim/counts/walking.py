@@ -3,7 +3,7 @@ import random
 from bisect import bisect_right
 from collections import defaultdict
 from collections.abc import Iterator, Sequence
-from itertools import accumulate
+from itertools import accumulate, pairwise
 
 from streetsim.base import limits
 from streetsim.base.files import Fault
@@ -20,29 +20,30 @@ class Turns:
     """By edge and time the next edges with their weights, and the edges at which ways end."""
 
     def __init__(self, ratios: Sequence[Ratio], sinks: set[str], net: SumoNet, graph: Graph) -> None:
-        """ratios: of several for one turn and period the last holds; sinks: names of edges at which ways end. Fault
+        """ratios: of several for one turn and time the last holds; sinks: names of edges at which ways end. Fault
         where the network lacks an edge or a connection that is named."""
-        found: defaultdict[tuple[int, int, int], dict[int, float]] = defaultdict(dict)
+        found: defaultdict[int, list[Ratio]] = defaultdict(list)
         for one in ratios:
             check_edges([one.source, one.target], one.where, net)
-            source, target = graph.number[one.source], graph.number[one.target]
-            if (source, target) not in graph.movement_of:
+            if (graph.number[one.source], graph.number[one.target]) not in graph.movement_of:
                 raise Fault(f"{one.where}: no connection leads from edge {one.source!r} to edge {one.target!r}")
-            found[source, one.begin, one.end][target] = one.weight
+            found[graph.number[one.source]].append(one)
         check_edges(sinks, "<sink>", net)
         self.graph, self.sinks = graph, {graph.number[name] for name in sinks}
-        self.of: defaultdict[int, list[tuple[int, int, Turning]]] = defaultdict(list)
-        for (source, begin, end), weights in sorted(found.items()):
-            turning = list(weights), list(accumulate(weights.values()))
-            self.of[source].append((begin, end, turning))
+        self.by_edge: defaultdict[int, list[tuple[int, int, Turning]]] = defaultdict(list)
+        for source, some in found.items():
+            for begin, end in pairwise(sorted({bound for one in some for bound in (one.begin, one.end)})):
+                weights = {graph.number[one.target]: one.weight for one in some if one.begin <= begin < one.end}
+                if weights:
+                    self.by_edge[source].append((begin, end, (list(weights), list(accumulate(weights.values())))))
 
-    def after(self, edge: int, clock: float, draws: random.Random) -> int | None:
+    def next_edge(self, edge: int, clock: float, draws: random.Random) -> int | None:
         """The edge on which a vehicle goes on from an edge at a clock, drawn by the weights; none at a sink, where all
         weights that hold are 0, or where no ratio holds and nothing leads on but back. Fault where several edges follow
         and no ratio holds."""
         if edge in self.sinks:
             return None
-        given = next((turning for begin, end, turning in self.of[edge] if begin <= clock < end), None)
+        given = next((turning for begin, end, turning in self.by_edge[edge] if begin <= clock < end), None)
         if given is not None:
             following, sums = given
             return following[bisect_right(sums, draws.random() * sums[-1])] if sums[-1] else None
@@ -55,20 +56,19 @@ class Turns:
         return ways[0] if ways else None
 
 
-def walked(
+def walks_of(
     inflows: Sequence[Inflow], turns: Turns, seconds: Sequence[float], net: SumoNet, seed: int
 ) -> Iterator[tuple[float, Path]]:
-    """The whole vehicles of flows, (departure in seconds, way by numbers of edges), flow by flow. Fault where a way has
-    no end, the network lacks the edge of a flow, or no ratio holds where several edges follow. seconds: of each
-    movement, by which it is known which ratio holds; seed: of the draws."""
+    """The vehicles of flows, (departure in seconds, way by numbers of edges), flow by flow. Fault where a way has more
+    edges than a plan may, the network lacks the edge of a flow, or no ratio holds where several edges follow. seconds:
+    of each movement, by which it is known which ratio holds; seed: of the draws."""
     graph, draws = turns.graph, random.Random(f"ratios {seed}")
     for flow in inflows:
         check_edges([flow.edge], flow.where, net)
-        width = (flow.end - flow.begin) / max(1.0, flow.vehicles)
-        for at in range(int(flow.vehicles)):
-            depart = flow.begin + width * at
+        for at in range(flow.vehicles):
+            depart = flow.begin + (flow.end - flow.begin) / flow.vehicles * at
             path, clock = [graph.number[flow.edge]], depart
-            while (following := turns.after(path[-1], clock, draws)) is not None:
+            while (following := turns.next_edge(path[-1], clock, draws)) is not None:
                 clock += seconds[graph.movement_of[path[-1], following]]
                 path.append(following)
                 if len(path) > limits.PLAN:

@@ -1,11 +1,10 @@
 """Writes the files of a fitted demand and of a comparison with counts."""
-import json
 from collections import Counter
 from collections.abc import Iterator, Sequence
 from itertools import pairwise
 from xml.sax.saxutils import quoteattr
 
-from streetsim.base.files import Json, whole_file
+from streetsim.base.files import whole_file
 from streetsim.counts.candidates import Way
 from streetsim.counts.checking import Contradiction
 from streetsim.counts.correcting import Attempt
@@ -14,11 +13,10 @@ from streetsim.counts.judging import FIT, GROUPS, HOURS, Judged
 from streetsim.model.tables import write_table
 from streetsim.ways.graph import Graph
 
-NAME = "setting.json"
 PAIRS = ("begin", "end", "from", "to", "class", "vehicles")
 RUNS = ("run", "vehicles", "arrived", "rescues", "geh_below_5_percent", "total_difference_percent", "criteria")
 APART = ("place", "begin", "end", "what", "first", "second", "where")
-LAST = "hours.csv"  # the table of a comparison that is written last
+LAST = "hours.csv"  # of a comparison: away while other files take their places (whole_folder)
 # What a comparison has only where counts have groups or matplotlib is installed; and a demand where there are counts,
 # where these contradict each other, and where runs were asked for.
 JUDGED_AT_WISH = ("groups.csv", "fit.png", "differences.png")
@@ -28,20 +26,19 @@ AT_WISH = (*JUDGED_AT_WISH, "fit.csv", LAST, "contradictions.csv", "runs.csv")
 def write_judged(folder: str, fit: Judged) -> None:
     """Writes the tables of a comparison with counts to a folder: fit.csv, hours.csv, and groups.csv where there are
     screen lines. Fault where one cannot be written."""
-    write_table(f"{folder}/fit.csv", FIT, (one.row() for one in fit.each))
-    write_table(f"{folder}/{LAST}", HOURS, (one.row() for one in fit.hours))
+    write_table(f"{folder}/fit.csv", FIT, (one.fit_row() for one in fit.each))
+    write_table(f"{folder}/{LAST}", HOURS, (one.hour_row() for one in fit.hours))
     if fit.groups:
         write_table(f"{folder}/groups.csv", GROUPS, (one.group_row() for one in fit.groups))
 
 
 def write_demand(folder: str, basis: Basis, fitted: Fitted, tried: Sequence[Attempt]) -> None:
-    """Writes to a folder pairs.csv, the candidate ways as routes (candidates.rou.xml), contradictions.csv where counts
-    contradict each other, and runs.csv where the demand was run (tried: its runs). Fault where one cannot be
-    written."""
+    """Writes to a folder pairs.csv, candidates.rou.xml, contradictions.csv where counts contradict each other, and
+    runs.csv where the demand was run (tried: its runs). Fault where one cannot be written."""
     write_table(f"{folder}/pairs.csv", PAIRS, pair_rows(basis, fitted))
     write_candidates(f"{folder}/candidates.rou.xml", basis.ways, basis.town.graph)
-    if basis.apart:
-        write_table(f"{folder}/contradictions.csv", APART, apart_rows(basis.apart))
+    if basis.contradictions:
+        write_table(f"{folder}/contradictions.csv", APART, contradiction_rows(basis.contradictions))
     if tried:
         write_table(f"{folder}/runs.csv", RUNS, run_rows(tried))
 
@@ -69,23 +66,16 @@ def write_candidates(path: str, ways: Sequence[Way], graph: Graph) -> None:
         file.write("</routes>\n")
 
 
-def apart_rows(found: Sequence[Contradiction]) -> Iterator[tuple[object, ...]]:
+def contradiction_rows(found: Sequence[Contradiction]) -> Iterator[tuple[object, ...]]:
     """The rows of contradictions.csv, as APART has the columns."""
     for one in found:
         values = f"{one.first:g}", f"{one.second:g}"
-        yield one.place, one.begin, one.end, one.there.replace("{} ", ""), *values, one.where
+        yield one.street, one.begin, one.end, one.words.replace("{} ", ""), *values, one.where
 
 
 def run_rows(tried: Sequence[Attempt]) -> Iterator[tuple[object, ...]]:
     """The rows of runs.csv, as RUNS has the columns."""
     for one in tried:
-        told = "passed" if one.judged.fits else "not passed"
-        shares = f"{100 * one.judged.share:.1f}", f"{100 * one.judged.apart:.1f}"
+        told = "passed" if one.judged.meets_criteria else "not passed"
+        shares = f"{100 * one.judged.good_share:.1f}", f"{100 * one.judged.greatest_difference:.1f}"
         yield (one.number, len(one.trips), one.arrived, one.ran.rescues, *shares, told)
-
-
-def write_setting(folder: str, setting: Json) -> None:
-    """Writes setting.json of a demand to a folder. Fault where it cannot be written."""
-    with whole_file(f"{folder}/{NAME}") as file:
-        json.dump(setting, file, indent=1)
-        file.write("\n")

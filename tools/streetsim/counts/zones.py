@@ -3,8 +3,8 @@ attribute is absent or cannot be read."""
 from collections.abc import Iterable, Iterator
 
 from streetsim.base.files import Fault, FilePath
-from streetsim.counts.cells import begins_with, name_of, rows_of, vehicles_of
-from streetsim.counts.tags import Tag, tags
+from streetsim.counts.cells import begins_with, name_of, table_rows, vehicle_number
+from streetsim.counts.tags import Tag, read_tags
 from streetsim.counts.values import Zone
 
 ROOTS = ("additional", "add", "tazs", "taz")
@@ -15,7 +15,7 @@ def read_zones(paths: Iterable[FilePath]) -> dict[str, Zone]:
     name."""
     found: dict[str, Zone] = {}
     for path in paths:
-        own = list(of_sumo(path) if begins_with(path, "<") else of_table(path))
+        own = zones_in_sumo(path) if begins_with(path, "<") else list(zones_in_table(path))
         if not own:
             raise Fault(f"{path}: no zone is in it")
         for zone in own:
@@ -25,35 +25,31 @@ def read_zones(paths: Iterable[FilePath]) -> dict[str, Zone]:
     return found
 
 
-def of_table(path: FilePath) -> Iterator[Zone]:
+def zones_in_table(path: FilePath) -> Iterator[Zone]:
     """The zones of a CSV table with zone,edges: the edges with blanks between; trips begin and end on each with equal
-    weight. Fault for an empty zone or empty edges, and where rows_of raises one."""
-    for row in rows_of(path, ("zone", "edges")):
+    weight. Fault for an empty zone or empty edges, and where table_rows raises one."""
+    for row in table_rows(path, ("zone", "edges")):
         weights = dict.fromkeys(row.get("edges", name_of).split(), 1.0)
         yield Zone(row.get("zone", name_of), weights, weights, row.where)
 
 
-def of_sumo(path: FilePath) -> Iterator[Zone]:
-    """The zones of a file of SUMO's TAZ, with the weights of its tazSource and tazSink; those before the first taz are
-    passed over. Fault for another element (but param), and as of `made`."""
-    zone: Tag | None = None
-    sources: dict[str, float] = {}
-    sinks: dict[str, float] = {}
-    for tag in tags(path, ROOTS):
+def zones_in_sumo(path: FilePath) -> list[Zone]:
+    """The zones of a file of SUMO's TAZ, with the weights of its tazSource and tazSink. Fault for another element (but
+    param), one of these in no taz, and as of `zone_of`."""
+    found: list[tuple[Tag, dict[str, float], dict[str, float]]] = []
+    for tag in read_tags(path, ROOTS):
         if tag.name == "taz":
-            if zone is not None:
-                yield made(zone, sources, sinks)
-            zone, sources, sinks = tag, {}, {}
-        elif tag.name in ("tazSource", "tazSink"):
+            found.append((tag, {}, {}))
+        elif tag.name in ("tazSource", "tazSink") and found and tag.inside[-1] == "taz":
+            _, sources, sinks = found[-1]
             weights = sources if tag.name == "tazSource" else sinks
-            weights[tag.get("id", name_of)] = tag.get("weight", vehicles_of)
+            weights[tag.get("id", name_of)] = tag.get("weight", vehicle_number)
         elif tag.name not in ("tazs", "param"):
             raise Fault(f"{tag.where}: <{tag.name}> is no zone: <taz> with <tazSource> and <tazSink>, or edges")
-    if zone is not None:
-        yield made(zone, sources, sinks)
+    return [zone_of(*one) for one in found]
 
 
-def made(tag: Tag, sources: dict[str, float], sinks: dict[str, float]) -> Zone:
+def zone_of(tag: Tag, sources: dict[str, float], sinks: dict[str, float]) -> Zone:
     """The zone of a <taz>: for sources, or sinks, that it does not list the edges of its attribute `edges`, with equal
     weight; Fault where it has none of all."""
     edges = dict.fromkeys(tag.attributes.get("edges", "").split(), 1.0)

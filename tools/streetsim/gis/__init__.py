@@ -1,2 +1,2 @@
-"""Results on maps: what is known of each edge and junction by interval,
-and files for geographic information systems."""
+"""Files for geographic information systems: edges and junctions with their results by interval, in longitude and
+latitude."""

@@ -19,7 +19,7 @@ from streetsim.sumo.types import Types
 
 def read_and_converted(sources: Sources, options: Options, report: Report, told: dict[str, str]) -> Made:
     """What `convert` makes of the sources. told: the options of SUMO's configuration, empty where none was given. The
-    routes that a configuration names may be trips without ways: then all get ways, and the sources change to say so
+    routes that a configuration names may be trips without ways: then these get ways, the sources change to say so
     (routes empty, trips in their place), and the report begins anew. Unrouted where trips without ways come from
     elsewhere; Fault where `convert` raises one."""
     tell_options(told, report)
@@ -30,10 +30,8 @@ def read_and_converted(sources: Sources, options: Options, report: Report, told:
             raise
     report.clear()
     tell_options(told, report)
-    report.warn(
-        "trips have the ways that are shortest by free speed, signals and volumes, as by --trips (better ways: "
-        "streetsim-route)"
-    )
+    how = "shortest by free speed, signals and volumes, as by --trips (better ways: streetsim-route)"
+    report.warn(f"trips have the ways that are {how}")
     sources.routes, sources.trips = [], sources.routes
     return convert(sources.net, sources.additional, [], options, report, sources.trips)
 
@@ -55,13 +53,9 @@ def write_run(
 
 
 def convert(
-    net_path: str,
-    additional: Sequence[str],
-    routes: Sequence[str],
-    options: Options,
-    report: Report,
+    net_path: str, additional: Sequence[str], routes: Sequence[str], options: Options, report: Report,
     trips: Sequence[str] = (),
-) -> Made:
+) -> Made:  # fmt: skip
     """(the network, its lights with their nodes, the commands of the run, the names of its vehicles), of files of SUMO;
     additional, routes, trips: paths. trips: files whose vehicles get ways; where there are some, those of `routes` are
     read with them. Unrouted where there are none and a vehicle has no route. What is left out or otherwise than in SUMO
@@ -77,8 +71,8 @@ def convert(
     else:
         assert demand is not None
         for path in routes:
-            demand.read(path)
-        vehicles = demand.finish(options.end)
+            demand.read_file(path)
+        vehicles = demand.completed_vehicles(options.end)
     made = converted(net, types, vehicles, options, report)
     if not made[-1] and (routes or trips):
         report.warn("no vehicle drives")

@@ -8,9 +8,9 @@ from streetsim.sumo.net import SumoNet
 from streetsim.sumo.network import Options
 from streetsim.sumo.types import Types
 from streetsim.ways.costs import Costs
-from streetsim.ways.empty import times_without_routes
+from streetsim.ways.empty import times_and_capacities_without_routes
 from streetsim.ways.graph import Graph, graph_of_net
-from streetsim.ways.router import Found, Router, Wish, in_order
+from streetsim.ways.router import Found, Router, Wish, by_target
 from streetsim.ways.start import first_ways
 from streetsim.ways.trips import Trips, read_trips
 
@@ -20,8 +20,8 @@ NO_WAY = "no way from where the trip begins to where it ends"
 def vehicles_with_ways(
     net: SumoNet, types: Types, paths: Iterable[str], options: Options, report: Report
 ) -> list[Vehicle]:
-    """The vehicles of files of trips, flows and routes, by departure, as trips_with_ways has them, without further
-    attributes (Vehicle.more); Fault where it raises one."""
+    """The vehicles of files of trips, flows and routes, by departure, as trips_with_ways has them and fills `types`,
+    without further attributes (Vehicle.more); Fault where it raises one."""
     graph = graph_of_net(net)
     return [
         Vehicle(trip.name, trip.depart, graph.names(trip.path), trip.type, trip.route, trip.stops, trip.line)
@@ -33,21 +33,21 @@ def trips_with_ways(
     net: SumoNet, graph: Graph, types: Types, paths: Iterable[str], options: Options, report: Report
 ) -> Trips:
     """The trips of files of trips, flows and routes, by departure, each with a way. Those without a route have the way
-    that is shortest with free speed, the waits at signals and the delays that the volumes so far would make; who has
-    none is left out, and counted in the report. Whether the edges of routes are connected is not looked at. Fault where
-    read_trips or times_without_routes raises one. graph: of the net.
-
-    Lanes that are joint for works change nothing of it, so that a run and one with works differ by the works alone.
+    that is shortest with free speed, the waits at signals and the delays that the volumes so far would make. Trips that
+    cannot drive in this run, as read_trips has it, or have no way are left out and reported. Whether the edges of
+    routes are connected is not looked at. Fault where read_trips or times_and_capacities_without_routes raises one.
+    graph: of the net; types: gets those that the files tell. Works (options joint, led, slow) change none of the ways
+    found.
     """
     trips = read_trips(paths, net, graph, types, options, report)
     lost: set[str] = set()
     if any(not trip.path for trip in trips.all):
-        free, capacity = times_without_routes(net, graph, replace(options, joint=(), led=(), slow=()))
+        free, capacity = times_and_capacities_without_routes(net, graph, replace(options, joint=(), led=(), slow=()))
 
         def search(wishes: Sequence[Wish], costs: Costs) -> list[Found]:
             """What a router finds for each wish by some costs, sorted by target."""
             router = Router(graph, costs)
-            return [router.found(wish) for wish in in_order(wishes)]
+            return [router.found(wish) for wish in by_target(wishes)]
 
         lost = {trip.name for trip in first_ways(graph, trips.all, free, capacity, options.seed, search)}
     if lost:

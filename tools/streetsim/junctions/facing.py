@@ -5,16 +5,15 @@ from collections.abc import Iterable, Sequence
 from itertools import pairwise
 
 from streetsim.model.mapping import Map
-from streetsim.model.waiting import Waiting
+from streetsim.model.waiting import GivingWay
 
 LEAST = 30  # vehicles an hour that wait, and that are waited for, from which on it is told
 
 
-def facing(mapping: Map, plans: Iterable[Sequence[int]], hours: float) -> list[str]:
+def junctions_with_facing_streets(mapping: Map, plans: Iterable[Sequence[int]], hours: float) -> list[str]:
     """The names, sorted, of junctions where vehicles of a minor street, left turns mostly, wait for those of another
-    minor one that they cross, 30 an hour of both at least. When these pass is taken from the run before, in which they
-    passed in other gaps, so delays of both are too small. plans: links of each vehicle; hours: over which they
-    depart."""
+    minor one that they cross, 30 an hour of both at least. When these pass is taken from the run before, so delays of
+    both are too small. plans: links of each vehicle; hours: over which they depart."""
     flows = Counter(pair for plan in plans for pair in pairwise(plan))
     edges = [link.edge for link in mapping.links]
     waits = {(link, following) for one in mapping.yields for link, _, following in one.turns}
@@ -23,7 +22,7 @@ def facing(mapping: Map, plans: Iterable[Sequence[int]], hours: float) -> list[s
         used[edges[way[0]]].add(way)
     minor = {edge for edge, ways in used.items() if ways <= waits}
 
-    def hourly(one: Waiting) -> float:
+    def hourly(one: GivingWay) -> float:
         """The vehicles an hour that wait, or those that are waited for, whichever are fewer."""
         own = {(link, following) for link, _, following in one.turns if edges[link] in minor}
         targets = {edges[following] for _, following in own}

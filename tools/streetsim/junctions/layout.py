@@ -25,7 +25,8 @@ class Approach:
     metres: float  # of its edge
     lanes: list[Place] = field(default_factory=list)  # (link, lane) of its edge
     movements: dict[str, str] = field(default_factory=dict)  # next edge: L, T, R or U
-    before: list[list[int]] = field(default_factory=list)  # links of each edge before, the nearest first
+    # Links of each edge before, the nearest first, turning back apart.
+    before: list[list[int]] = field(default_factory=list)
     whole: float = 0.0  # metres, with the edges before
 
     @property
@@ -44,12 +45,12 @@ def approaches_of(mapping: Map) -> dict[str, Approach]:
     and of roundabouts, each one junction whose approaches are its entries (and its own edges that lead to a node with
     two in, two out and five in all). Edges from which no turn leads are left out."""
     lit, rings = {node for _, node in mapping.signals}, rings_of(mapping)
-    real = real_nodes(mapping)
+    junctions = junction_nodes(mapping)
     found = {}
     for edge, links in mapping.links_of.items():
         node = mapping.links[links[0]].end
         in_ring = node in rings and node not in lit
-        if node in lit or node in real or in_ring and edge not in mapping.rings:
+        if node in lit or node in junctions or in_ring and edge not in mapping.rings:
             control = SIGNALS if node in lit else ROUNDABOUT if in_ring else PRIORITY
             name = mapping.nodes[rings[node] if in_ring else node][0]
             found[edge] = Approach(edge, name, control, links, mapping.links[links[0]].metres, mapping.lanes(links))
@@ -58,11 +59,11 @@ def approaches_of(mapping: Map) -> dict[str, Approach]:
         if source.edge in found:
             found[source.edge].movements[target.edge] = turn_name(source.shape, target.shape)
     made = {edge: approach for edge, approach in found.items() if approach.movements}
-    follow_back(mapping, made, lit | real | rings.keys())
+    set_edges_before(mapping, made, lit | junctions | rings.keys())
     return made
 
 
-def real_nodes(mapping: Map) -> set[int]:
+def junction_nodes(mapping: Map) -> set[int]:
     """The nodes with at least two edges in, two out and five in all."""
     ends, begins = defaultdict(set), defaultdict(set)
     for link in mapping.links:
@@ -85,9 +86,8 @@ def rings_of(mapping: Map) -> dict[int, int]:
     return least
 
 
-def follow_back(mapping: Map, approaches: Mapping[str, Approach], junctions: Collection[int]) -> None:
-    """Notes in each approach the edges before it that lead to it alone (turning back apart), back to the last of some
-    junctions (nodes), and its length with them."""
+def set_edges_before(mapping: Map, approaches: Mapping[str, Approach], junctions: Collection[int]) -> None:
+    """Sets before and whole of new approaches; edges before go back at most to the next of some junctions (nodes)."""
     before, after = defaultdict(set), defaultdict(set)
     for turn in mapping.turns:
         source, target = mapping.links[turn.link], mapping.links[turn.next]
@@ -106,15 +106,14 @@ def follow_back(mapping: Map, approaches: Mapping[str, Approach], junctions: Col
             edge, passed = sooner, passed | {sooner}
 
 
-def ways_that_stop(mapping: Map) -> set[tuple[str, str]]:
-    """The ways (edge, next edge) of those who always have to stop, as at a stop sign."""
+def movements_that_stop(mapping: Map) -> set[tuple[str, str]]:
+    """The movements (edge, next edge) of those who always have to stop, as at a stop sign."""
     paced = (turn for one in mapping.yields if one.pace is not None for turn in one.turns)
     return {(mapping.links[link].edge, mapping.links[following].edge) for link, _, following in paced}
 
 
-def cut_short(mapping: Map, approaches: Mapping[str, Approach]) -> list[str]:
-    """The edges of approaches to which further edges lead that no table has: a queue that goes on there has its delay
-    nowhere."""
+def approaches_cut_short(mapping: Map, approaches: Mapping[str, Approach]) -> list[str]:
+    """The edges of approaches to which further edges lead that no table has."""
     before = defaultdict(set)
     for turn in mapping.turns:
         before[mapping.links[turn.next].edge].add(mapping.links[turn.link].edge)
@@ -124,8 +123,8 @@ def cut_short(mapping: Map, approaches: Mapping[str, Approach]) -> list[str]:
 
 
 def turn_name(source: Shape, target: Shape) -> str:
-    """L (left), T (through), R (right) or U (back), by the directions of the lines before and after a junction: T below
-    STRAIGHT degrees, U above BACK. Points (x, y), two at least of each."""
+    """L (left), T (through), R (right) or U (back), by the lines, of two points at least, before and after a
+    junction: T below STRAIGHT degrees, U above BACK."""
     turned = (heading(*target[:2]) - heading(*source[-2:]) + 180) % 360 - 180
     if abs(turned) < STRAIGHT:
         return "T"
@@ -144,61 +143,47 @@ class Greens:
     def __init__(self, mapping: Map, signals: Iterable[Sent]) -> None:
         """signals: (clock at which it is sent, command), in any order."""
         self.mapping = mapping
-        # For each node: (clock from which it holds, command).
-        self.plans: defaultdict[int, list[Sent]] = defaultdict(list)
-        lit = {node for _, node in mapping.signals}
+        # By node: (clock from which it holds, command).
+        self.plans: dict[int, list[Sent]] = {node: [] for _, node in mapping.signals}
         for clock, command in sorted(signals, key=lambda pair: pair[0]):
-            if command["node"] in lit:
+            if command["node"] in self.plans:
                 self.plans[command["node"]].append((clock, command))
         self.clocks = {node: [clock for clock, _ in own] for node, own in self.plans.items()}
-        # (node, place of the plan, link, lane): for each phase the second in which it ends, and the links that have
-        # green.
-        self.shown: dict[tuple[int, int, int, int], tuple[list[int], list[frozenset[int]]]] = {}
-
-    def plan_at(self, node: int, step: int) -> int | None:
-        """The place of the plan that holds in a step at a node, among the node's; none before the first, and where
-        there is no light."""
-        place = bisect_right(self.clocks.get(node, ()), step) - 1
-        return None if place < 0 else place
+        # By (number of a plan, link, lane): what phase_ends_and_greens gives.
+        self.shown: dict[tuple[int, int, int], tuple[list[int], list[frozenset[int]]]] = {}
 
     def has_one_plan(self, link: int) -> bool:
-        """Whether the light at the end of a link has no more than one plan, so that `at` knows its cycles. A light that
-        detectors drive has one for each phase."""
+        """Whether the light at the end of a link has at most one plan; one that detectors drive has one a phase."""
         return len(self.clocks.get(self.mapping.links[link].end, ())) <= 1
 
-    def at(self, link: int, lane: int, step: int) -> tuple[frozenset[int] | None, Any]:
-        """(the links to which a lane has green in a step, none for all; a value that is equal for all steps of one
-        cycle, where there is no signal for those of one minute)."""
+    def green_and_cycle_at(self, link: int, lane: int, step: int) -> tuple[frozenset[int] | None, Any]:
+        """(the links to which a lane has green in a step, None for all, as before the first plan; a value that is equal
+        for all steps of one cycle, or of one minute where there is no signal)."""
         node = self.mapping.links[link].end
-        place = self.plan_at(node, step)
-        if place is None:
+        number = bisect_right(self.clocks.get(node, ()), step) - 1
+        if number < 0:
             return None, step // CYCLE
-        ends, greens = self.phases(node, place, link, lane)
-        cycle, second = divmod(step + self.plans[node][place][1]["offset"], ends[-1])
-        return greens[bisect_right(ends, second)], (place, cycle)
+        ends, greens = self.phase_ends_and_greens(number, link, lane)
+        cycle, second = divmod(step + self.plans[node][number][1]["offset"], ends[-1])
+        return greens[bisect_right(ends, second)], (number, cycle)
 
     def begin_of(self, link: int, lane: int, step: int) -> int | None:
-        """The step in which the green of a lane began that it has in a step; none where it has none then, or has had it
-        for 600 steps, since before its first plan, or always. Before clock 0 nothing is green."""
+        """The step in which the green of a lane began that it has in a step; None where it has none then, or has had it
+        for CYCLE_MOST steps, since before its first plan, or always. Before clock 0 nothing is green."""
         for back in range(step, step - CYCLE_MOST, -1):
-            shown = self.at(link, lane, back)[0] if back >= 0 else frozenset()
-            if shown is None:
-                return None
+            shown = self.green_and_cycle_at(link, lane, back)[0] if back >= 0 else frozenset()
             if not shown:
-                return back + 1 if back < step else None
+                return back + 1 if shown is not None and back < step else None
         return None
 
-    def phases(self, node: int, place: int, link: int, lane: int) -> tuple[list[int], list[frozenset[int]]]:
+    def phase_ends_and_greens(self, number: int, link: int, lane: int) -> tuple[list[int], list[frozenset[int]]]:
         """(by phase of a plan the second of the cycle in which it ends, by phase the links to which a lane has green);
-        place: of the plan among those of the node."""
-        key = node, place, link, lane
+        number: of the plan among those of the node."""
+        key = number, link, lane
         if key not in self.shown:
-            told = self.plans[node][place][1]["phases"]
-            greens = [
-                frozenset(following for source, at, following in green if (source, at) == (link, lane))
-                for _, green in told
-            ]
-            self.shown[key] = list(accumulate(duration for duration, _ in told)), greens
+            durations, greens = zip(*self.plans[self.mapping.links[link].end][number][1]["phases"], strict=True)
+            own = [frozenset(turn[2] for turn in green if tuple(turn[:2]) == (link, lane)) for green in greens]
+            self.shown[key] = list(accumulate(durations)), own
         return self.shown[key]
 
 

@@ -6,7 +6,7 @@ from statistics import fmean
 from typing import Any
 
 from streetsim.junctions.capacity import Capacity, SaturationFlows, Use
-from streetsim.junctions.layout import Approach, Greens, ways_that_stop
+from streetsim.junctions.layout import Approach, Greens, movements_that_stop
 from streetsim.junctions.passages import Passage, Passages, by_place
 from streetsim.model.freeflow import Alone
 from streetsim.model.mapping import Map, Place
@@ -14,14 +14,14 @@ from streetsim.model.runs import Sent
 from streetsim.model.service import SIGNALS, STOP_LOSS
 from streetsim.sumo.losses import STOPPING
 
-Way = tuple[str, str]  # an edge and the next one
+Movement = tuple[str, str]  # an edge and the next one
 
 
 @dataclass(slots=True)
 class Crossing:
     """A passage of an approach that goes on to another edge, with what it lost."""
 
-    movement: Way
+    movement: Movement
     clock: int  # at which it ended
     place: Place  # lane of the stop line
     delay: float  # control delay, seconds; less than 0 for one who was quicker than the mean alone
@@ -32,7 +32,7 @@ class Crossing:
 
 @dataclass(slots=True)
 class Losses:
-    """What some vehicles lost: means of one vehicle."""
+    """What some vehicles lost: means over them."""
 
     vehicles: int  # how many
     delay: float  # control delay, seconds
@@ -43,12 +43,12 @@ class Losses:
 
 @dataclass(slots=True)
 class Interval:
-    """What is known of an interval, by way (edge, next edge) or by lane (link, lane)."""
+    """What is known of an interval, by movement (edge, next edge) or by lane (link, lane)."""
 
     begin: int
     end: int
-    lost: dict[Way, Losses] = field(default_factory=dict)
-    lanes: dict[Way, Mapping[Place, float]] = field(default_factory=dict)  # vehicles by lane
+    lost: dict[Movement, Losses] = field(default_factory=dict)
+    lanes: dict[Movement, Mapping[Place, float]] = field(default_factory=dict)  # vehicles by lane
     queues: dict[Place, list[float]] = field(default_factory=dict)  # metres of the queue in each cycle, or at each look
     uses: dict[Place, Use] = field(default_factory=dict)
     flows: dict[Place, float] = field(default_factory=dict)  # saturation flow, vehicles an hour
@@ -64,8 +64,9 @@ def mean_losses(crossings: Collection[Crossing]) -> Losses:
     )
 
 
-def together(parts: Iterable[Losses]) -> Losses:
-    """The means over all vehicles of several movements, of which at least one has vehicles."""
+def weighted_mean_losses(parts: Iterable[Losses]) -> Losses:
+    """The means over all vehicles of several movements, of which at least one has vehicles; the error as of independent
+    ones, those without an error as exact."""
     parts = [part for part in parts if part.vehicles]
     count = sum(part.vehicles for part in parts)
 
@@ -80,9 +81,8 @@ def together(parts: Iterable[Losses]) -> Losses:
 
 
 def stop_loss(approach: Approach, target: str) -> float:
-    """Seconds that a vehicle which stops on an approach loses beyond what is seen; target: the next edge, of one of the
-    approach's movements. 0 for those that turn at a light: the import has put it into the green, of which it leaves out
-    seconds."""
+    """Seconds that a vehicle which stops on an approach loses beyond what is seen; target: the next edge. 0 for those
+    that turn at a light, as the import has put it into the seconds of green that it leaves out."""
     if approach.control == SIGNALS and approach.movements[target] != "T":
         return 0.0
     return STOP_LOSS[0] if len(approach.lanes) == 1 else STOP_LOSS[1]
@@ -92,19 +92,14 @@ class Measures:
     """The measures of a run that was looked at in every second."""
 
     def __init__(
-        self,
-        mapping: Map,
-        approaches: Mapping[str, Approach],
-        signals: Iterable[Sent],
-        dawdle: int,
-        plans: Sequence[Sequence[int]],
-        passages: Passages,
-    ) -> None:
+        self, mapping: Map, approaches: Mapping[str, Approach], signals: Iterable[Sent], dawdle: int,
+        plans: Sequence[Sequence[int]], passages: Passages,
+    ) -> None:  # fmt: skip
         """approaches: by edge; dawdle: of 1,000; plans: links of vehicles, by number in the file; passages: of the
         whole run."""
         self.mapping, self.approaches, self.plans, self.passages = mapping, approaches, plans, passages
         self.alone, self.greens = Alone(mapping, dawdle / 1000), Greens(mapping, signals)
-        self.stopping = ways_that_stop(mapping)
+        self.stopping = movements_that_stop(mapping)
         self.before: Counter[tuple[int, str]] = Counter()  # by vehicle and edge: passages that were judged
         found = [(passage, self.crossing(passage)) for passage in passages.done]
         self.crossings = [crossing for _, crossing in found if crossing]
@@ -116,10 +111,9 @@ class Measures:
         self.capacity = Capacity(self.greens, passages.logs, passed, self.flows, passages.start)
 
     def crossing(self, passage: Passage) -> Crossing | None:
-        """What a vehicle lost on a passage of an approach, which must have ended; none where its plan ends on the
-        approach or does not have its edge. To be asked once for each passage, as it counts them. Where the edge stands
-        in the plan more than once, the passages are asked for in their order: each is judged by the edge that follows
-        there, and by the time that one alone takes to it."""
+        """What a vehicle lost on a passage of an approach, which has ended; None where its plan ends on the approach or
+        does not have its edge. It counts the passages, each of which it is asked for once, in their order, as the edge
+        may stand in the plan more than once."""
         plan, key = self.plans[passage.car], (passage.car, passage.edge)
         places = [at for at, link in enumerate(plan) if self.mapping.links[link].edge == passage.edge]
         at = places[min(self.before[key], len(places) - 1)] if places else None
@@ -136,8 +130,8 @@ class Measures:
         return Crossing(movement, passage.end, place, delay, passage.stops, passage.stood, plan[at + 1])
 
     def interval(self, begin: int, end: int) -> Interval:
-        """What vehicles lost whose passages ended from one clock (not included) to another, and the queues and how far
-        lanes were used from the one to the other."""
+        """What vehicles lost whose passages ended from one clock (not included) to another, and the queues and the use
+        of lanes then."""
         found = Interval(begin, end)
         crossings = defaultdict(list)
         for one in self.crossings:
@@ -147,20 +141,19 @@ class Measures:
             found.lost[movement] = mean_losses(those)
             found.lanes[movement] = Counter(one.place for one in those)
         for place in self.passages.lanes:
-            found.queues[place] = self.queues(place, begin, end)
+            found.queues[place] = self.longest_queues(place, begin, end)
             found.uses[place] = self.capacity.use(place, begin, end, self.taken[place])
-            found.flows[place] = self.flows.of(place).flow
+            found.flows[place] = self.flows.saturation_of(place).flow
         return found
 
-    def queues(self, place: Place, begin: int, end: int) -> list[float]:
-        """The longest queue of a lane, in metres, in each cycle of its signal from one clock to another; without a
-        signal in each minute. A cycle of a light with several plans, as of one that detectors drive, goes from one
-        begin of the lane's green to the next."""
+    def longest_queues(self, place: Place, begin: int, end: int) -> list[float]:
+        """The longest queue of a lane, in metres, in each cycle of its signal from one clock to another, which may cut
+        the first and last; without a signal in each minute; with several plans from one begin of green to the next."""
         longest: defaultdict[Any, float] = defaultdict(float)
         back, has_cycle = self.passages.logs[place].back, self.greens.has_one_plan(place[0])
         was_green, begins = True, 0
         for step in range(begin, end):
-            shown, cycle = self.greens.at(*place, step)
+            shown, cycle = self.greens.green_and_cycle_at(*place, step)
             begins += bool(shown) and not was_green
             was_green, cycle = bool(shown), cycle if has_cycle else begins
             longest[cycle] = max(longest[cycle], back[step - self.passages.start])

@@ -37,7 +37,7 @@ class Passage:
     stood: int = 0  # seconds
     still: int = 0  # seconds for which it has stood now
     dwell: int = 0  # seconds at stops of its own, which are in neither stops nor stood
-    alone: bool = True  # nobody who had stood was on its lane when it passed the stop line
+    alone: bool = True  # nobody else who had stood was on its lane when it passed the stop line
 
 
 @dataclass(slots=True)
@@ -45,7 +45,7 @@ class LaneLog:
     """What a lane of an approach showed at each clock of a run, from the first after the start."""
 
     back: array[float] = field(default_factory=lambda: array("f"))  # metres from the stop line to the rear of the queue
-    stood: array[int] = field(default_factory=lambda: array("H"))  # vehicles on it that have stood there
+    stood: array[int] = field(default_factory=lambda: array("H"))  # vehicles on it that have stood on the approach
 
 
 class Passages:
@@ -76,21 +76,20 @@ class Passages:
                 continue
             for entry, standing in zip(cells, who_stand(cells, self.mapping.links[link]), strict=True):
                 seen.add(entry[0])
-                self.note(clock, entry[0], link, lane, standing)
+                self.note_on_cells(clock, entry[0], link, lane, standing)
             for car in buffer:
                 seen.add(car)
                 self.note_crossing(clock, car, link, lane)
             shown[link, lane] = cells
         for car in self.here.keys() - seen:
-            self.finish(car, clock)
+            self.end_passage(car, clock)
         self.note_lanes(shown)
 
-    def note(self, clock: int, car: int, link: int, lane: int, standing: bool) -> None:
+    def note_on_cells(self, clock: int, car: int, link: int, lane: int, standing: bool) -> None:
         """Notes a vehicle, by its number in the file (car), on the cells of an approach at a clock, with its stops and
-        seconds of standing (none at the clock at which it is first seen there). A stop is STILL seconds of standing;
-        where vehicles move by one cell a step, only the last of these and those after it count. standing: as
-        `who_stand` has it."""
-        passage = self.passage(clock, car, link)
+        seconds of standing. A stop is STILL seconds of standing; where vehicles move by one cell a step, only the last
+        of these and those after it count. standing: as `who_stand` has it."""
+        passage = self.passage_or_new(clock, car, link)
         passage.link, passage.lane = link, lane
         if clock == passage.begin:  # who departs stands then, which is no stop
             return
@@ -98,35 +97,34 @@ class Passages:
         passage.stops += passage.still == STILL
         passage.stood += passage.still >= STILL if self.mapping.links[link].limit == 1 else standing
 
-    def passage(self, clock: int, car: int, link: int) -> Passage:
+    def passage_or_new(self, clock: int, car: int, link: int) -> Passage:
         """The passage of a vehicle, by its number in the file (car), on the approach of a link; a new one where it was
         on none, or comes from another, whose passage ends."""
         passage, edge = self.here.get(car), self.edges[link]
         if passage is not None and passage.edge == edge:
             return passage
         if passage is not None:
-            self.finish(car, clock)
+            self.end_passage(car, clock)
         made = self.here[car] = Passage(car, edge, clock, link=link, first=link)
         return made
 
     def note_crossing(self, clock: int, car: int, link: int, lane: int) -> None:
         """Notes a vehicle, by its number in the file (car), in the junction behind a lane at a clock: the first time
         that it is past the stop line, and once it has been there for longer than one crosses, a second of standing each
-        time. In a junction between two edges of an approach it is noted as on the approach, no more."""
-        passage = self.passage(clock, car, link)
+        time; between two edges of an approach only that it is on that."""
+        passage = self.passage_or_new(clock, car, link)
         if link not in self.before:  # between two edges of the approach
             return
         if not passage.line:
             passage.line, passage.link, passage.lane = clock, link, lane
-            log = self.logs[link, lane]
-            others = log.stood[-1] - (passage.stood > 0) if log.stood else 0
-            passage.alone = others <= 0
+            stood = self.logs[link, lane].stood
+            passage.alone = not stood or stood[-1] <= (passage.stood > 0)
         elif clock - passage.line > self.mapping.nodes[self.mapping.links[link].end][3]:
             passage.stood += 1  # waits before the next edge
 
-    def finish(self, car: int, clock: int) -> None:
-        """Ends the passage of a vehicle that is on its approach no longer at a clock, and adds it to `done`; its own
-        stops count in dwell alone."""
+    def end_passage(self, car: int, clock: int) -> None:
+        """Ends the passage of a vehicle that has left its approach by a clock, and adds it to `done`; its own stops
+        count in dwell alone."""
         passage = self.here.pop(car)
         passage.end = clock
         passage.line = passage.line or clock
@@ -143,8 +141,8 @@ class Passages:
             log.stood.append(sum(self.here[entry[0]].stood > 0 for entry in shown.get(place, ())))
 
     def queue_at(self, place: Place, shown: Mapping[Place, Cells]) -> float:
-        """Metres of the queue of a lane, from its stop line; where it fills the lane, with the longest one on the edges
-        before. shown: the cells by lane."""
+        """Metres of the queue of a lane, from its stop line; where it fills the lane, with the longest on the edge
+        before, and so on. shown: the cells by lane."""
         metres = self.queue_on(place, shown)
         full = self.mapping.links[place[0]].metres
         for links in self.before[place[0]]:
@@ -161,9 +159,8 @@ class Passages:
 
 
 def who_stand(cells: Cells, link: MapLink) -> list[bool]:
-    """Whether each vehicle of a lane stands, in the order of its cells (the greatest first). Where they move by one
-    cell a step, who dawdles has no speed either: there only those stand who have another, or the lane's end, right
-    before them."""
+    """Whether each vehicle of a lane stands (has no speed), in the order of its cells, the greatest first. Where they
+    move by one cell a step, and who dawdles has none either, it also needs another, or the lane's end, before it."""
     if link.limit > 1:
         return [not entry[2] for entry in cells]
     rears = [link.cells, *(entry[1] - size_of(entry) + 1 for entry in cells)]
@@ -171,9 +168,8 @@ def who_stand(cells: Cells, link: MapLink) -> list[bool]:
 
 
 def queue_metres(still: Cells, link: MapLink) -> float:
-    """Metres from the stop line to the rear of the last vehicle of the queue; still: the entries of those who stand,
-    the greatest cell first. A gap of more than 20 m ends the queue; it is at most as long as the link. 0 where nobody
-    stands near the line."""
+    """Metres, those of the link at most, from the stop line to the rear of the last vehicle of the queue, which a gap
+    above REACH ends; still: the entries of those who stand, the greatest cell first."""
     size, back, reach = link.metres / link.cells, 0.0, REACH
     for entry in still:
         ahead = (link.cells - 1 - entry[1]) * size
@@ -208,18 +204,16 @@ def discharges(
 ) -> list[Discharge]:
     """The discharges of a lane's queues of eight vehicles and more; those of which one has not stood, or whose green's
     begin is not known, are left out. passages: of the lane, in the order in which they passed its line; start: the
-    clock before the log's first. green_begin gives the step in which the green of a step began, or none."""
+    clock before the log's first. green_begin gives the step in which the green of a step began, or None."""
+    groups: list[list[Passage]] = []
+    for passage in passages:
+        if not groups or passage.line - groups[-1][-1].line > GROUP_GAP:
+            groups.append([])
+        groups[-1].append(passage)
     found: list[Discharge] = []
-    group: list[Passage] = []
-    for passage in [*passages, None]:
-        if passage is not None and (not group or passage.line - group[-1].line <= GROUP_GAP):
-            group.append(passage)
-            continue
-        count = log.stood[max(0, group[0].line - 2 - start)] if group else 0
-        queue = group[:count]
-        begin = green_begin(group[0].line - 1) if group else None
+    for group in groups:
+        queue, begin = group[: log.stood[max(0, group[0].line - 2 - start)]], green_begin(group[0].line - 1)
         if len(queue) >= QUEUE and all(one.stood for one in queue) and begin is not None:
             headway = (queue[-1].line - queue[3].line) / (len(queue) - 4)
             found.append(Discharge(headway, queue[3].line - begin - 4 * headway))
-        group = [] if passage is None else [passage]
     return found

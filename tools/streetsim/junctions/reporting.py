@@ -1,14 +1,14 @@
 """Makes the junction tables of a run, from further runs that repeat it."""
 from collections.abc import Sequence
 
-from streetsim.base.report import some
+from streetsim.base.report import first_few
 from streetsim.buses.fleet import dwells
-from streetsim.junctions.facing import facing
-from streetsim.junctions.layout import approaches_of, cut_short, places_of
+from streetsim.junctions.facing import junctions_with_facing_streets
+from streetsim.junctions.layout import approaches_of, approaches_cut_short, places_of
 from streetsim.junctions.measures import Measures
 from streetsim.junctions.passages import Passages
 from streetsim.junctions.rows import Tables
-from streetsim.junctions.sampling import Ends, Sampled, moments
+from streetsim.junctions.sampling import Ends, Sampled, clocks_of_looks
 from streetsim.model.names import Names
 from streetsim.run.records import Recorded, Records
 from streetsim.run.watching import watch
@@ -18,8 +18,8 @@ MOST_LOOKS = 8_000_000  # at a lane in every second of a run; where there would 
 
 def write_junctions(made: Recorded, interval: int) -> tuple[list[str], list[str]]:
     """Writes movements.csv, approaches.csv and junctions.csv into the folder of a run, with rows of `interval` seconds,
-    the last ones of fewer where the run ends before. Gives (sentences for the terminal on how they were made; doubts:
-    why they are not to be trusted); both may be empty. Fault where one cannot be written, or a further run fails."""
+    the last ones of fewer where the run ends before. Gives (sentences for the terminal; doubts: why they are not to be
+    trusted). Fault where one cannot be written, or a further run fails."""
     run, start, until = made.run, made.run.start(), made.settings.until
     approaches = approaches_of(made.mapping)
     lanes = places_of(approaches, made.mapping)
@@ -30,7 +30,7 @@ def write_junctions(made: Recorded, interval: int) -> tuple[list[str], list[str]
     if exact:
         seen = Passages(made.mapping, approaches, start, stopped)
     else:
-        clocks = moments(start, until)
+        clocks = clocks_of_looks(start, until)
         seen = Sampled(made.mapping, approaches, run, Ends(arrivals_of(made.records), stopped), interval)
     for frame in watch(made, clocks, lanes):
         seen.see(frame)
@@ -39,19 +39,18 @@ def write_junctions(made: Recorded, interval: int) -> tuple[list[str], list[str]
     if isinstance(seen, Passages):
         measures = Measures(made.mapping, approaches, run.signals(), dawdle, plans, seen)
     else:
-        measures = seen.finish()
+        seen.add_ends_and_stops()
+        measures = seen
     tables = Tables(approaches)
     for begin in range(start, until, interval):
         tables.add(measures.interval(begin, min(begin + interval, until)))
     tables.write(made.folder, Names(made.mapping))
-    told = (
-        []
-        if exact
-        else ["junctions: lanes are looked at at random moments, as every second would be too many looks (error_s)"]
-    )
-    if found := facing(made.mapping, plans, (until - start) / 3600):
-        told.append(f"junctions: delays are too small where minor streets wait for each other: {some(found)}")
-    beyond, doubts = of_queues(sorted(tables.filled() & set(cut_short(made.mapping, approaches))))
+    why = "as every second would be too many looks (error_s)"
+    told = [] if exact else [f"junctions: lanes are looked at at random moments, {why}"]
+    if found := junctions_with_facing_streets(made.mapping, plans, (until - start) / 3600):
+        told.append(f"junctions: delays are too small where minor streets wait for each other: {first_few(found)}")
+    cut = tables.filled_approaches().intersection(approaches_cut_short(made.mapping, approaches))
+    beyond, doubts = told_of_queues_beyond(sorted(cut))
     return told + beyond, doubts
 
 
@@ -60,12 +59,11 @@ def arrivals_of(records: Records) -> list[int | None]:
     return [end.arrival if end else None for end in records.ends]
 
 
-def of_queues(approaches: Sequence[str]) -> tuple[list[str], list[str]]:
-    """(a sentence for the terminal, a doubt), each in a list, on approaches beyond which queues went on; both empty for
-    none."""
+def told_of_queues_beyond(approaches: Sequence[str]) -> tuple[list[str], list[str]]:
+    """(a sentence for the terminal, a doubt), each in a list, on approaches beyond which queues went on, if any."""
     if not approaches:
         return [], []
-    small, found = "delays, letters and queues are too small", some(approaches)
+    small, found = "delays, letters and queues are too small", first_few(approaches)
     where = "where a queue fills an approach and goes on in the edge before it, which no table has"
     doubt = f"junction tables: {small} at {found}, as queues go on in the edges before, which no table has"
     return [f"junctions: {small} {where}: {found}"], [doubt]

@@ -3,7 +3,7 @@ from collections import defaultdict
 from collections.abc import Collection, Mapping, Sequence
 
 from streetsim.junctions.layout import Approach
-from streetsim.junctions.measures import Interval, Losses, together
+from streetsim.junctions.measures import Interval, Losses, weighted_mean_losses
 from streetsim.model.names import Names, write_named
 from streetsim.model.service import fills, level, percentile
 from streetsim.model.tables import APPROACHES, JUNCTIONS, MOVEMENTS, Entry
@@ -12,8 +12,7 @@ MOVEMENT_SHARE = 0.05  # of a movement's vehicles, from which on a lane counts f
 
 
 class Tables:
-    """The rows of the three tables, one interval after the other; movements, approaches and junctions that nobody used
-    in an interval have none."""
+    """The rows of the three tables, by interval; what nobody used in an interval has none."""
 
     def __init__(self, approaches: Mapping[str, Approach]) -> None:
         """approaches: by edge, as `approaches_of` gives them."""
@@ -30,29 +29,28 @@ class Tables:
             found = [one for approach in approaches if (one := self.add_approach(interval, approach))]
             if found:
                 parts, queues, ratios = zip(*found, strict=True)
-                lost, control = together(parts), approaches[0].control
+                lost, control = weighted_mean_losses(parts), approaches[0].control
                 last = f"{max(queues):.1f}", f"{max(ratios):.2f}", level(lost.delay, control)
-                self.junctions.append((interval.begin, interval.end, junction, control, *told(lost, interval), *last))
+                head = interval.begin, interval.end, junction, control
+                self.junctions.append((*head, *loss_columns(lost, interval), *last))
 
     def add_approach(self, interval: Interval, approach: Approach) -> tuple[Losses, float, float] | None:
         """Adds the rows of an approach and of its movements; gives (what its vehicles lost, metres of its longest
-        queue, the greatest v/c of its movements); none where nobody used it."""
-        parts, ratios = [], []
-        for target, name in sorted(approach.movements.items()):
-            if (approach.edge, target) in interval.lost:
-                ratios.append(self.add_movement(interval, approach, target, name))
-                parts.append(interval.lost[approach.edge, target])
-        if not parts:
+        queue, the greatest v/c of its movements); None where nobody used it."""
+        used = [pair for pair in sorted(approach.movements.items()) if (approach.edge, pair[0]) in interval.lost]
+        if not used:
             return None
-        lost, queues = together(parts), [interval.queues[place] for place in approach.lanes]
+        ratios = [self.add_movement(interval, approach, *pair) for pair in used]
+        lost = weighted_mean_losses(interval.lost[approach.edge, target] for target, _ in used)
+        queues = [interval.queues[place] for place in approach.lanes]
         head = interval.begin, interval.end, approach.junction, approach.control, approach.edge
         last = f"{max(ratios):.2f}", level(lost.delay, approach.control)
-        self.approaches.append((*head, *told(lost, interval), *worst(queues, approach.whole), *last))
+        self.approaches.append((*head, *loss_columns(lost, interval), *queue_columns(queues, approach.whole), *last))
         return lost, max((queue for lane in queues for queue in lane), default=0.0), max(ratios)
 
     def add_movement(self, interval: Interval, approach: Approach, target: str, name: str) -> float:
-        """Adds the row of a movement of an approach; target: the next edge; name: L, T, R or U. Gives its v/c, 0 where
-        its capacity is not known."""
+        """Adds the row of a movement of an approach, to the edge target; name: L, T, R or U. Gives its v/c, 0 where its
+        capacity is not known."""
         lost, lanes = interval.lost[approach.edge, target], interval.lanes[approach.edge, target]
         count = max(1, sum(lanes.values()))
         hours = (interval.end - interval.begin) / 3600
@@ -66,11 +64,12 @@ class Tables:
         head = interval.begin, interval.end, approach.junction, approach.control, approach.edge, target, name
         last = f"{flow:.0f}", f"{capacity:.0f}" if capacity else "", f"{ratio:.2f}"
         letter = level(lost.delay, approach.control, ratio)
-        self.movements.append((*head, *told(lost, interval), *worst(used, approach.whole), *last, letter))
+        columns = *loss_columns(lost, interval), *queue_columns(used, approach.whole)
+        self.movements.append((*head, *columns, *last, letter))
         return ratio
 
-    def filled(self) -> set[str]:
-        """The edges of the approaches that a queue filled in any interval."""
+    def filled_approaches(self) -> set[str]:
+        """The edges of the approaches that a queue filled in any interval, by the rows so far."""
         at = [APPROACHES.index(name) for name in ("approach", "queue_max_m", "storage_m")]
         rows = ([row[place] for place in at] for row in self.approaches)
         return {edge for edge, queue, metres in rows if fills(float(queue), float(metres))}
@@ -83,19 +82,17 @@ class Tables:
         write_named(f"{folder}/junctions.csv", JUNCTIONS, self.junctions, names)
 
 
-def told(lost: Losses, interval: Interval) -> tuple:
-    """The columns LOST of a row: vehicles, vehicles an hour, seconds of control delay, its error, seconds of standing,
-    stops a vehicle; empty where a value is not known."""
+def loss_columns(lost: Losses, interval: Interval) -> tuple:
+    """The columns LOST of a row (vehicles, an hour, delay, its error, standing, stops), empty where not known."""
     hourly = lost.vehicles * 3600 / (interval.end - interval.begin)
     error = "" if lost.error is None else f"{lost.error:.1f}"
     stops = "" if lost.stops is None else f"{lost.stops:.2f}"
     return lost.vehicles, f"{hourly:.0f}", f"{lost.delay:.1f}", error, f"{lost.stood:.1f}", stops
 
 
-def worst(lanes: Collection[Sequence[float]], metres: float) -> tuple:
-    """The columns QUEUED of a row, texts of metres (50 %, 95 %, greatest, room), of the lane whose queues have the
-    greatest 95 % value; lanes: metres of the queues of each (0.0 without any); metres: the approach's length, for the
-    column of the room."""
+def queue_columns(lanes: Collection[Sequence[float]], metres: float) -> tuple:
+    """The columns QUEUED of a row (50 %, 95 %, greatest, room), of the lane whose queues have the greatest 95 % value;
+    lanes: metres of the queues of each; metres: the approach's length, which is the room."""
     queues = max(lanes, key=lambda lane: percentile(lane, 0.95), default=[])
     values = percentile(queues, 0.5), percentile(queues, 0.95), max(queues, default=0.0), metres
     return tuple(f"{value:.1f}" for value in values)

@@ -2,8 +2,7 @@
 
 The page's address holds a token that only who started the bridge knows, so that no other user and no other
 site can reach the simulator: the token, the host and the origin of each request are checked, and what a
-request may send is bounded.
-"""
+request may send is bounded."""
 import hmac
 import json
 import secrets
@@ -45,9 +44,8 @@ class Bridge(ThreadingHTTPServer):
     daemon_threads = True
 
     def __init__(self, engines: Sequence[Engine], page: bytes, port: int = 0, join: Join | None = None) -> None:
-        """engines: the traffic as it is, and as it was without changes; page: its HTML; port: taken at once (OSError
-        where it cannot be had), 0: any free one; join: imports the run anew, None: that is refused, as for a session
-        that is kept."""
+        """engines: the traffic as it is, and as it was without changes; page: its HTML; port: OSError where it cannot
+        be had, 0: any; join: imports the run anew, None: that is refused, as for a session that is kept."""
         super().__init__((HOST, port), Handler)
         self.engines, self.page, self.join = engines, page, join
         self.token, self.owner, self.lock = secrets.token_urlsafe(24), "", threading.Condition()
@@ -62,15 +60,13 @@ class Bridge(ThreadingHTTPServer):
         if not isinstance(sys.exc_info()[1], OSError):
             super().handle_error(request, client_address)  # type: ignore[arg-type]
 
-    def take(self, name: str, from_another: bool = False) -> None:
-        """Makes the page of this name the one that is served; Refusal where another one is served, unless
-        from_another."""
+    def claim_page(self, name: str, from_another: bool = False) -> None:
+        """Makes the page of this name the one that is served; Refusal where another one is, unless from_another allows
+        to take over from it."""
         with self.lock:
             if self.owner not in ("", name) and not from_another:
-                raise Refusal(
-                    HTTPStatus.CONFLICT,
-                    "another page is open at this bridge: close it and reload this one, or take over from it",
-                )
+                why = "another page is open at this bridge: close it and reload this one, or take over from it"
+                raise Refusal(HTTPStatus.CONFLICT, why)
             self.owner = name
             self.lock.notify_all()
 
@@ -78,15 +74,13 @@ class Bridge(ThreadingHTTPServer):
         """Has the run imported anew with further lanes (names) joint, and ends what the engines run; the page gets it
         when it is loaded again. Refusal for a session that is kept, Fault where they cannot be joint."""
         if self.join is None:
-            raise Refusal(
-                HTTPStatus.NOT_FOUND,
-                "a session that is kept stays as it was imported: start streetsim-live with --joint and another file",
-            )
+            advice = "start streetsim-live with --joint and another file"
+            raise Refusal(HTTPStatus.NOT_FOUND, f"a session that is kept stays as it was imported: {advice}")
         self.page, lines = self.join(names)
         for engine in self.engines:
-            engine.take(lines)
+            engine.replace_lines(lines)
 
-    def give_up(self, name: str) -> None:
+    def release_page(self, name: str) -> None:
         """Has no page served, where it was the one of this name."""
         with self.lock:
             if self.owner == name:
@@ -94,8 +88,7 @@ class Bridge(ThreadingHTTPServer):
                 self.lock.notify_all()
 
     def is_owner(self, name: str, wait: float = 0) -> bool:
-        """Whether the page of this name is the one that is served, and stays so for so many seconds (wait): it waits so
-        long, or until another one is served."""
+        """Whether the page of this name is the one that is served, and stays so for so many seconds (wait)."""
         with self.lock:
             return not self.lock.wait_for(lambda: self.owner != name, wait) if name else False
 
@@ -108,9 +101,9 @@ class Bridge(ThreadingHTTPServer):
 class Handler(BaseHTTPRequestHandler):
     """A request: GET /TOKEN/ is the page; POST /TOKEN/PAGE/VERB is what the page of that name sends. begin and lines go
     to an engine, which a number behind them names; begin makes the page the one that is served, unless another one is;
-    take makes it that one in the place of another, and leave has none served; stay is answered for as long as it is
-    that one; join has lanes joint, which the request names. Of a session that is kept known tells the changes and the
-    clock, know keeps changes, and settle ends what `anew` of begin has begun."""
+    take makes it that one in any case, and leave has none served; stay is answered as long as it is that one; join has
+    lanes joint. Of a kept session known tells the changes and the clock, know keeps changes, settle ends what `anew` of
+    begin began."""
 
     protocol_version = "HTTP/1.1"
     # An answer goes out at once and in one piece: the system else holds the second piece back for 40 ms.
@@ -147,10 +140,8 @@ class Handler(BaseHTTPRequestHandler):
             raise Refusal(HTTPStatus.FORBIDDEN, "the bridge serves its own page alone")
         token, *words = self.path.removeprefix("/").split("/")
         if not hmac.compare_digest(token.encode(), self.server.token.encode()):
-            raise Refusal(
-                HTTPStatus.FORBIDDEN,
-                "the address lacks the bridge's token: take the address that streetsim-live printed",
-            )
+            why = "the address lacks the bridge's token: take the address that streetsim-live printed"
+            raise Refusal(HTTPStatus.FORBIDDEN, why)
         return words
 
     def get(self, words: list[str]) -> tuple[bytes, str]:
@@ -161,50 +152,48 @@ class Handler(BaseHTTPRequestHandler):
 
     def post(self, words: list[str]) -> tuple[bytes, str] | None:
         """Does what the page's words ask: its name, a verb and perhaps an engine's number; gives (body, type), None
-        where all was sent already. Refusal for other words, and where the page must be the one that is served and is
-        not."""
+        where all was sent already. Refusal for other words, and where the page must be the one that is served."""
         body = self.body()
         name, verb, *which = [*words, "", ""][: max(2, len(words))]
         if verb not in VERBS or not name or which not in ([], ["0"], ["1"]):
             raise Refusal(HTTPStatus.NOT_FOUND, f"a page sends {', '.join(VERBS)}")
-        engine = self.server.engines[int(which[0]) if which else 0]
-        if verb == "leave":
-            self.server.give_up(name)
-        elif verb == "take":
-            self.server.take(name, True)
-        elif verb == "begin":
-            self.server.take(name)
-            return b"".join(engine.begin(body == b"anew")), "text/plain"
-        else:
+        engine, answer = self.server.engines[int(which[0]) if which else 0], b""
+        if verb not in ("leave", "take", "begin"):
             self.server.check_owner(name)
-            if verb == "lines":
-                return b"".join(engine.ask(lines_of(body))), "text/plain"
-            if verb == "stay":
-                self.stay(name)
-                return None
-            if verb == "join":
-                self.server.join_lanes(body.decode(errors="replace").split())
-                return b"", "text/plain"
+        if verb == "leave":
+            self.server.release_page(name)
+        elif verb == "take":
+            self.server.claim_page(name, True)
+        elif verb == "begin":
+            self.server.claim_page(name)
+            answer = b"".join(engine.begin_run(body == b"anew"))
+        elif verb == "lines":
+            answer = b"".join(engine.ask(checked_lines(body)))
+        elif verb == "join":
+            self.server.join_lanes(body.decode(errors="replace").split())
+        elif verb == "stay":
+            self.stay(name)
+            return None
+        else:
             return self.keeping(verb, engine, body)
-        return b"", "text/plain"
+        return answer, "text/plain"
 
     def keeping(self, verb: str, engine: Engine, body: bytes) -> tuple[bytes, str]:
-        """Does what a page asks of a session that is kept, and gives (body, type); verb: known, know or settle. Refusal
-        where this session is not kept, or changes are no list."""
+        """Does what a page asks of a session that is kept (known, know or settle), and gives (body, type). Refusal
+        where this one is not kept, or changes are no list."""
         if not isinstance(engine, KeptEngine):
             raise Refusal(HTTPStatus.NOT_FOUND, "this session is not kept")
         if verb == "known":
-            return json.dumps(engine.known()).encode(), "application/json"
-        changes = changes_of(body)
+            return json.dumps(engine.changes_and_clock()).encode(), "application/json"
+        changes = checked_changes(body)
         if verb == "know":
-            engine.know(changes)
+            engine.keep_changes(changes)
         else:
-            engine.settle(changes)
+            engine.replace_session(changes)
         return b"", "text/plain"
 
     def stay(self, name: str) -> None:
-        """Sends a byte each HEARD_EVERY seconds until another page is served, or none. Where a byte cannot be sent, the
-        page is gone, and the bridge is free for another."""
+        """Sends a byte each HEARD_EVERY seconds as long as this page is served; where it cannot, the page is gone."""
         self.close_connection = True
         self.send_response(HTTPStatus.OK)
         self.send_header("Content-Type", "text/plain")
@@ -216,7 +205,7 @@ class Handler(BaseHTTPRequestHandler):
                 self.wfile.write(b".")
                 self.wfile.flush()
         except OSError:
-            self.server.give_up(name)
+            self.server.release_page(name)
 
     def body(self) -> bytes:
         """The body of a request; Refusal where it has no length, or is longer than MOST_BODY."""
@@ -250,7 +239,7 @@ class Handler(BaseHTTPRequestHandler):
         """Writes nothing: requests are not logged."""
 
 
-def changes_of(body: bytes) -> list[Any]:
+def checked_changes(body: bytes) -> list[Any]:
     """The changes that a page sends, a list of JSON; Refusal for anything else."""
     try:
         changes = json.loads(body)
@@ -261,9 +250,8 @@ def changes_of(body: bytes) -> list[Any]:
     return changes
 
 
-def lines_of(body: bytes) -> list[bytes]:
-    """The lines of a request, each with its LF. Refusal where there is none, the last has no LF, or one is blank, has a
-    CR, or is longer than MOST_LINE."""
+def checked_lines(body: bytes) -> list[bytes]:
+    """The lines of a request, each with its LF; Refusal for other bytes, blank lines and those above MOST_LINE."""
     lines = body.splitlines(keepends=True) if b"\r" not in body else []
     if not lines or not body.endswith(b"\n"):
         raise Refusal(HTTPStatus.BAD_REQUEST, "lines end with LF and have no CR")

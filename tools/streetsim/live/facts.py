@@ -1,5 +1,4 @@
-"""What a page tells of a network beside its map: names of streets and areas of junctions; and when vehicles would end
-if nobody were in their way."""
+"""What a page tells of a network beside its map, and when vehicles would end if nobody were in their way."""
 import os
 
 from streetsim.base.files import Fault, FilePath, elements
@@ -11,9 +10,8 @@ Area = list[list[float]]
 
 
 def streets_and_areas(mapping: Map, map_path: FilePath) -> tuple[dict[str, str], dict[str, Area]]:
-    """(names of streets by edge, outlines of junctions by name: points [x, y] in metres). Names are those of the map,
-    and of the imported network where its file is still there; outlines are of that file alone, and empty without it.
-    map_path: the map's file, from whose folder the network's path is taken."""
+    """(names of streets by edge, outlines of junctions by name: points [x, y] in metres), of the map and of the
+    imported network, from the folder of the map (map_path); without its file no outlines."""
     names: dict[str, str] = dict(mapping.names.get("edges", {}))
     areas: dict[str, Area] = {}
     if not mapping.sources:
@@ -32,8 +30,7 @@ def streets_and_areas(mapping: Map, map_path: FilePath) -> tuple[dict[str, str],
 
 
 def departures_and_ends(run: Run, mapping: Map) -> tuple[list[int], list[int]]:
-    """(the seconds at which vehicles wish to depart, those at which they would end if they were alone and all lights
-    green); each list rises by itself."""
+    """(the seconds at which vehicles wish to depart, those at which they would end alone and at green), each sorted."""
     alone, known = Alone(mapping, run.load.command.get("dawdle", 0) / 1000), {}
     departs, ends = [], []
     for line in run.enters:

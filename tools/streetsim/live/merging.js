@@ -4,7 +4,7 @@ const BEHIND = 6, AHEAD = 2; // cells: the least gaps on the other lane that the
 const PATIENCE = 10; // seconds
 const PLATOON = 8; // cells
 const NEAR = 2; // cells before the works in which one stands first
-const MOST_HELD = 60; // seconds
+const MOST_WAIT = 60; // seconds for which the same one stands first, those before the hold among them, until it ends
 const EVERY = 5; // seconds between being told, while no lane is held
 
 const noCells = () => [new Set(), new Set()]; // by lane
@@ -36,7 +36,7 @@ class Merging {
     for (const place of this.places(lanes.map(lane => lane.closed))) {
       const key = `${place.lane} ${place.first}`, turn = known.get(key) ?? { head: null, since: 0, held: null };
       this.turns.set(key, turn);
-      take(turn, clock, place, lanes);
+      lookAtPlace(turn, clock, place, lanes);
       if (turn.held) for (const cell of cellsOf([turn.held])) wanted[1 - place.lane].add(cell);
     }
     return this.changes(wanted);
@@ -72,7 +72,7 @@ class Merging {
 }
 
 // Begins or ends the hold of a place.
-function take(turn, clock, { lane, low, first }, lanes) {
+function lookAtPlace(turn, clock, { lane, low, first }, lanes) {
   const before = lanes[lane].cells.filter(([, cell]) => low <= cell && cell < first), one = before[0];
   const head = one && one[2] === 0 && one[1] >= first - NEAR ? one[0] : null;
   if (head !== turn.head) { turn.head = head; turn.since = clock; }
@@ -80,7 +80,7 @@ function take(turn, clock, { lane, low, first }, lanes) {
   if (turn.held) {
     const [begin, end] = turn.held;
     const isFree = lanes[1 - lane].cells.every(other => other[1] < begin || rearOf(other) > end + AHEAD);
-    if (head === null || waited > MOST_HELD || isFree) { turn.held = null; turn.since = clock; }
+    if (head === null || waited > MOST_WAIT || isFree) { turn.held = null; turn.since = clock; }
   } else if (head !== null && waited >= PATIENCE) {
     const rears = before.filter(other => other[2] === 0).map(rearOf);
     turn.held = [Math.max(low, Math.min(rears[0], ...rears.filter(rear => rear >= first - PLATOON)) - BEHIND), one[1]];

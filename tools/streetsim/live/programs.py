@@ -12,28 +12,23 @@ NATIVE, MODULE = "street_page", "street_page.wasm"
 AT = {NATIVE: f"libexec/streetsim/{NATIVE}", MODULE: f"share/streetsim/{MODULE}"}  # from the prefix, where installed
 
 
-def beside(name: str) -> Path:
-    """The path of a file that ./build --page makes (NATIVE or MODULE): the one installed with the tools, else that of
-    the repository, which may not be there."""
+def built_path(name: str) -> Path:
+    """The path, installed or in the repository, of what ./build --page makes (NATIVE or MODULE); it may be absent."""
     return installed(AT[name]) or TOP / BUILT / name
 
 
-def program_of(given: str | None) -> str:
-    """The path of the page's program: the one given, else that of STREETSIM_PAGE, else the one that is
-    installed with the tools, else the one that ./build --page made. Fault where it cannot be run."""
-    named = given or os.environ.get(VARIABLE) or str(beside(NATIVE))
+def page_program(given: str | None) -> str:
+    """The path of the page's program: given, of STREETSIM_PAGE, or as of built_path; Fault where it cannot be run."""
+    named = given or os.environ.get(VARIABLE) or str(built_path(NATIVE))
     if not os.access(named, os.X_OK):
-        raise Fault(
-            f"{named}: no program that can be run: give --program, set {VARIABLE}, or run ./build "
-            "--page in streetsim's repository"
-        )
+        way = f"give --program, set {VARIABLE}, or run ./build --page in streetsim's repository"
+        raise Fault(f"{named}: no program that can be run: {way}")
     return str(Path(named).resolve())
 
 
-def module_of(given: str | None) -> bytes:
-    """The engine for browsers, as bytes: of the file given, else of the one installed with the tools, else of the one
-    built; Fault where it cannot be read."""
-    path = Path(given) if given else beside(MODULE)
+def page_module(given: str | None) -> bytes:
+    """The engine for browsers, as bytes: of the file given, else as of built_path; Fault where it cannot be read."""
+    path = Path(given) if given else built_path(MODULE)
     try:
         return path.read_bytes()
     except OSError as fault:
@@ -47,6 +42,6 @@ def is_whole_built(program: str) -> bool:
 
 def is_built(given: str | None, as_module: bool) -> bool:
     """Whether a page's program is the one that ./build --page made and proved, by its path alone; given: as of
-    program_of, or (as_module) as of module_of."""
-    path = Path(given or (not as_module and os.environ.get(VARIABLE)) or beside(MODULE if as_module else NATIVE))
-    return path.resolve() == beside(MODULE if as_module else NATIVE).resolve()
+    page_program, or (as_module) as of page_module."""
+    path = Path(given or (not as_module and os.environ.get(VARIABLE)) or built_path(MODULE if as_module else NATIVE))
+    return path.resolve() == built_path(MODULE if as_module else NATIVE).resolve()

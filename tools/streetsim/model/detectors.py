@@ -58,8 +58,7 @@ class Areas:
 
 
 def size_of(entry: Sequence[int]) -> int:
-    """The cells that a vehicle takes, by its entry in a lane's reply: [car, cell, speed], with the size where it is
-    above 1."""
+    """The cells that a vehicle takes, by its entry in a lane's reply: [car, cell, speed], with its size above 1."""
     return entry[3] if len(entry) > 3 else 1
 
 
@@ -70,8 +69,7 @@ def metres_in(entry: Sequence[int], first: int, cell_metres: float = limits.CELL
 
 
 def longest_jam(cells: Cells) -> int:
-    """How many vehicles, at most, stand one behind the other without a gap; cells: of a lane's reply, the greatest
-    first."""
+    """How many vehicles, at most, stand one behind the other without a gap; cells: of a lane's reply."""
     longest = here = 0
     rear = None
     for entry in cells:

@@ -2,7 +2,7 @@
 import json
 import os
 import re
-from collections.abc import Iterable, Iterator, Sequence
+from collections.abc import Iterator, Sequence
 from dataclasses import dataclass, field
 
 from streetsim.base.files import Fault, Json, open_text, read_json, reading
@@ -49,17 +49,17 @@ class Folder:
 
     def works(self) -> list[dict[str, str]]:
         """The rows of works.csv (tables.WORKS); Fault where the run had no works."""
-        return self.at_wish(tables.WORKS_FILE, tables.WORKS, "no works in this run (streetsim-run --close)")
+        return self.optional_table(tables.WORKS_FILE, tables.WORKS, "no works in this run (streetsim-run --close)")
 
     def stops(self) -> list[dict[str, str]]:
         """The rows of stops.csv (tables.STOPS); Fault where the run had no stops."""
-        return self.at_wish(tables.STOPS_FILE, tables.STOPS, "no stops of vehicles in this run")
+        return self.optional_table(tables.STOPS_FILE, tables.STOPS, "no stops of vehicles in this run")
 
     def phases(self) -> list[dict[str, str]]:
         """The rows of phases.csv (tables.PHASES); Fault where detectors drove no light."""
-        return self.at_wish(tables.PHASES_FILE, tables.PHASES, "detectors drive no light in this run")
+        return self.optional_table(tables.PHASES_FILE, tables.PHASES, "detectors drive no light in this run")
 
-    def at_wish(self, name: str, header: Sequence[str], why: str) -> list[dict[str, str]]:
+    def optional_table(self, name: str, header: Sequence[str], why: str) -> list[dict[str, str]]:
         """The rows of a table that not every run has; Fault where this one has none. name: of the file; header: its
         columns; why: what the Fault says."""
         if not os.path.exists(f"{self.path}/{name}"):
@@ -75,28 +75,25 @@ class Folder:
         with reading(path), open_text(path) as file:
             yield from map(json.loads, file)
 
-    def links_along(self, edges: Iterable[str]) -> list[list[int]]:
-        """For each edge of a path, in its order, the numbers of its links; Fault where the map has no such edge. edges:
-        a list or tuple, as it is read twice."""
-        for edge in edges:
-            if edge not in self.mapping.links_of:
-                raise Fault(f"{self.path}: the map has no edge {edge!r}")
+    def links_along(self, edges: Sequence[str]) -> list[list[int]]:
+        """For each edge of a path, in its order, the numbers of its links; Fault where the map has no such edge."""
+        if unknown := [edge for edge in edges if edge not in self.mapping.links_of]:
+            raise Fault(f"{self.path}: the map has no edge {unknown[0]!r}")
         return [self.mapping.links_of[edge] for edge in edges]
 
 
 def seeds_in(path: str) -> list[int]:
-    """The seeds, rising, of which a folder has runs in folders of their own; empty where there are none."""
+    """The seeds, rising, whose runs a folder has, each in a folder of its own; empty where there are none."""
     names = os.listdir(path) if os.path.isdir(path) else []
     seeds = [int(name[5:]) for name in names if re.fullmatch(r"seed-\d+", name)]
     return sorted(seed for seed in seeds if os.path.exists(f"{path}/seed-{seed}/{NAME}"))
 
 
 def read_folder(path: str) -> Folder:
-    """What streetsim-run left in the folder of one run; Fault where it is no such folder, or has the runs of several
-    seeds."""
+    """What streetsim-run left in the folder of one run; Fault where it is no such folder, or one of several seeds."""
     if not os.path.exists(f"{path}/{NAME}") and (seeds := seeds_in(path)):
         raise Fault(f"{path}: the runs of {len(seeds)} seeds: name one of them, {path}/seed-{seeds[0]}")
     value = read_json(f"{path}/{NAME}", ("map", "signals", "dawdle", "every", "period"))
-    signals, dawdle, every, period = (value[key] for key in ("signals", "dawdle", "every", "period"))
-    more = value.get("made", {}), value.get("not_trusted", [])
-    return Folder(path, map_from(path, value["map"]), signals, dawdle, every, period, *more)
+    own = {key: value[key] for key in ("signals", "dawdle", "every", "period")}
+    made, doubts = value.get("made", {}), value.get("not_trusted", [])
+    return Folder(path, map_from(path, value["map"]), **own, made=made, doubts=doubts)

@@ -12,12 +12,11 @@ FAR = 1_000  # cells, after which a vehicle alone has its mean speed
 
 class FreeFlow:
     """Seconds of plans: cells at the free speed (driving, by link), and the residence at each node crossed (crossing,
-    by the link before it). It leaves out the part of a second that is lost at a link's end, and how a vehicle gains
-    speed: what routes and searches reckon with."""
+    by the link before it). It leaves out lights, the part of a second that is lost at a link's end, and how a vehicle
+    gains speed."""
 
     def __init__(self, mapping: Map, dawdle: float) -> None:
-        """dawdle: the chance, 0 to 1, to go on by a cell a step less; a mean speed below 0.001 cells a step counts as
-        that."""
+        """dawdle: the chance, 0 to 1, to go on by a cell a step less; mean speeds are 0.001 cells a step at least."""
         self.driving = [link.cells / max(0.001, link.limit - dawdle) for link in mapping.links]
         self.crossing = [mapping.nodes[link.end][3] for link in mapping.links]
 
@@ -35,8 +34,7 @@ class Alone:
         self.mapping, self.slower = mapping, min(dawdle, 0.999)
 
     def on_link(self, link: int, before: int | None) -> float:
-        """Mean seconds in the cells of a link, of a vehicle that comes from the link `before` at that one's limit, or
-        departs here (none)."""
+        """Mean seconds in a link's cells, of one who comes from `before` at its limit, or departs here (none)."""
         links = self.mapping.links
         speed = 0 if before is None else links[before].limit
         return seconds_alone(links[link].cells, links[link].limit, self.slower, speed)
@@ -46,7 +44,7 @@ class Alone:
         return self.mapping.nodes[self.mapping.links[link].end][3]
 
     def approach(self, plan: Sequence[int], at: int) -> float:
-        """Mean seconds on the link at a place of a plan, from 0, and in the junction behind it."""
+        """Mean seconds on the link at a position of a plan, from 0, and in the junction behind it."""
         return self.on_link(plan[at], plan[at - 1] if at else None) + self.across(plan[at])
 
     def trip(self, plan: Sequence[int]) -> float:
@@ -56,8 +54,7 @@ class Alone:
 
 def seconds_alone(cells: int, limit: int, slower: float, speed: int) -> float:
     """The mean steps of a vehicle alone, which begins with a speed, until it has left `cells` cells behind; limit,
-    speed: cells a step, a speed above the limit counts as this; slower: the chance, 0 to below 1, to go on by a cell
-    less."""
+    speed: cells a step, beyond the limit as at it; slower: the chance, 0 to below 1, to go on by a cell less."""
     found = steps_by_cells(limit, slower)[min(speed, limit)]
     return found[min(cells, FAR)] + max(0, cells - FAR) / (limit - slower)
 

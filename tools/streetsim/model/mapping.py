@@ -6,7 +6,7 @@ from streetsim.base import limits
 from streetsim.base.files import Fault, FilePath, Json, read_json
 from streetsim.model.detectors import Detector
 from streetsim.model.stops import Visit
-from streetsim.model.waiting import Waiting, waiting_of
+from streetsim.model.waiting import GivingWay, giving_way_of
 
 Place = tuple[int, int]  # a link and a lane of it
 Shape = Sequence[Sequence[float]]  # of (x, y)
@@ -24,26 +24,25 @@ class MapLink:
     end: int  # node that it leads to
     cells: int
     limit: int  # cells a step
-    metres: float
+    metres: float  # SUMO's length
     shape: Shape
 
     @property
     def cell_metres(self) -> float:
-        """Metres of a cell by which densities and speeds are told: 7.5, but where an edge has other cells for its
-        speed."""
-        usual = limits.cells_of(self.metres)
+        """Metres of a cell for densities and speeds: 7.5, but where cells were chosen by the edge's speed."""
+        usual = limits.cells_of_length(self.metres)
         return limits.CELL_METRES if self.cells == usual else self.metres / self.cells
 
     def cells_between(self, begin: float, end: float) -> tuple[int, int]:
-        """The (first, last) cell, from 0, both included, from one place of the lane to another, in metres from its
-        begin: from the cell in which the first place lies to the one whose end is nearest to the second; one cell at
-        least. Places off the lane count as its ends."""
+        """The (first, last) cell, from 0, both included, from one point of the lane to another, in metres from its
+        begin: from the cell in which the first point lies to the one whose end is nearest to the second; one cell at
+        least. Points off the lane count as its ends."""
         size = self.metres / self.cells
         first = min(self.cells - 1, max(0, int(begin / size)))
         return first, min(self.cells - 1, max(first, round(end / size) - 1))
 
     def closed_between(self, begin: float, end: float) -> tuple[int, int]:
-        """The (first, last) cell, from 0, both included, that works close from one place to another, in metres from the
+        """The (first, last) cell, from 0, both included, that works close from one point to another, in metres from the
         lane's begin. Where there is a lane beside, the first four cells stay open as far as the works allow: turns lead
         to this lane, and who comes by one leaves it there."""
         first, last = self.cells_between(begin, end)
@@ -60,7 +59,7 @@ class MapTurn:
     next: int
     next_lane: int
     light: str | None
-    index: int  # its place in the light's state
+    index: int  # its position in the light's state
     added: bool  # it is none of SUMO's connections, but the import's
     speed: float = 13.9  # metres a second, inside the junction if that is known
     limit: int = 2  # of its link, cells a step
@@ -79,7 +78,7 @@ class Map:
     warnings: list[str]  # as the import said them
     detectors: list[Detector] = field(default_factory=list)  # of additional files
     told: list[list[str]] = field(default_factory=list)  # the same as a table, base.report.Report.rows
-    yields: list[Waiting] = field(default_factory=list)  # who gives way without a light
+    yields: list[GivingWay] = field(default_factory=list)  # who gives way without a light
     links_of: dict[str, list[int]] = field(default_factory=dict, init=False)  # edge: links
     sources: Json = field(default_factory=dict)  # the files of the import, as model.sources keeps them
     kinds: Json = field(default_factory=dict)  # of the vehicles, as sumo.demand.kinds_of
@@ -114,9 +113,7 @@ class Map:
 
     def load_links(self) -> list[list[int]]:
         """The links as the load of a run has them: [number, begin, end, lanes, cells, limit] of each."""
-        return [
-            [at, link.begin, link.end, len(link.lanes), link.cells, link.limit] for at, link in enumerate(self.links)
-        ]
+        return [[at, one.begin, one.end, len(one.lanes), one.cells, one.limit] for at, one in enumerate(self.links)]
 
     def written(self) -> Json:
         """The content of the map's file, a dict to be dumped as JSON, which `map_from` reads."""
@@ -148,15 +145,14 @@ def read_map(path: FilePath) -> Map:
 def map_from(path: FilePath, value: Json) -> Map:
     """The map of the content of its file, as `Map.written` gives it; path: for the Fault where it is no map."""
     try:
-        detectors = [Detector(*detector) for detector in value.get("detectors", ())]
         links, turns = [MapLink(*link) for link in value["links"]], [MapTurn(*turn) for turn in value["turns"]]
-        more: Json = {"detectors": detectors, "yields": waiting_of(value.get("yields", ()))}
-        more |= {"sources": value.get("sources", {}), "kinds": value.get("vehicles", {})}
+        more: Json = {key: value[key] for key in KEYS if key not in ("links", "turns")}
         more |= {name: value.get(name, []) for name in ("told", "actuated", "rings", "programs", "fixed")}
-        more |= {name: value.get(name, {}) for name in ("location", "names")}
+        more |= {name: value.get(name, {}) for name in ("location", "names", "sources")}
+        more |= {"kinds": value.get("vehicles", {}), "yields": giving_way_of(value.get("yields", ()))}
+        more["detectors"] = [Detector(*detector) for detector in value.get("detectors", ())]
         more["visits"] = [Visit(*visit) for visit in value.get("visits", ())]
         more["switches"] = [(clock, light, program) for clock, light, program in value.get("switches", ())]
-        more |= {key: value[key] for key in KEYS if key not in ("links", "turns")}
         return Map(links=links, turns=turns, **more)
     except (KeyError, TypeError, ValueError) as fault:
         raise Fault(f"{path}: not a map that streetsim-import wrote: {fault}") from None

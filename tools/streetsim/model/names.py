@@ -23,13 +23,13 @@ class Names:
         self.mapping = mapping
         self.edges: Mapping[str, str] = mapping.names.get(EDGES, {})
         self.junctions: Mapping[str, str] = mapping.names.get(JUNCTIONS, {})
-        self.made = self.of_streets() if self.edges else {}
+        self.made = self.junctions_by_streets() if self.edges else {}
 
     def __bool__(self) -> bool:
         """Whether the map has any name."""
         return bool(self.edges or self.junctions)
 
-    def of_streets(self) -> dict[str, str]:
+    def junctions_by_streets(self) -> dict[str, str]:
         """{junction: the names of up to three streets that meet there, those of most links first, as 'Hill Street /
         Market Street'}. Junctions without a named street are left out."""
         found: dict[str, Counter[str]] = {}
@@ -53,30 +53,27 @@ class Names:
         return self.junction(name) or f"Junction {name}"
 
     def approach(self, edge: str) -> str:
-        """What the approach to a junction along an edge is called: 'Hill Street, from the north'; without a name 'from
-        the north'."""
+        """What the approach along an edge is called: 'Hill Street, from the north'; without a name 'from the north'."""
         street = self.street(edge)
-        return f"{street}, {self.came(edge)}" if street else self.came(edge)
+        return f"{street}, {self.coming_from(edge)}" if street else self.coming_from(edge)
 
     def movement(self, edge: str, to: str) -> str:
         """What the movement from an edge to the next is called: 'Hill Street into Market Street, from the north', or
         'along Hill Street, from the north to the south'; by directions where a street has no name."""
         street, following = self.street(edge), self.street(to)
         if street and street == following:
-            return f"along {street}, {self.came(edge)} {self.goes(to)}"
-        if street:
-            return f"{street} {f'into {following}' if following else self.goes(to)}, {self.came(edge)}"
-        return f"{self.came(edge)} {f'into {following}' if following else self.goes(to)}"
+            return f"along {street}, {self.coming_from(edge)} {self.going_to(to)}"
+        target = f"into {following}" if following else self.going_to(to)
+        return f"{street} {target}, {self.coming_from(edge)}" if street else f"{self.coming_from(edge)} {target}"
 
-    def came(self, edge: str) -> str:
-        """Where one comes from who drives along the last piece of an edge: 'from the north'; empty for an unknown
-        edge."""
+    def coming_from(self, edge: str) -> str:
+        """Where one comes from who drives along the end of an edge: 'from the north'; empty for an unknown edge."""
         if edge not in self.mapping.links_of:
             return ""
         *_, before, end = self.shape(edge)
         return f"from the {wind(end, before)}"
 
-    def goes(self, edge: str) -> str:
+    def going_to(self, edge: str) -> str:
         """Where one goes to who drives along the first piece of an edge: 'to the north'; empty for an unknown edge."""
         if edge not in self.mapping.links_of:
             return ""
@@ -89,29 +86,26 @@ class Names:
         return self.mapping.links[links[len(links) // 2]].shape
 
     def columns(self) -> dict[str, Callable[[str], str]]:
-        """For each column of ids in the tables, the function that gives the name of an id (empty where it has none)."""
+        """For each column of edges or junctions in tables, what gives the name of an id, empty where it has none."""
         return {"edge": self.street, "approach": self.street, "to": self.street, "junction": self.junction}
 
 
 def wind(begin: Sequence[float], end: Sequence[float]) -> str:
-    """The direction from one point (x, y) to another as one of eight words; y points to the north. East for equal
-    points."""
+    """The direction from one point (x, y) to another as one of WINDS; y points to the north. East for equal points."""
     turn = atan2(end[1] - begin[1], end[0] - begin[0]) / (2 * pi)
     return WINDS[round(turn * len(WINDS)) % len(WINDS)]
 
 
 def write_named(path: FilePath, header: Sequence[str], rows: Iterable[Entry], names: Names) -> None:
-    """Writes a table as CSV; where the map has names, beside each column of ids stands one of names, with _name at its
-    end. Fault where it cannot be written."""
-    columns = {header.index(name): called for name, called in names.columns().items() if name in header and names}
+    """Writes a table as CSV; where the map has names, beside each column of `Names.columns` stands one of names, with
+    _name at its end. Fault where it cannot be written."""
+    columns = {at: names.columns()[name] for at, name in enumerate(header) if name in names.columns() and names}
     head = [text for at, name in enumerate(header) for text in ([name, name + SUFFIX] if at in columns else [name])]
-    named = ([one for at, own in enumerate(row) for one in beside(columns.get(at), own)] for row in rows)
+    named = (
+        [one for at, cell in enumerate(row) for one in ([cell, columns[at](str(cell))] if at in columns else [cell])]
+        for row in rows
+    )
     write_table(path, head, named)
-
-
-def beside(called: Callable[[str], str] | None, cell: object) -> list[object]:
-    """What is written for a cell: itself, and its name where its column is one of ids (else `called` is none)."""
-    return [cell] if called is None else [cell, called(str(cell))]
 
 
 def read_own(path: FilePath, mapping: Map) -> None:
@@ -130,7 +124,7 @@ def read_own(path: FilePath, mapping: Map) -> None:
 
 
 def junctions_of(mapping: Map) -> dict[str, list[str]]:
-    """By light the names of the junctions at which it stands."""
+    """By light the ids of the junctions at which it stands."""
     found: dict[str, list[str]] = {}
     for light, node in mapping.signals:
         found.setdefault(light, []).append(mapping.nodes[node][0])
@@ -138,8 +132,7 @@ def junctions_of(mapping: Map) -> dict[str, list[str]]:
 
 
 def own_rows(path: FilePath, known: Container[str]) -> dict[str, str]:
-    """{id: name, without blanks around it} of a file of one's own names; Faults as read_own has them, an id that is not
-    known among them."""
+    """{id: name, without blanks around it} of a file of one's own names; Faults as read_own has them. known: ids."""
     found: dict[str, str] = {}
     with reading(path), open_text(path) as file:
         rows = csv.DictReader(file)

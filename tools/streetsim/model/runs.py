@@ -11,6 +11,9 @@ from streetsim.model.mapping import Map, read_map
 from streetsim.model.sources import sum_of_lines
 
 MARK = "works"  # a field of lines that a tool made of --close, where they are kept; the program ignores it
+SPAN = ("link", "lane", "first", "last")
+NEEDED = {"enter": ("depart",), "close": SPAN, "reopen": SPAN, "signal": ("node",)}  # whole numbers, by command
+MAY_HAVE = ("at", "start", "dawdle")  # whole numbers too
 Command = dict[str, Any]
 Sent = tuple[int, Command]  # the clock at which a command is sent
 
@@ -46,26 +49,25 @@ class Run:
 
 
 def read_run(path: FilePath) -> Run:
-    """The run of a file; Fault where it cannot be read, its first line is no load, or any is no command of a run; blank
-    lines are left out."""
+    """The run of a file; Fault where it cannot be read, or as of `run_of_texts`."""
     with reading(path), open_text(path) as file:
         return run_of_texts(path, file)
 
 
 def read_with_map(run_path: FilePath, map_path: FilePath) -> tuple[Run, Map]:
-    """(run, map of its names); Fault where a file is none of its kind, or the map belongs to another run: by the links,
-    by fewer vehicles than the map has, or by where these begin and end, if the map keeps that."""
+    """(run, map of its names); Fault where a file is none of its kind, a line closes or opens a link that is not there,
+    or the map is of another run: by links, by naming more vehicles, or by where they begin and end, if it has that."""
     run, mapping = read_run(run_path), read_map(map_path)
     if run.load.command.get("links") != mapping.load_links():
         raise Fault(f"{map_path}: not the map of {run_path}, whose links are other ones")
-    if len(mapping.cars) > len(run.enters):
-        raise Fault(
-            f"{map_path}: not the map of {run_path}, which has {len(run.enters):,} vehicles and not "
-            f"{len(mapping.cars):,}"
-        )
+    if (cars := len(mapping.cars)) > (count := len(run.enters)):
+        raise Fault(f"{map_path}: not the map of {run_path}, which has {count:,} vehicles and not {cars:,}")
     known = mapping.kinds.get("ends")
     if known is not None and known != sum_of_lines(ends_of(run, mapping)):
         raise Fault(f"{map_path}: not the map of {run_path}, whose vehicles begin or end on other edges")
+    for line in (*run.first, *(line for _, line in run.timed)):
+        if line.command["cmd"] in ("close", "reopen") and not 0 <= line.command["link"] < len(mapping.links):
+            raise Fault(f"{run_path}: line {line.number} ({line.command['cmd']}): no link {line.command['link']}")
     return run, mapping
 
 
@@ -79,8 +81,7 @@ def ends_of(run: Run, mapping: Map) -> Iterator[str]:
 
 
 def run_of_texts(path: FilePath, texts: Iterable[str]) -> Run:
-    """The run of lines as texts, blank ones left out; path: of the file, for faults. Fault where the first is no load,
-    or one is no command of a run."""
+    """The run of lines as texts, without blank ones. Fault where the first is no load, or `line_of` raises one."""
     lines = [line_of(path, number, text) for number, text in enumerate(texts, 1) if text.strip()]
     if not lines or lines[0].command["cmd"] != "load":
         raise Fault(f"{path}: the first line must be a load")
@@ -99,9 +100,8 @@ def run_of(path: FilePath, lines: Sequence[Line]) -> Run:
         else:
             run.first.append(line)
     run.timed.sort(key=lambda pair: pair[0])
-    departs: list[int] = [line.command["depart"] for line in reversed(run.enters)]
-    least: Iterator[int] = accumulate(departs, min)
-    run.needed = list(least)[::-1]
+    least: Iterator[int] = accumulate((line.command["depart"] for line in reversed(run.enters)), min)
+    run.needed = [*least][::-1]
     return run
 
 
@@ -126,26 +126,26 @@ def without_mark(line: Line) -> Line:
 
 
 def timed_text(clock: int, line: Line) -> str:
-    """The text of a line that is sent at a clock: one of a file as it stands there, whatever clock is; one of no file,
-    as those of works are, with that clock and a mark."""
+    """The text of a timed line: as it stands in its file, or, of no file as works, with its clock and a mark."""
     if line.number > 0:
         return line.text
     return json.dumps({**line.command, "at": clock, MARK: True}, separators=(",", ":"))
 
 
 def line_of(path: FilePath, number: int, text: str) -> Line:
-    """The line of a text; number: in the file, from 1; a line that is marked as one of works gets 0. Fault where it is
-    no command, or one that streetsim-run sends itself."""
+    """The line of a text; number: in the file, from 1; a line that is marked as one of works gets 0. Fault where it
+    names no command, lacks whole numbers that the tools read of it, or is one that streetsim-run sends itself."""
     try:
         command = json.loads(text)
-        if (
-            command["cmd"] == "enter"
-            and not (isinstance(command["depart"], int) and command["plan"])
-            or not isinstance(command.get("at", 0), int)
-        ):
-            raise ValueError('an enter needs a depart and a plan, and "at" is a clock')
-        if command["cmd"] in ("advance", "takeout", "meter", "read"):
-            raise ValueError(f"{command['cmd']} is sent by streetsim-run itself")
+        kind = command["cmd"]
+        if kind in ("advance", "takeout", "meter", "read"):
+            raise ValueError(f"{kind} is sent by streetsim-run itself")
+        wrong = [name for name in NEEDED.get(kind, ()) if type(command[name]) is not int]
+        wrong += [name for name in MAY_HAVE if type(command.get(name, 0)) is not int]
+        if wrong:
+            raise ValueError(f"{wrong[0]} is no whole number")
+        if kind == "enter" and {*map(type, command["plan"])} != {int}:
+            raise ValueError("plan is no list of whole numbers")
     except (ValueError, KeyError, TypeError, AttributeError) as fault:
         raise Fault(f"{path}: line {number} is no command of a run: {fault}") from None
     return Line(0 if command.get(MARK) else number, text.strip(), command)

@@ -10,7 +10,7 @@ AT_PRIORITY = (10, 15, 25, 35, 50)  # HCM 2010, exhibit 19-1
 SIGNALS, PRIORITY, ROUNDABOUT = "signals", "priority", "roundabout"  # how a junction is controlled
 # Darker is worse, so that the letters differ in grey too.
 COLOURS = {"A": "#ffffcc", "B": "#fed976", "C": "#feb24c", "D": "#fd8d3c", "E": "#e31a1c", "F": "#800026"}
-LIGHT = "EF"  # letters that are written in white
+WHITE_LETTERS = "EF"  # letters that are written in white
 ROUNDED = 0.1  # metres by which a queue and its edge may be off in the tables
 # Seconds that a vehicle which stops loses beyond what is seen here, where vehicles brake and start at once: on an
 # approach of one lane, where in SUMO one who drives slowly holds up those behind, and of more. Measured on lone crosses
@@ -20,8 +20,7 @@ STOP_LOSS = 2.5, 1.5
 
 def level(delay: float, control: str, ratio: float | None = None) -> str:
     """The letter of a mean control delay in seconds. control: SIGNALS, or another way, which all count as PRIORITY;
-    ratio: v/c of a movement, above 1 of which it is F whatever the delay; none where it is not known, or does not
-    count."""
+    ratio: v/c of a movement, above 1 of which it is F whatever the delay; none where that does not count."""
     if ratio is not None and ratio > 1:
         return "F"
     return LETTERS[bisect_left(AT_SIGNALS if control == SIGNALS else AT_PRIORITY, delay)]
@@ -39,6 +38,5 @@ def percentile(values: Iterable[float], share: float) -> float:
 
 
 def fills(queue: float, metres: float) -> bool:
-    """Whether a queue, in metres, fills an edge, whose length is `metres`: it leaves no room but the gap behind its
-    last vehicle."""
+    """Whether a queue fills an edge, both in metres: no room is left, to 0.1 m, but the gap behind its last vehicle."""
     return queue >= metres - GAP_METRES - ROUNDED

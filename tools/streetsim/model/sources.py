@@ -1,4 +1,4 @@
-"""The files of an import, which its map names, so that a run can be imported anew with other options."""
+"""The files of an import, which its map names, so that a run can be imported anew with other options; SHA-256 sums."""
 import functools
 import hashlib
 import os
@@ -23,9 +23,8 @@ class Sources:
         return [self.net, *self.additional, *self.routes, *self.trips]
 
     def written(self, map_path: str, lines: Iterable[str]) -> dict:
-        """What a map keeps of them: net, additional, routes and trips, the paths as seen from the map's folder; sums,
-        the SHA-256 of each file's bytes in the order of `paths`; run, that of the run's lines. Fault where a file
-        cannot be read."""
+        """What a map keeps of them: net, additional, routes, trips: the paths as seen from the map's folder; sums: the
+        SHA-256 of each file, as `paths` has them; run: that of its lines. Fault where a file cannot be read."""
         beside = partial(os.path.relpath, start=os.path.dirname(os.path.realpath(map_path)))
         return {
             "net": beside(self.net),
@@ -69,10 +68,9 @@ def sum_of_lines(lines: Iterable[str]) -> str:
 
 
 @functools.cache
-def digest_of(path: str) -> str | None:
+def program_digest(path: str) -> str | None:
     """The SHA-256, in hex, of a file's bytes, reckoned once in a process; None where it cannot be read."""
     try:
-        with open(path, "rb") as file:
-            return hashlib.file_digest(file, "sha256").hexdigest()
-    except OSError:
+        return sum_of(path)
+    except Fault:
         return None

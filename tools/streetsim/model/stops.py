@@ -16,7 +16,7 @@ class Visit:
     """A stop that a vehicle is to make, on the cells of a run (link and lane by number)."""
 
     vehicle: int  # its number in the map
-    at: int  # the place, from 0, of its link in the vehicle's plan
+    at: int  # the position, from 0, of its link in the vehicle's plan
     stop: str  # SUMO's name of the bus stop, or the lane and the metres
     link: int
     lane: int
@@ -28,23 +28,21 @@ class Visit:
     starting: float  # and after, beyond what one loses here
 
 
-def why_unmade(visits: int) -> str:
+def unmade_stops_told(visits: int) -> str:
     """What a tool that makes no stops says of them; visits: how many there are. Empty where there are none."""
     if not visits:
         return ""
     return f"{visits:,} stops of vehicles are not made: streetsim-run and streetsim-study make them"
 
 
-def lines_of(kinds: Json, count: int) -> Sequence[str]:
-    """The bus line of each vehicle of a map, by its number; empty where it has none. kinds: of the map; count: how many
-    vehicles."""
+def bus_lines_of(kinds: Json, count: int) -> Sequence[str]:
+    """The bus line, or an empty text, of each of so many vehicles of a map, by its number. kinds: of the map."""
     found: Sequence[str] = kinds.get("line") or ()
     return [*found, *([""] * (count - len(found)))]
 
 
-def classes_of(kinds: Json, count: int) -> Sequence[str]:
-    """SUMO's vehicle class of each vehicle of a map, by its number; passenger where it is not kept. kinds: of the map;
-    count: how many vehicles."""
+def vehicle_classes_of(kinds: Json, count: int) -> Sequence[str]:
+    """SUMO's class of each of so many vehicles of a map, by number; else passenger. kinds: the map's."""
     types: Sequence[Sequence[str]] = kinds.get("types") or ()
     found = [types[at][1] for at in kinds.get("type") or ()]
     return [*found, *(["passenger"] * (count - len(found)))]

@@ -45,8 +45,7 @@ JUNCTIONS = ("begin", "end", "junction", "control", *LOST, "queue_max_m", "v_c",
 
 
 def write_table(path: FilePath, header: Sequence[str], rows: Iterable[Iterable[object]]) -> None:
-    """Writes a table as CSV; empty cells stand for what is not known. Fault, and the file as it was, where it cannot be
-    written."""
+    """Writes a table as CSV. Fault, and the file as it was, where it cannot be written."""
     with whole_file(path) as file:
         writer = csv.writer(file, lineterminator="\n")
         writer.writerow(header)
@@ -54,25 +53,25 @@ def write_table(path: FilePath, header: Sequence[str], rows: Iterable[Iterable[o
 
 
 def read_table(path: FilePath, header: Sequence[str]) -> list[dict[str, str]]:
-    """The rows of a CSV table, as texts by column; Fault where it cannot be read, has other columns than `header`, a
-    tuple (columns of names, which end in _name, may stand among them), or a text where a number belongs."""
+    """The rows of a CSV table, as texts by column; Fault where it cannot be read, has other columns than `header`
+    (columns of names, which end in _name, may stand among them), a row that is shorter or longer, or a text where a
+    number belongs."""
     with reading(path), open_text(path) as file:
         rows = csv.DictReader(file)
-        if tuple(name for name in rows.fieldnames or () if name in header or not name.endswith("_name")) != header:
+        if [name for name in rows.fieldnames or () if name in header or not name.endswith("_name")] != [*header]:
             raise Fault(f"{path}: expected the columns {', '.join(header)}")
         found = []
         for row in rows:
-            if wrong := next((name for name in header if not is_cell(name, row[name])), None):
+            if None in row or None in row.values():
+                raise Fault(f"{path}: line {rows.line_num}: expected {len(rows.fieldnames or ())} cells")
+            if wrong := next((name for name in header if name not in TEXTS and not is_number(row[name])), None):
                 raise Fault(f"{path}: line {rows.line_num}: {wrong} = {row[wrong]!r} is no number")
             found.append(row)
         return found
 
 
-def is_cell(name: str, text: str | None) -> bool:
-    """Whether a column may hold a text: columns of names anything, all others a finite number or nothing. A row that is
-    too short (none) may not be."""
-    if text is None or name in TEXTS:
-        return text is not None
+def is_number(text: str) -> bool:
+    """Whether a text writes a finite number, or nothing."""
     try:
         return not text or isfinite(float(text))
     except ValueError:

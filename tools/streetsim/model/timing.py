@@ -1,7 +1,7 @@
 """The programs of lights as they stand at the road: states over the cycle, movements, and which of these conflict."""
 from collections.abc import Iterable, Iterator, Sequence
 from dataclasses import dataclass
-from itertools import combinations
+from itertools import combinations, product
 
 from streetsim.base.files import Json
 
@@ -12,11 +12,11 @@ RANK = "rsoOuyYgG"  # signs, those that let most go last
 
 @dataclass(slots=True, frozen=True)
 class Movement:
-    """From an edge to the next one at a light; places: in the light's states, of its lanes."""
+    """From an edge to the next one at a light; indexes: in the light's states, of its lanes, rising."""
 
     edge: str
     to: str
-    places: tuple[int, ...]
+    indexes: tuple[int, ...]
 
 
 @dataclass(slots=True)
@@ -29,38 +29,32 @@ class Timing:
     phases: Sequence[tuple[float, str]]  # seconds and state
     kind: str  # static, actuated, ..
     movements: list[Movement]
-    conflicts: set[frozenset[int]]  # pairs of places in the states whose ways cross or join
+    conflicts: set[frozenset[int]]  # pairs of indexes in the states whose ways cross or join
 
     def states(self) -> list[str]:
         """The state in each second of the cycle, as `states_of` gives it."""
         return states_of(self.phases)
 
     def signs(self, movement: Movement) -> str:
-        """What a movement is shown, a letter for each second of the cycle; of several lanes the letter that lets most
-        go."""
-        return "".join(max((state[place] for place in movement.places), key=RANK.find) for state in self.states())
+        """What a movement is shown in each second of the cycle, a letter; of its lanes the one that lets most go."""
+        return "".join(max((state[index] for index in movement.indexes), key=RANK.find) for state in self.states())
 
     def pairs(self) -> Iterator[tuple[Movement, Movement]]:
         """The pairs (movement, other) that come from different edges and whose ways cross or join, each once."""
         for one, other in combinations(self.movements, 2):
-            if one.edge != other.edge and any(
-                frozenset((place, against)) in self.conflicts for place in one.places for against in other.places
-            ):
+            if one.edge != other.edge and self.crossings(one, other):
                 yield one, other
 
+    def crossings(self, one: Movement, other: Movement) -> list[tuple[int, int]]:
+        """The pairs of indexes, of one movement and another, whose ways cross or join."""
+        return [pair for pair in product(one.indexes, other.indexes) if frozenset(pair) in self.conflicts]
+
     def clashes(self) -> Iterator[tuple[Movement, Movement, int]]:
-        """(movement, other, seconds of the cycle) for those of `pairs` that have main greens (G) on conflicting places
-        together, and for how long."""
+        """(movement, other, seconds) for those of `pairs` that have main greens (G) on conflicting indexes together."""
         states = self.states()
         for one, other in self.pairs():
-            both = [
-                (place, against)
-                for place in one.places
-                for against in other.places
-                if frozenset((place, against)) in self.conflicts
-            ]
-            count = sum(any(state[a] == state[b] == MAIN for a, b in both) for state in states)
-            if count:
+            both = self.crossings(one, other)
+            if count := sum(any(state[a] == state[b] == MAIN for a, b in both) for state in states):
                 yield one, other, count
 
     def written(self) -> Json:
@@ -68,7 +62,7 @@ class Timing:
         return {
             "light": self.light, "junction": self.junction, "offset": self.offset,
             "phases": [[*phase] for phase in self.phases],
-            "kind": self.kind, "movements": [[one.edge, one.to, list(one.places)] for one in self.movements],
+            "kind": self.kind, "movements": [[one.edge, one.to, list(one.indexes)] for one in self.movements],
             "conflicts": sorted(sorted(pair) for pair in self.conflicts),
         }
 
@@ -77,14 +71,14 @@ def timing_of(value: Json) -> Timing:
     """The program of the dict that `Timing.written` gave."""
     return Timing(
         value["light"], value["junction"], value["offset"], [(seconds, state) for seconds, state in value["phases"]],
-        value["kind"], [Movement(edge, to, tuple(places)) for edge, to, places in value["movements"]],
+        value["kind"], [Movement(edge, to, tuple(indexes)) for edge, to, indexes in value["movements"]],
         {frozenset(pair) for pair in value["conflicts"]},
     )
 
 
 def states_of(phases: Iterable[tuple[float, str]]) -> list[str]:
     """The state in each second of a cycle of phases, (seconds, state); durations are rounded so that each phase ends at
-    the second nearest to its end, and the cycle stays."""
+    the second nearest to its end, the last one too."""
     found: list[str] = []
     clock = 0.0
     for duration, state in phases:
@@ -93,7 +87,7 @@ def states_of(phases: Iterable[tuple[float, str]]) -> list[str]:
     return found
 
 
-def runs_of(signs: str, those: str) -> list[tuple[int, int]]:
+def spans_of(signs: str, those: str) -> list[tuple[int, int]]:
     """The (begin, seconds) of each run of letters that are in `those`; signs: a letter for each second of a cycle. A
     run may go on over the cycle's end."""
     count = len(signs)
@@ -111,16 +105,15 @@ def intergreen(first: str, second: str) -> int | None:
     count = len(first)
     if any(one in OPEN and other in OPEN for one, other in zip(first, second, strict=True)):
         return None
-    ends = [(begin + seconds) % count for begin, seconds in runs_of(first, OPEN)]
-    begins = [begin for begin, _ in runs_of(second, OPEN)]
+    ends = [(begin + seconds) % count for begin, seconds in spans_of(first, OPEN)]
+    begins = [begin for begin, _ in spans_of(second, OPEN)]
     gaps = [min((begin - end) % count for end in ends) for begin in begins] if ends else []
     return min(gaps, default=None)
 
 
-def together(movements: Iterable[tuple[str, str, int]]) -> list[Movement]:
-    """The movements of (edge, next edge, place in the state), sorted by edges: one for each pair of edges, with all its
-    places, rising."""
+def movements_by_edges(movements: Iterable[tuple[str, str, int]]) -> list[Movement]:
+    """The movements, sorted, of (edge, next edge, index in the state): one for each pair of edges."""
     found: dict[tuple[str, str], list[int]] = {}
-    for edge, to, place in movements:
-        found.setdefault((edge, to), []).append(place)
-    return [Movement(edge, to, tuple(sorted(set(places)))) for (edge, to), places in sorted(found.items())]
+    for edge, to, index in movements:
+        found.setdefault((edge, to), []).append(index)
+    return [Movement(edge, to, tuple(sorted(set(indexes)))) for (edge, to), indexes in sorted(found.items())]

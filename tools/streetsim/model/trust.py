@@ -6,7 +6,7 @@ import json
 from collections import Counter
 from collections.abc import Iterable, Iterator, Mapping, Sequence
 from dataclasses import dataclass
-from itertools import compress, pairwise
+from itertools import pairwise
 from statistics import fmean
 
 from streetsim.base.files import whole_file
@@ -44,69 +44,63 @@ class Trips:
 
     def told(self) -> str:
         """How many vehicles there are and have arrived, and the mean trip, as the last line of a run says it."""
-        if not self.durations:
-            mean = "no trip"
-        elif self.to_date:
-            mean = f"mean trip {fmean(self.durations):.1f} s of these"
-        else:
-            mean = f"mean trip {fmean(self.durations):.1f} s"
-        under_way = f", {fmean(self.to_date):.1f} s to date of {len(self.to_date):,} under way" if self.to_date else ""
-        return f"{self.vehicles:,} vehicles, {len(self.durations):,} arrived, {mean}{under_way}"
+        told = f"{self.vehicles:,} vehicles, {len(self.durations):,} arrived, "
+        told += f"mean trip {fmean(self.durations):.1f} s" if self.durations else "no trip"
+        if not self.to_date:
+            return told
+        of_these = " of these" if self.durations else ""
+        return f"{told}{of_these}, {fmean(self.to_date):.1f} s to date of {len(self.to_date):,} under way"
 
 
 def trips_at(clock: int, start: int, rows: Sequence[tuple]) -> Trips:
-    """The trips of a run at a clock, from rows of trips.csv: (id, depart, arrival or "", duration, free flow, ..).
+    """The trips of a run at a clock, from rows for trips.csv: (id, depart, arrival or "", duration, free flow, ..).
     start: the clock at the run's begin."""
-    arrived = [row[2] != "" for row in rows]
-    open_ = [row for row, there in zip(rows, arrived, strict=True) if not there and row[1] < clock]
-    ends = [row[1] + float(row[4]) for row in open_]
+    arrived = [row for row in rows if row[2] != ""]
+    under_way = [row for row in rows if row[2] == "" and row[1] < clock]
+    ends = [row[1] + float(row[4]) for row in under_way]
     late = sum(end <= clock for end in ends)
     return Trips(
         clock=clock,
         vehicles=len(rows),
-        durations=[row[3] for row in compress(rows, arrived)],
-        to_date=[clock - row[1] for row in open_],
-        due=late + sum(arrived),
+        durations=[row[3] for row in arrived],
+        to_date=[clock - row[1] for row in under_way],
+        due=late + len(arrived),
         late=late,
         long_due=sum(end + STILL <= clock for end in ends),
-        last=max((row[2] for row in compress(rows, arrived)), default=start),
+        last=max((row[2] for row in arrived), default=start),
     )
 
 
 def free_arrivals(run: Run, mapping: Map) -> list[float]:
-    """The clocks, rising, at which the vehicles of a run would arrive, were nobody in their way and all lights
-    green."""
+    """The clocks, rising, at which vehicles would arrive, were nobody in their way and all lights green."""
     free_flow = FreeFlow(mapping, run.load.command["dawdle"] / 1000)
     return sorted(line.command["depart"] + free_flow(line.command["plan"]) for line in run.enters)
 
 
-def of_missing(arrived: Mapping[str, float], due: float) -> list[str]:
-    """What speaks against the means of several runs, a text each, because more than a tenth of the vehicles that had
-    the time to arrive have not, and count until the end in such means. arrived: {name of the runs: vehicles}; due: how
-    many had the time to arrive."""
+def missing_doubts(arrived: Mapping[str, float], due: float) -> list[str]:
+    """What speaks against the means of several runs, a text each, as more than a tenth of the vehicles that had the
+    time to arrive (due) have not, and count until the end in such means. arrived: {name of the runs: vehicles}."""
     late = {name: due - count for name, count in arrived.items() if due - count > MOST_LATE * due}
     told = "vehicles that had the time to arrive have not"
     return [f"{name} {missing:,.0f} of {due:,.0f} {told}".strip() for name, missing in late.items()]
 
 
-def doubts(
-    trips: Trips, rescues: int, censuses: Sequence, run: Run, mapping: Map, listed: Sequence[str]
-) -> list[str]:
-    """What speaks against a run, each in some words; empty where it is to be trusted. rescues: how many in all;
-    censuses: of each minute; listed: lights that SUMO times by detectors and that show their listed seconds."""
-    found = [*of_rescues(trips, rescues), *of_arrivals(trips), *of_entries(trips, censuses)]
-    found += of_works(works_in(run, mapping), [(trips.clock, trips.all_arrived())])
-    return [*found, *of_lengths(trips.clock, run, mapping), *of_actuated(trips.clock, run, mapping, listed)]
+def doubts(trips: Trips, rescues: int, censuses: Sequence, run: Run, mapping: Map, listed: Sequence[str]) -> list[str]:
+    """What speaks against a run by its rescues, arrivals, entries, works, lengths and lights, a text each. rescues: how
+    many; censuses: of each minute; listed: lights that SUMO times by detectors and that show their listed seconds."""
+    found = [*rescue_doubts(trips, rescues), *arrival_doubts(trips), *entry_doubts(trips, censuses)]
+    found += works_doubts(works_in(run, mapping), [(trips.clock, trips.all_arrived())])
+    return [*found, *length_doubts(trips.clock, run, mapping), *actuated_doubts(trips.clock, run, mapping, listed)]
 
 
-def of_rescues(trips: Trips, rescues: int) -> Iterator[str]:
+def rescue_doubts(trips: Trips, rescues: int) -> Iterator[str]:
     """A doubt where there were more rescues than a hundredth of the vehicles, and more than one. rescues: how many in
     all, so that a vehicle that was rescued twice counts twice."""
     if rescues > max(1, MOST_RESCUES * trips.vehicles):
-        yield f"{rescues:,} rescues of {trips.vehicles:,} vehicles"
+        yield f"{rescues:,} rescues of {count_told(trips.vehicles, 'vehicle')}"
 
 
-def of_arrivals(trips: Trips) -> Iterator[str]:
+def arrival_doubts(trips: Trips) -> Iterator[str]:
     """A doubt where the network is locked (nobody has arrived for 600 s who should have), or more than a tenth of those
     that had the time to arrive has not."""
     if trips.long_due and trips.clock - trips.last >= STILL:
@@ -115,17 +109,19 @@ def of_arrivals(trips: Trips) -> Iterator[str]:
             f"and {trips.long_due:,} should have"
         )
     elif trips.late > MOST_LATE * trips.due:
-        yield f"{trips.late:,} of {trips.due:,} vehicles that had the time to arrive have not"
+        has = "has" if trips.late == 1 else "have"
+        yield f"{trips.late:,} of {count_told(trips.due, 'vehicle')} that had the time to arrive {has} not"
 
 
-def of_entries(trips: Trips, censuses: Sequence) -> Iterator[str]:
+def entry_doubts(trips: Trips, censuses: Sequence) -> Iterator[str]:
     """A doubt where more than a twentieth of the vehicles waits to enter at the worst census."""
     worst = max(censuses, key=lambda census: census.waiting, default=None)
     if worst is not None and worst.waiting > MOST_WAITING * trips.vehicles:
-        yield f"{worst.waiting:,} vehicles waited to enter at {worst.clock:,} s, and are in no queue or count"
+        told, be = count_told(worst.waiting, "vehicle"), "is" if worst.waiting == 1 else "are"
+        yield f"{told} waited to enter at {worst.clock:,} s, and {be} in no queue or count"
 
 
-def of_waiting(waiting: Mapping[str, Sequence[tuple[int, int]]], vehicles: int) -> Iterator[str]:
+def waiting_doubts(waiting: Mapping[str, Sequence[tuple[int, int]]], vehicles: int) -> Iterator[str]:
     """What speaks against the means of several runs, a text each, because at their worst minutes more than a twentieth
     of the vehicles, by the mean over the runs, waited to enter. waiting: {name of the runs: (vehicles that waited,
     clock) of each, one at least}; vehicles: how many a run has."""
@@ -144,9 +140,9 @@ def works_in(run: Run, mapping: Map) -> Iterator[tuple[str, int]]:
             yield mapping.lane_name(line.command["link"], line.command["lane"]), clock
 
 
-def of_works(works: Iterable[tuple[str, int]], runs: Sequence[tuple[int, int | None]]) -> Iterator[str]:
-    """A doubt for works, (lane, first second), that met nobody: some runs had ended, or all their vehicles had arrived,
-    before. runs: of each the last clock, and the clock when all had arrived, or none."""
+def works_doubts(works: Iterable[tuple[str, int]], runs: Sequence[tuple[int, int | None]]) -> Iterator[str]:
+    """Doubts for works, (lane, first second), that met nobody in some runs, which had ended, or all whose vehicles had
+    arrived, before. runs: of each the last clock, and the clock when all had arrived, or none."""
     for lane, first in works:
         begin = f"works on {lane} begin at {first:,} s, and"
         if early := sum(end <= first for end, _ in runs):
@@ -162,7 +158,7 @@ def plans_before(clock: int, run: Run) -> list[list[int]]:
     return [line.command["plan"] for line in run.enters if line.command["depart"] < clock]
 
 
-def of_actuated(clock: int, run: Run, mapping: Map, lights: Sequence[str]) -> Iterator[str]:
+def actuated_doubts(clock: int, run: Run, mapping: Map, lights: Sequence[str]) -> Iterator[str]:
     """A doubt where more than a tenth of the vehicles that wish to depart before a clock pass `lights`, which SUMO
     times by detectors and which show their listed seconds here."""
     ways = {(turn.link, turn.next): turn.light for turn in mapping.turns if turn.light and turn.light in lights}
@@ -170,24 +166,25 @@ def of_actuated(clock: int, run: Run, mapping: Map, lights: Sequence[str]) -> It
     passed = [{ways[pair] for pair in pairwise(plan) if pair in ways} for plan in plans]
     if (count := sum(map(bool, passed))) > MOST_ACTUATED * len(plans):
         most = [light for light, _ in Counter(light for met in passed for light in sorted(met)).most_common(NAMED)]
-        yield (
-            f"{count:,} of {len(plans):,} vehicles pass lights that are actuated in SUMO and show their listed seconds "
-            f"here: most of all {', '.join(most)}"
-        )
+        told = f"{count:,} of {count_told(len(plans), 'vehicle')} {'passes' if count == 1 else 'pass'} lights that are"
+        yield f"{told} actuated in SUMO and show their listed seconds here: most of all {', '.join(most)}"
 
 
-def of_crowded(vehicles: int, crowded: Mapping[str, int]) -> Iterator[str]:
+def crowding_doubts(vehicles: int, crowded: Mapping[str, int]) -> Iterator[str]:
     """A doubt where streets that give way without a light were nearly full, and were passed then more than a tenth as
     often as there are vehicles. vehicles: how many there are; crowded: {edge: how many pass it then}."""
     if (count := sum(crowded.values())) > MOST_CROWDED * vehicles:
         most = ", ".join(sorted(crowded, key=lambda edge: (-crowded[edge], edge))[:NAMED])
+        is_one = len(crowded) == 1
+        give = "gives way without a light is" if is_one else "give way without a light are"
         yield (
-            f"{len(crowded):,} streets that give way without a light are nearly full, for {count:,} passages of "
-            f"{vehicles:,} vehicles, and their queues may be other than in SUMO: most of all {most}"
+            f"{count_told(len(crowded), 'street')} that {give} nearly full, for {count_told(count, 'passage')} of "
+            f"{count_told(vehicles, 'vehicle')}, and {'its queue' if is_one else 'their queues'} may be other than in "
+            f"SUMO: most of all {most}"
         )
 
 
-def of_lengths(clock: int, run: Run, mapping: Map) -> Iterator[str]:
+def length_doubts(clock: int, run: Run, mapping: Map) -> Iterator[str]:
     """A doubt where the routes of those that wish to depart before a clock are, together, by more than a tenth longer
     or shorter than in SUMO, as edges are whole cells."""
     here = [link.cells * link.cell_metres for link in mapping.links]
@@ -203,9 +200,14 @@ def of_lengths(clock: int, run: Run, mapping: Map) -> Iterator[str]:
         yield f"routes are {how}, as edges are whole cells: most of all {edges}"
 
 
+def count_told(count: int, thing: str) -> str:
+    """How many of a thing there are, in words: '1 vehicle', '2 vehicles'; thing: its name in the singular."""
+    return f"{count:,} {thing}{'' if count == 1 else 's'}"
+
+
 def write_doubts(folder: str, found: Sequence[str]) -> None:
-    """Writes to a folder why a study or a search is not to be trusted (found, empty where it is), in a setting.json as
-    that of a run. Fault where it cannot be written."""
+    """Writes to a folder why a study or a search is not to be trusted (found, empty where it is), in a setting.json
+    with nothing else. Fault where it cannot be written."""
     with whole_file(f"{folder}/{NAME}") as file:
         json.dump({"not_trusted": list(found)}, file, separators=(",", ":"))
 

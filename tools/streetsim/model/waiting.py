@@ -11,7 +11,7 @@ WIDER = 0.3  # seconds more for each further lane of a street that is crossed
 
 @dataclass(slots=True, frozen=True)
 class Gap:
-    """The seconds that have to be free before one who goes first, by how many go first."""
+    """The seconds (a gap in time, not in cells) that have to be free before one who goes first, by how many do."""
 
     seconds: float  # where few go first
     less: float  # seconds less for each 1,000 vehicles an hour that go first, counted as below
@@ -21,14 +21,12 @@ class Gap:
     after: float = 1.0  # seconds after a foe passed its stop line, until it is out of the way
 
     def before(self, lane: float, street: float, every: float) -> float:
-        """The seconds that have to be free, by the vehicles an hour of the foe's lane, of all lanes of its street, and
-        of all that go first."""
+        """Seconds that have to be free, by vehicles an hour of the foe's lane, its street, and all who go first."""
         hourly = lane + self.beside * (street - lane) + self.others * (every - street)
         return max(self.least, self.seconds - self.less * hourly / 1000)
 
     def across(self, lanes: int) -> Self:
-        """The gap for one who crosses a street, 0.3 s longer for each lane above one; lanes: of the street, one at
-        least."""
+        """The gap for one who crosses a street of so many lanes: 0.3 s longer for each above one."""
         return self.longer(WIDER * (lanes - 1))
 
     def longer(self, more: float) -> Self:
@@ -49,13 +47,13 @@ class Pace:
     more: float = 0.0  # seconds red more, for each 1,000 vehicles an hour of those that they give way to
 
     def period(self, hourly: float) -> float:
-        """The seconds of a turn, green and red, by the vehicles an hour of those that they give way to."""
+        """The seconds of one green and one red, by the vehicles an hour of those that they give way to."""
         return self.shown + self.hidden + self.more * hourly / 1000
 
 
 @dataclass(slots=True, frozen=True)
 class Foe:
-    """A way that goes first, from a lane to a link by numbers of the run, and the gap that is needed before it."""
+    """A turn that goes first, from a lane to a link by numbers of the run, and the gap that is needed before it."""
 
     link: int
     lane: int
@@ -70,8 +68,8 @@ class Foe:
 
 
 @dataclass(slots=True, frozen=True)
-class Waiting:
-    """Turns of a node that have to give way, and the ways that go first there."""
+class GivingWay:
+    """Turns of a node that have to give way, and those that go first there."""
 
     node: int
     turns: tuple[TurnKey, ...]
@@ -86,15 +84,14 @@ class Waiting:
 
     @property
     def is_slow(self) -> bool:
-        """Whether those who give way follow each other more slowly than from a queue, so that it counts when they
-        themselves pass."""
+        """Whether those who give way follow more slowly than from a queue, so that their own passing counts."""
         return self.pace is not None or any(foe.slow for foe in self.foes)
 
 
-def waiting_of(value: Iterable[Written]) -> list[Waiting]:
-    """Those who give way, from what `Waiting.written` gave for each."""
+def giving_way_of(value: Iterable[Written]) -> list[GivingWay]:
+    """Those who give way, from what `GivingWay.written` gave for each."""
     return [
-        Waiting(
+        GivingWay(
             node,
             tuple((link, lane, following) for link, lane, following in turns),
             tuple(Foe(link, lane, following, Gap(*gap), *more) for link, lane, following, gap, *more in foes),

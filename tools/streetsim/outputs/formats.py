@@ -1,7 +1,6 @@
 """SUMO's output files that are made second by second: each class writes one, from what a second shows."""
 from bisect import bisect_right
 from collections.abc import Mapping, Sequence
-from types import MappingProxyType
 from xml.sax.saxutils import quoteattr
 
 from streetsim.base import limits
@@ -16,7 +15,7 @@ HALTING = 0.1  # metres a second, SUMO's: below it a vehicle stands
 
 
 class XmlFile:
-    """A file with a root element and SUMO's schema of it, written second by second; one class below for each kind."""
+    """A file with a root element and SUMO's schema of it, written second by second; each kind has its own class."""
 
     root, schema = "", ""
 
@@ -29,11 +28,10 @@ class XmlFile:
             f'xsi:noNamespaceSchemaLocation="{SCHEMAS}{self.schema}.xsd">\n'
         )
 
-    def step(self, second: Second) -> None:
-        """Takes the next second of a run; all are given, rising, without one left out. Each kind has its own; here
-        nothing is done."""
+    def add_second(self, second: Second) -> None:
+        """Takes the next second of a run, each of them, rising; here nothing is done."""
 
-    def end(self) -> None:
+    def write_end(self) -> None:
         """Writes what is left, and the end of the root; the file is closed by who opened it."""
         self.file.write(f"</{self.root}>\n")
 
@@ -47,37 +45,35 @@ def attributes(**values: object) -> str:
 
 class Tripinfo(XmlFile):
     """tripinfo: a row for each vehicle that arrived. It departs in the second in which it is first seen; `departDelay`
-    is since the wished departure, so that both together are the duration of trips.csv. Seconds at stops are in
-    `stopTime`, and neither in `waitingTime` nor in `timeLoss`."""
+    is since the wished departure, so that it and `duration` add up to the duration of trips.csv. Seconds at stops are
+    in `stopTime`, and neither in `waitingTime` nor in `timeLoss`."""
 
     root, schema = "tripinfos", "tripinfo_file"
 
-    def __init__(
-        self, file: TextFile, places: Places, dwells: Mapping[int, Sequence[Dwell]] = MappingProxyType({})
-    ) -> None:
+    def __init__(self, file: TextFile, places: Places, dwells: Mapping[int, Sequence[Dwell]]) -> None:
         """dwells: by the vehicle's number in looks its stops; those of one that arrives are known by then."""
         super().__init__(file, places)
         self.dwells = dwells
 
-    def step(self, second: Second) -> None:
+    def add_second(self, second: Second) -> None:
         """Writes a row for each vehicle that arrived in a second."""
         for car, trip in second.arrived:
-            self.file.write(f"    <tripinfo {self.row(trip, second.clock, self.dwells.get(car, ()))}/>\n")
+            self.file.write(f"    <tripinfo {self.attributes_of(trip, second.clock, self.dwells.get(car, ()))}/>\n")
 
-    def row(self, trip: Trip, arrival: int, stops: Sequence[Dwell]) -> str:
+    def attributes_of(self, trip: Trip, arrival: int, stops: Sequence[Dwell]) -> str:
         """The attributes of a trip that arrived at a clock, with its stops, in SUMO's order."""
         names, duration, dwell = self.places.names, arrival - trip.depart, sum(one.seconds for one in stops)
         return attributes(
             id=trip.name,
             depart=float(trip.depart),
             departLane=names[trip.first.link, trip.first.lane],
-            departPos=self.places.metres(trip.first),
-            departSpeed=self.places.speed(trip.first),
+            departPos=self.places.metres_on_lane(trip.first),
+            departSpeed=self.places.metres_per_second(trip.first),
             departDelay=float(trip.depart - trip.wished),
             arrival=float(arrival),
             arrivalLane=names[trip.last.link, trip.last.lane],
             arrivalPos=self.places.mapping.links[trip.last.link].metres,
-            arrivalSpeed=self.places.speed(trip.last),
+            arrivalSpeed=self.places.metres_per_second(trip.last),
             duration=float(duration),
             routeLength=trip.metres,
             waitingTime=float(max(0, trip.waiting - sum(one.stood for one in stops))),
@@ -97,19 +93,18 @@ class Summary(XmlFile):
 
     root, schema = "summary", "summary_file"
 
-    def __init__(self, file: TextFile, places: Places, wished: Sequence[int], rescued: Sequence[int] = ()) -> None:
+    def __init__(self, file: TextFile, places: Places, wished: Sequence[int], rescued: Sequence[int]) -> None:
         """wished: the seconds, sorted, at which vehicles would depart, as far as they are known; rescued: the clocks,
         rising, of rescues, as looks at the lanes do not show those out of a junction."""
         super().__init__(file, places)
-        self.wished = wished  # sorted seconds at which vehicles would depart, as far as they are known
-        self.rescued = rescued  # the same of rescues: looks do not show those out of a junction
+        self.wished, self.rescued = wished, rescued
         self.loaded = self.inserted = self.arrived = self.delays = self.durations = self.teleports = 0
 
-    def step(self, second: Second) -> None:
+    def add_second(self, second: Second) -> None:
         """Adds a second to the sums, and writes its row; those in junctions count there, and in its speeds, too."""
         self.loaded = bisect_right(self.wished, second.time)
-        self.count(second)
-        speeds = [self.places.speed(at) for at in second.here.values()]
+        self.count_changes(second)
+        speeds = [self.places.metres_per_second(at) for at in second.here.values()]
         free = [at.speed / self.places.mapping.links[at.link].limit for at in second.here.values()]
         row = attributes(
             time=float(second.time),
@@ -130,7 +125,7 @@ class Summary(XmlFile):
         )
         self.file.write(f"    <step {row}/>\n")
 
-    def count(self, second: Second) -> None:
+    def count_changes(self, second: Second) -> None:
         """Adds to the sums those who departed, arrived and were taken out in a second."""
         self.inserted += len(second.departed)
         self.delays += sum(second.trips[car].depart - second.trips[car].wished for car in second.departed)
@@ -140,44 +135,41 @@ class Summary(XmlFile):
 
 
 class Fcd(XmlFile):
-    """fcd: the place and the speed of each vehicle in each second. Who is in a junction stands at the end of its
-    lane."""
+    """fcd: where each vehicle is and how fast, in each second; of one in a junction the end of the lane before it."""
 
     root, schema = "fcd-export", "fcd_file"
 
     def __init__(self, file: TextFile, places: Places) -> None:
         """places: where cells lie in metres."""
         super().__init__(file, places)
-        self.texts: dict[At, tuple[str, str]] = {}  # of places: many vehicles come to each
-        self.names: dict[int, tuple[str, str]] = {}  # of vehicles and their types
+        self.texts: dict[At, tuple[str, str]] = {}  # many vehicles come to each
+        self.names: dict[int, tuple[str, str]] = {}  # of vehicles and their types, quoted
 
-    def step(self, second: Second) -> None:
+    def add_second(self, second: Second) -> None:
         """Writes the rows of all vehicles in a second."""
-        self.names.update((car, self.named(second.trips[car])) for car in second.departed)
+        trips = ((car, second.trips[car]) for car in second.departed)
+        self.names.update((car, (quoteattr(trip.name), quoteattr(trip.kind))) for car, trip in trips)
         rows = [f'    <timestep time="{second.time:.2f}">\n']
         for car, at in second.here.items():
-            before, after = self.texts.get(at) or self.text(at)
+            before, after = self.texts.get(at) or self.texts_at(at)
             name, kind = self.names[car]
             rows.append(f"        <vehicle id={name} {before} type={kind} {after}/>\n")
         self.file.write("".join([*rows, "    </timestep>\n"]))
 
-    def named(self, trip: Trip) -> tuple[str, str]:
-        """(name of a trip, its vehicle type), quoted as attributes have them."""
-        return quoteattr(trip.name), quoteattr(trip.kind)
-
-    def text(self, at: At) -> tuple[str, str]:
-        """The attributes of a place, (those that stand before the vehicle's type, those after it); made once and then
+    def texts_at(self, at: At) -> tuple[str, str]:
+        """The attributes of where a vehicle is, (those that stand before its type, those after it); made once and then
         kept."""
-        x, y, angle = self.places.point(at)
+        x, y, angle = self.places.point_and_angle(at)
         lane = self.places.names[at.link, at.lane]
-        after = attributes(speed=self.places.speed(at), pos=self.places.metres(at), lane=lane, slope=0.0)
+        speed, along = self.places.metres_per_second(at), self.places.metres_on_lane(at)
+        after = attributes(speed=speed, pos=along, lane=lane, slope=0.0)
         self.texts[at] = attributes(x=x, y=y, angle=angle), after
         return self.texts[at]
 
 
 class Queue(XmlFile):
     """queue: for each second and lane on which vehicles stand, the longest time of standing, and metres from the stop
-    line to the rear of the last of them."""
+    line to the rear of the last one's cells."""
 
     root, schema = "queue-export", "queue_file"
 
@@ -186,7 +178,7 @@ class Queue(XmlFile):
         super().__init__(file, places)
         self.standing: dict[int, int] = {}  # car: seconds
 
-    def step(self, second: Second) -> None:
+    def add_second(self, second: Second) -> None:
         """Adds a second to the time of those who stand in cells, and writes the lanes on which any do."""
         cars = [(car, at) for car, at in second.here.items() if at.cell is not None and not at.speed]
         self.standing = {car: self.standing.get(car, 0) + 1 for car, _ in cars}
@@ -197,21 +189,14 @@ class Queue(XmlFile):
             length = link.metres - max(0, at.front + 1 - at.size) * self.places.cell_metres[at.link]
             lengths[place] = max(length, lengths.get(place, 0.0))
             waits[place] = max(self.standing[car], waits.get(place, 0))
-        rows = [
-            attributes(
-                id=self.places.names[place],
-                queueing_time=float(waits[place]),
-                queueing_length=length,
-                queueing_length_experimental=length,
-            )
-            for place, length in sorted(lengths.items())
-        ]
-        lanes = "".join(f"            <lane {row}/>\n" for row in rows)
-        self.file.write(
-            f'    <data timestep="{second.time:.2f}">\n        <lanes>\n{lanes}        </lanes>\n    </data>\n'
-        )
+        self.file.write(f'    <data timestep="{second.time:.2f}">\n        <lanes>\n')
+        for place, length in sorted(lengths.items()):
+            own = {"id": self.places.names[place], "queueing_time": float(waits[place])}
+            row = attributes(**own, queueing_length=length, queueing_length_experimental=length)
+            self.file.write(f"            <lane {row}/>\n")
+        self.file.write("        </lanes>\n    </data>\n")
 
 
 def vehicle_metres(at: At) -> float:
-    """Metres of a vehicle itself: of its cells without the gap to another one."""
+    """Metres of a vehicle itself: of its cells, as if each had 7.5 m, without the gap to another one."""
     return at.size * limits.CELL_METRES - limits.GAP_METRES

@@ -1,6 +1,6 @@
 """SUMO's output files that are sums over intervals: edgeData, e1, e2."""
 from collections.abc import Sequence
-from dataclasses import dataclass, field
+from dataclasses import dataclass, field, replace
 from typing import Any
 
 from streetsim.base.files import TextFile
@@ -9,6 +9,7 @@ from streetsim.model.mapping import Place
 from streetsim.outputs.formats import XmlFile, attributes, vehicle_metres
 from streetsim.outputs.places import Places
 from streetsim.outputs.seconds import At, Second
+
 Sums = Any  # of a kind of detector: its own
 
 
@@ -33,58 +34,58 @@ class Edgedata(XmlFile):
 
     root, schema = "meandata", "meandata_file"
 
-    def __init__(self, file: TextFile, places: Places, period: int, start: int = 0) -> None:
+    def __init__(self, file: TextFile, places: Places, period: int, start: int) -> None:
         """period: seconds of an interval; start: the clock at which the first one begins."""
         super().__init__(file, places)
         self.period, self.begin, self.clock = period, start, start
         self.links = places.mapping.links
         self.sums: dict[str, EdgeSums] = {}  # by edge
 
-    def of(self, link: int) -> EdgeSums:
+    def sums_of(self, link: int) -> EdgeSums:
         """The sums of a link's edge in the interval under way."""
         return self.sums.setdefault(self.links[link].edge, EdgeSums())
 
-    def step(self, second: Second) -> None:
-        """Adds a second; before it writes the interval that has ended."""
+    def add_second(self, second: Second) -> None:
+        """Adds a second; first writes the interval before it where that has ended."""
         if second.clock > self.begin + self.period:
-            self.write()
+            self.write_interval()
         self.clock = second.clock
         for at in second.here.values():
             if at.cell is not None:
-                self.drive(at)
+                self.add_vehicle(at)
         for car in second.departed:
-            self.of(second.here[car].link).departed += 1
+            self.sums_of(second.here[car].link).departed += 1
         for _, link in second.entered:
-            self.of(link).entered += 1
+            self.sums_of(link).entered += 1
         for _, at in second.left:
-            self.of(at.link).left += 1
-        for car, at in second.teleported:
-            self.of(at.link).teleported += 1
+            self.sums_of(at.link).left += 1
+        for at in second.teleported.values():
+            self.sums_of(at.link).teleported += 1
         for _, trip in second.arrived:
-            self.of(trip.last.link).arrived += 1
+            self.sums_of(trip.last.link).arrived += 1
 
-    def drive(self, at: At) -> None:
+    def add_vehicle(self, at: At) -> None:
         """Adds one vehicle in the cells of an edge for one second."""
-        sums, link = self.of(at.link), self.links[at.link]
+        sums, link = self.sums_of(at.link), self.links[at.link]
         sums.seconds += 1
-        sums.metres += self.places.speed(at)
+        sums.metres += self.places.metres_per_second(at)
         sums.waiting += not at.speed
         sums.loss += max(0.0, 1 - at.speed / link.limit)
         sums.covered += vehicle_metres(at)
 
-    def write(self) -> None:
+    def write_interval(self) -> None:
         """Writes the interval that has ended, all edges of the map, and begins the next."""
         end = min(self.clock, self.begin + self.period)
-        edges, seconds = self.places.mapping.links_of, end - self.begin
-        rows = [self.row(edge, self.sums.get(edge, EdgeSums()), seconds) for edge in edges]
         self.file.write(f'    <interval begin="{self.begin:.2f}" end="{end:.2f}" id="streetsim">\n')
-        self.file.writelines(f"        <edge {row}/>\n" for row in rows)
+        for edge in self.places.mapping.links_of:
+            row = self.attributes_of(edge, self.sums.get(edge, EdgeSums()), end - self.begin)
+            self.file.write(f"        <edge {row}/>\n")
         self.file.write("    </interval>\n")
         self.begin, self.sums = end, {}
 
-    def row(self, edge: str, sums: EdgeSums, seconds: int) -> str:
-        """The attributes of an edge over an interval; seconds: its length. Speeds and densities are left out where
-        nobody was on it, and the travel time where nobody moved."""
+    def attributes_of(self, edge: str, sums: EdgeSums, seconds: int) -> str:
+        """The attributes of an edge over an interval; seconds: its length. Where nobody was on it there are only
+        the counts and sampledSeconds, and no travel time where nobody moved."""
         links = [self.links[link] for link in self.places.mapping.links_of[edge]]
         lanes, metres = sum(len(link.lanes) for link in links), links[0].metres
         seen = {}
@@ -104,65 +105,65 @@ class Edgedata(XmlFile):
         counts = {name: getattr(sums, name) for name in names}
         return attributes(id=edge, sampledSeconds=float(sums.seconds), **seen, **counts)
 
-    def end(self) -> None:
+    def write_end(self) -> None:
         """Writes the last interval, which may be shorter, and the end of the root."""
         if self.clock > self.begin:
-            self.write()
-        super().end()
+            self.write_interval()
+        super().write_end()
 
 
 class Detectors(XmlFile):
-    """A row for each interval of each detector of one kind; the kinds below say what is summed."""
+    """A row for each interval of each detector of one kind; each class below says what is summed, by sums_at_begin,
+    note_second and attributes_of, which raise NotImplementedError here."""
 
     root, kind = "detector", ""
 
-    def __init__(self, file: TextFile, places: Places, start: int = 0) -> None:
+    def __init__(self, file: TextFile, places: Places, start: int) -> None:
         """start: the clock at which the first interval of each detector begins."""
         super().__init__(file, places)
         self.detectors = [one for one in places.mapping.detectors if one.kind == self.kind]
         self.begins, self.clock = {one.name: start for one in self.detectors}, start
-        self.sums: dict[str, Sums] = {one.name: self.empty(one, None) for one in self.detectors}
+        self.sums: dict[str, Sums] = {one.name: self.sums_at_begin(one, None) for one in self.detectors}
 
-    def empty(self, one: Detector, before: Sums) -> Sums:
-        """The sums with which an interval begins; before: those of the interval that has ended, none where this is the
-        first. Each class below gives its own; NotImplementedError here."""
+    def sums_at_begin(self, one: Detector, before: Sums) -> Sums:
+        """The sums with which an interval begins; before: those of the interval that has ended, None of the first."""
         raise NotImplementedError
 
-    def note(self, one: Detector, sums: Sums, second: Second, here: Sequence[tuple[int, At]]) -> None:
-        """Adds a second to the sums of a detector; here: (car, place) of the vehicles on its lane in it, and of those
-        in the junction behind that. Each class below gives its own; NotImplementedError here."""
+    def note_second(self, one: Detector, sums: Sums, second: Second, here: Sequence[tuple[int, At]]) -> None:
+        """Adds a second to the sums of a detector; here: (car, where it is) of those on its lane in it, and of those
+        in the junction behind that."""
         raise NotImplementedError
 
-    def row(self, one: Detector, sums: Sums, seconds: int) -> str:
-        """The attributes of an interval; seconds: its length. Each class below gives its own; NotImplementedError
-        here."""
+    def attributes_of(self, one: Detector, sums: Sums, seconds: int) -> str:
+        """The attributes of an interval; seconds: its length."""
         raise NotImplementedError
 
-    def step(self, second: Second) -> None:
+    def add_second(self, second: Second) -> None:
         """Adds a second to all detectors; first writes those intervals that have ended."""
         for one in self.detectors:
             if second.clock > self.begins[one.name] + one.period:
-                self.write(one)
+                self.write_interval(one)
         self.clock = second.clock
         by_place: dict[Place, list[tuple[int, At]]] = {}
         for car, at in second.here.items():
             by_place.setdefault((at.link, at.lane), []).append((car, at))
         for one in self.detectors:
-            self.note(one, self.sums[one.name], second, by_place.get((one.link, one.lane), ()))
+            self.note_second(one, self.sums[one.name], second, by_place.get((one.link, one.lane), ()))
 
-    def write(self, one: Detector) -> None:
+    def write_interval(self, one: Detector) -> None:
         """Writes a detector's interval that has ended, and begins the next."""
-        begin, end = self.begins[one.name], min(self.clock, self.begins[one.name] + one.period)
-        row = self.row(one, self.sums[one.name], end - begin)
+        begin = self.begins[one.name]
+        end = min(self.clock, begin + one.period)
+        row = self.attributes_of(one, self.sums[one.name], end - begin)
         self.file.write(f"    <interval {attributes(begin=float(begin), end=float(end), id=one.name)} {row}/>\n")
-        self.begins[one.name], self.sums[one.name] = end, self.empty(one, self.sums[one.name])
+        self.begins[one.name], self.sums[one.name] = end, self.sums_at_begin(one, self.sums[one.name])
 
-    def end(self) -> None:
+    def write_end(self) -> None:
         """Writes the last intervals, which may be shorter, and the end of the root."""
         for one in self.detectors:
             if self.clock > self.begins[one.name]:
-                self.write(one)
-        super().end()
+                self.write_interval(one)
+        super().write_end()
 
 
 @dataclass(slots=True)
@@ -176,36 +177,32 @@ class LoopSums:
 
 class Loops(Detectors):
     """e1, induction loops: who drove over a cell in a second, as detectors.csv counts them. Who leaves the edge in that
-    second has the speed of the second before."""
+    second has the speed of the second before, a cell a second where it stood."""
 
     schema, kind = "det_e1_file", E1
 
-    def empty(self, one: Detector, _before: LoopSums | None) -> LoopSums:
+    def sums_at_begin(self, one: Detector, _before: LoopSums | None) -> LoopSums:
         """The sums of an e1 with which an interval begins: nothing."""
         return LoopSums()
 
-    def note(self, one: Detector, sums: LoopSums, second: Second, here: Sequence[tuple[int, At]]) -> None:
-        """Adds a second to the sums of an e1: whether its cell is covered, and who has passed it; here: as of
-        Detectors.note."""
+    def note_second(self, one: Detector, sums: LoopSums, second: Second, here: Sequence[tuple[int, At]]) -> None:
+        """Adds a second to the sums of an e1: whether its cell is covered, and who has passed it."""
         sums.occupied += any(at.cell is not None and at.cell - at.size < one.first <= at.cell for _, at in here)
         for car, last in second.before.items():
-            if last.link == one.link and last.cell is not None and last.cell <= one.first:
-                self.note_pass(one, sums, last, second.here.get(car))
+            on_edge = last.link == one.link and car not in second.teleported
+            if on_edge and last.cell is not None and last.cell <= one.first:
+                self.note_pass(one, sums, last, second.here.get(car, replace(last, cell=None)))
 
-    def note_pass(self, one: Detector, sums: LoopSums, last: At, now: At | None) -> None:
+    def note_pass(self, one: Detector, sums: LoopSums, last: At, now: At) -> None:
         """Adds to the sums of an e1 a vehicle that was on the loop or before it in the second before (last), if it is
-        behind it now; now: none where it is gone. Who left the edge is taken to have kept its lane, and counts even
-        where it was taken out on the loop or before it; its speed is that of `last`, or a cell a second where it
-        stood."""
-        gone = now is None or now.link != one.link or now.cell is None
-        lane = now.lane if now is not None and now.link == one.link else last.lane
-        if lane == one.lane and (gone or (now is not None and now.front > one.first)):
-            speed = now.speed if now is not None and now.cell is not None and not gone else last.speed or 1.0
+        beyond it now: in the cells of its lane or, in the junction or as one that has arrived, without a cell."""
+        if now.lane == one.lane and (now.cell is None or now.cell > one.first):
+            speed = last.speed or 1.0 if now.cell is None else now.speed
             sums.speeds.append(speed * self.places.cell_metres[one.link])
             sums.metres.append(vehicle_metres(last))
 
-    def row(self, one: Detector, sums: LoopSums, seconds: int) -> str:
-        """The attributes of an e1's interval; seconds: its length. -1 where nobody passed, as SUMO writes."""
+    def attributes_of(self, one: Detector, sums: LoopSums, seconds: int) -> str:
+        """The attributes of an e1's interval; means are -1 where nobody passed, as SUMO writes."""
         count = len(sums.speeds)
         return attributes(
             nVehContrib=count,
@@ -244,21 +241,21 @@ class Areas(Detectors):
 
     schema, kind = "det_e2_file", E2
 
-    def empty(self, one: Detector, before: AreaSums | None) -> AreaSums:
+    def sums_at_begin(self, one: Detector, before: AreaSums | None) -> AreaSums:
         """The sums of an e2 with which an interval begins: vehicles inside and halts that go on are taken over."""
         if before is None:
             return AreaSums()
         return AreaSums(inside=before.inside, halts=before.halts, interval_halts=dict.fromkeys(before.halts, 0))
 
-    def note(self, one: Detector, sums: AreaSums, second: Second, here: Sequence[tuple[int, At]]) -> None:
-        """Adds a second to the sums of an e2; here: as of Detectors.note."""
+    def note_second(self, one: Detector, sums: AreaSums, second: Second, here: Sequence[tuple[int, At]]) -> None:
+        """Adds a second to the sums of an e2."""
         inside = {car: at for car, at in here if at.cell is not None and one.first <= at.cell <= one.last}
         sums.entered += len(inside.keys() - sums.inside.keys())
         sums.left += len(sums.inside.keys() - inside.keys())
         sums.seen.update(inside)
         sums.seconds += len(inside)
         sums.most = max(sums.most, len(inside))
-        sums.metres += sum(self.places.speed(at) for at in inside.values())
+        sums.metres += sum(self.places.metres_per_second(at) for at in inside.values())
         sums.loss += sum(max(0.0, 1 - at.speed / self.places.mapping.links[at.link].limit) for at in inside.values())
         area = (one.last - one.first + 1) * self.places.cell_metres[one.link]
         sums.covered.append(min(1.0, sum(map(vehicle_metres, inside.values())) / area))
@@ -277,8 +274,8 @@ class Areas(Detectors):
             sums.halts[car] = sums.halts.get(car, 0) + 1
             sums.interval_halts[car] = sums.interval_halts.get(car, 0) + 1
 
-    def row(self, one: Detector, sums: AreaSums, seconds: int) -> str:
-        """The attributes of an e2's interval; seconds: its length. -1 for means over nobody, as SUMO writes."""
+    def attributes_of(self, one: Detector, sums: AreaSums, seconds: int) -> str:
+        """The attributes of an e2's interval; the mean speed and loss of nobody are -1, as SUMO writes."""
         car_metres = self.places.cell_metres[one.link]
         halts = [halt for halt, _ in sums.ended] + list(sums.halts.values())
         within = [halt for _, halt in sums.ended] + list(sums.interval_halts.values())

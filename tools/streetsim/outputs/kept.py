@@ -13,13 +13,12 @@ from streetsim.sumo.timings import timings_of_files
 
 
 def write_kept(folder: str, run: Run) -> None:
-    """Writes run.jsonl.gz, the lines of a run with those of its works, to a folder. Fault where it cannot be
-    written."""
+    """Writes run.jsonl.gz, the lines of a run with those of its works, to a folder; Fault where that fails."""
     with whole_file(f"{folder}/{KEPT}") as file:
         file.writelines(line + "\n" for line in texts_of(run))
 
 
-def by_which(run: Run, words: Sequence[str], again: Sequence[str]) -> Json:
+def how_made_again(run: Run, words: Sequence[str], again: Sequence[str]) -> Json:
     """What a run's setting says of how it is made again: `words`, the options that were given and change its numbers;
     `again`, those of them that are needed beside the kept lines; and `lines`, the SHA-256 of these lines."""
     return {"words": list(words), "again": list(again), "lines": sum_of_lines(texts_of(run))}
@@ -28,7 +27,7 @@ def by_which(run: Run, words: Sequence[str], again: Sequence[str]) -> Json:
 def write_lights(folder: str, mapping: Map, map_path: FilePath) -> None:
     """Writes lights.json, the programs of the lights by the files that were imported, to a folder; map_path: from which
     these are found. Writes nothing, and says nothing, where these are gone, changed or cannot be read, or there is no
-    light. Fault where it cannot be written."""
+    light."""
     if not mapping.sources or not mapping.signals:
         return
     beside = os.path.dirname(os.path.realpath(map_path))

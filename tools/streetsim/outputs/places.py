@@ -13,28 +13,28 @@ class Places:
     """The lanes of a map in metres: where vehicles are and how fast."""
 
     def __init__(self, mapping: Map) -> None:
-        """mapping: of the run."""
+        """The lanes of a run's map."""
         self.mapping = mapping
         self.names = {place: mapping.lane_name(*place) for place in mapping.lanes()}
         self.cell_metres = [link.metres / link.cells for link in mapping.links]
         self.lines = [Line(link.shape) for link in mapping.links]
 
-    def metres(self, at: At) -> float:
+    def metres_on_lane(self, at: At) -> float:
         """Metres from the lane's begin to the front of a vehicle; of one in the junction behind it, the lane's
         length."""
         link = self.mapping.links[at.link]
         return link.metres if at.cell is None else (at.cell + 1) * self.cell_metres[at.link]
 
-    def speed(self, at: At) -> float:
+    def metres_per_second(self, at: At) -> float:
         """Metres a second of a vehicle, by the length of its link's cells."""
         return at.speed * self.cell_metres[at.link]
 
-    def point(self, at: At) -> tuple[float, float, float]:
+    def point_and_angle(self, at: At) -> tuple[float, float, float]:
         """(x, y, angle) of a vehicle's front, on its lane beside the link's line: metres, and degrees clockwise from
         north."""
         link = self.mapping.links[at.link]
         side = ((len(link.lanes) - 1) / 2 - at.lane) * LANE_WIDTH
-        return self.lines[at.link].at(self.metres(at) / link.metres, side)
+        return self.lines[at.link].point_and_angle(self.metres_on_lane(at) / link.metres, side)
 
 
 class Line:
@@ -46,7 +46,7 @@ class Line:
         self.sizes = [dist(one, other) for one, other in zip(points, points[1:])]
         self.ends = list(accumulate(self.sizes))
 
-    def at(self, share: float, side: float = 0.0) -> tuple[float, float, float]:
+    def point_and_angle(self, share: float, side: float = 0.0) -> tuple[float, float, float]:
         """(x, y, angle) at a share, 0 to 1, of the length, `side` metres to the right of the line: metres, and the
         angle of the line there in degrees clockwise from north."""
         way = share * self.ends[-1]

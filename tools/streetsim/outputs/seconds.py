@@ -53,7 +53,7 @@ class Second:
     departed: list[int] = field(default_factory=list)  # cars
     entered: list[tuple[int, int]] = field(default_factory=list)  # (car, link): onto the cells of an edge from another
     left: list[tuple[int, At]] = field(default_factory=list)  # out of the cells of an edge into the junction behind it
-    teleported: list[tuple[int, At]] = field(default_factory=list)  # taken out of the cells
+    teleported: dict[int, At] = field(default_factory=dict)  # by car, out of which cells it was taken
     arrived: list[tuple[int, Trip]] = field(default_factory=list)
     before: dict[int, At] = field(default_factory=dict)  # by car, of the second before
 
@@ -74,35 +74,33 @@ class Follower:
         self.before: dict[int, At] = {}
         self.entered_at: dict[int, int] = {}  # car: the clock since which it is in a junction
 
-    def expect(self, car: int, name: str, wished: int, kind: str = "DEFAULT_VEHTYPE") -> None:
+    def expect_vehicle(self, car: int, name: str, wished: int, kind: str = "DEFAULT_VEHTYPE") -> None:
         """Tells of a vehicle before it is seen: the second at which it would depart, its name and its type. One that
         was not told of is called # and its number."""
         self.expected[car] = name, wished, kind
 
-    def see(self, clock: int, lanes: Iterable[Sequence[Any]], arrived: Iterable[int]) -> Second:
-        """Takes the second that ends at a clock, and gives what it shows; called for every second, rising. Its trips
-        are the follower's own, without those who arrived, and change with the next call. lanes: [link, lane, cells,
-        cars in the buffer, ..] as a folder's polls have them, empty lanes left out; arrived: the cars that arrived in
-        it, a list or the like, as it is read twice."""
+    def see_second(self, clock: int, lanes: Iterable[Sequence[Any]], arrived: Iterable[int]) -> Second:
+        """Takes the second that ends at a clock, and gives what it shows; called for every second, rising. Its trips,
+        without those who arrived, change with the next call. lanes: [link, lane, cells, cars in the buffer, ..] as a
+        folder's polls have them, empty lanes left out; arrived: cars."""
         second = Second(clock, self.trips, before=self.before)
         for link, lane, cells, buffer, *_ in lanes:
             for entry in cells:
                 second.here[entry[0]] = At(link, lane, entry[1], entry[2], size_of(entry))
             for car in buffer:
-                second.here[car] = self.in_junction(car, link, lane, clock)
+                second.here[car] = self.follow_in_junction(car, link, lane, clock)
         for car, at in second.here.items():
-            self.follow(second, car, at)
-        gone = set(arrived)
-        for car in self.before.keys() - second.here.keys():
-            if car not in gone and self.before[car].cell is not None:
-                second.teleported.append((car, self.before[car]))
-        second.arrived = [(car, self.trips.pop(car)) for car in arrived if car in self.trips]
+            self.follow_vehicle(second, car, at)
+        gone = dict.fromkeys(arrived)
+        lost = ((car, at) for car, at in self.before.items() if car not in second.here and car not in gone)
+        second.teleported.update((car, at) for car, at in lost if at.cell is not None)
+        second.arrived = [(car, self.trips.pop(car)) for car in gone if car in self.trips]
         self.before = second.here
         return second
 
-    def in_junction(self, car: int, link: int, lane: int, clock: int) -> At:
-        """Where a vehicle in the buffer of a lane is; notes since when. It drives, at a cell a second, for as long as
-        the junction takes at least, and then stands."""
+    def follow_in_junction(self, car: int, link: int, lane: int, clock: int) -> At:
+        """Notes since when a vehicle is in the buffer of a lane, and gives where it is. It drives, at a cell a second,
+        for the least time that the junction takes, but one second in any case, and then stands."""
         last = self.before.get(car)
         if last is None or last.cell is not None or last.link != link:
             self.entered_at[car] = clock
@@ -110,7 +108,7 @@ class Follower:
         driving = clock - self.entered_at[car] < max(1, residence)
         return At(link, lane, None, 1.0 if driving else 0.0, last.size if last else 1)
 
-    def follow(self, second: Second, car: int, at: At) -> None:
+    def follow_vehicle(self, second: Second, car: int, at: At) -> None:
         """Begins the trip of a vehicle, or goes on with it, and notes in `second` what it did since the second before;
         at: where it is now."""
         last, trip = self.before.get(car), self.trips.get(car)
@@ -121,7 +119,7 @@ class Follower:
             self.add_link(trip, at.link)
         elif last is None or last.link != at.link or (last.cell is None and at.cell is not None):
             if last is not None and last.cell is not None:
-                second.teleported.append((car, last))
+                second.teleported[car] = last
             second.entered.append((car, at.link))
             self.add_link(trip, at.link)
         elif at.cell is None and last.cell is not None:

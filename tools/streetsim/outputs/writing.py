@@ -5,7 +5,7 @@ from collections import defaultdict
 from collections.abc import Callable, Iterable, Mapping, Sequence
 from typing import Any
 
-from streetsim.base.files import Fault, TextFile, whole_file
+from streetsim.base.files import Fault, FilePath, TextFile, whole_file
 from streetsim.buses.fleet import Done, Dwell, dwells
 from streetsim.model.folder import Frame
 from streetsim.model.mapping import Map
@@ -18,14 +18,15 @@ from streetsim.outputs.seconds import Follower
 class Outputs(contextlib.ExitStack):
     """Open output files, {kind: path}, which take their names when the block ends without an exception.
 
-    Tell vehicles by `expect`, then each second of the run by `step`. Edges are summed over `period` seconds, detectors
-    over their own; `dawdle` is the run's chance of slowing down (0 to 1), by which the free driving time is reckoned;
-    `start` is the clock at the run's begin; `rescued` are the clocks at which vehicles were rescued, rising, as far as
-    they are known.
+    Tell vehicles by `expect_vehicle`, then each second of the run by `add_second`. Edges are summed over `period`
+    seconds, detectors over their own; `dawdle` is the run's chance of slowing down (0 to 1), by which the free driving
+    time is reckoned; `start` is the clock at the run's begin; `rescued` are the clocks at which vehicles were rescued,
+    rising, as far as they are known.
     """
 
     def __init__(
-        self, paths: dict, mapping: Map, dawdle: float, period: int = 900, start: int = 0, rescued: Sequence[int] = ()
+        self, paths: Mapping[str, FilePath], mapping: Map, dawdle: float, period: int = 900, start: int = 0,
+        rescued: Sequence[int] = (),
     ) -> None:
         """Opens the files; paths: {kind of KINDS: path}; other arguments as above. Fault where one cannot be
         written, KeyError for another kind."""
@@ -50,35 +51,35 @@ class Outputs(contextlib.ExitStack):
             self.push(files.pop_all())
 
     def __exit__(self, kind: type[BaseException] | None, *details: Any) -> bool:
-        """Writes the ends of the files, which get their names; after an exception they are not left behind. Gives
-        False, so that the exception goes on."""
+        """Writes the ends of the files, which get their names; after an exception, which goes on, they are not left
+        behind."""
         if kind is None:
             for writer in self.writers:
-                writer.end()
+                writer.write_end()
         return super().__exit__(kind, *details)
 
-    def expect(self, car: int, name: str, wished: int, kind: str = "DEFAULT_VEHTYPE") -> None:
+    def expect_vehicle(self, car: int, name: str, wished: int, kind: str = "DEFAULT_VEHTYPE") -> None:
         """Tells of a vehicle before it is seen: its number in later looks, its name, the second at which it would
         depart, and its type."""
-        self.follower.expect(car, name, wished, kind)
+        self.follower.expect_vehicle(car, name, wished, kind)
         insort(self.wished, wished)
 
-    def step(self, clock: int, lanes: Iterable[Sequence[Any]], arrived: Iterable[int]) -> None:
+    def add_second(self, clock: int, lanes: Iterable[Sequence[Any]], arrived: Iterable[int]) -> None:
         """Takes the second that ends at a clock; called for every second, rising. lanes: [link, lane, cells, cars in
-        the buffer, ..] of each lane where anything is; arrived: the cars that arrived in it, a list or the like."""
-        second = self.follower.see(clock, lanes, arrived)
+        the buffer, ..] of each lane where anything is; arrived: the cars that arrived in it."""
+        second = self.follower.see_second(clock, lanes, arrived)
         for writer in self.writers:
-            writer.step(second)
+            writer.add_second(second)
 
-    def write(
+    def write_run(
         self, trips: Sequence[Mapping[str, str | int]], frames: Iterable[Frame], stops: Iterable[Done] = ()
     ) -> None:
         """Writes a whole run, of the rows of trips.csv in the order of the vehicles' numbers (all with SUMO's default
-        type), what stood on the lanes in every second, and what became of stops; Fault where a second is missing."""
+        type), what stood on the lanes in every second, and what became of stops; Fault where the looks skip one."""
         self.dwells.update(dwells(stops))
         arrivals = defaultdict(list)
         for car, trip in enumerate(trips):
-            self.expect(car, str(trip["id"]), int(trip["depart"]))
+            self.expect_vehicle(car, str(trip["id"]), int(trip["depart"]))
             if trip["arrival"] != "":
                 arrivals[int(trip["arrival"])].append(car)
         clock = self.start
@@ -86,4 +87,4 @@ class Outputs(contextlib.ExitStack):
             if frame["clock"] != clock + 1:
                 raise Fault(f"SUMO's outputs need a look at every second: after {clock} s comes {frame['clock']} s")
             clock = frame["clock"]
-            self.step(clock, frame["lanes"], arrivals.pop(clock, ()))
+            self.add_second(clock, frame["lanes"], arrivals.pop(clock, ()))

@@ -15,16 +15,16 @@ DPI, COLOURS = 95, 64  # of a PNG: dots an inch, colours
 DATES = {"svg": {"Date": None}, "pdf": {"CreationDate": None}}  # without: equal runs give equal bytes
 
 
-def drawing_if_there() -> Pyplot:
+def pyplot_if_installed() -> Pyplot:
     """matplotlib's pyplot; None where it is not installed, which is said on standard error."""
     try:
-        return drawing()
+        return load_pyplot()
     except Fault as fault:
         print(f"no picture: {fault}", file=sys.stderr)
         return None
 
 
-def drawing() -> Pyplot:
+def load_pyplot() -> Pyplot:
     """matplotlib's pyplot, without a display and with the settings of all pictures; Fault where it is not installed."""
     try:
         import matplotlib
@@ -33,16 +33,12 @@ def drawing() -> Pyplot:
     matplotlib.use("Agg")
     from matplotlib import pyplot
 
-    pyplot.rcParams.update(
-        {
-            "font.size": 9, "svg.hashsalt": "streetsim", "axes.grid": True, "grid.color": "#dddddd",
-            "axes.axisbelow": True,
-        }
-    )
+    pyplot.rcParams.update({"font.size": 9, "svg.hashsalt": "streetsim", "grid.color": "#dddddd"})
+    pyplot.rcParams.update({"axes.grid": True, "axes.axisbelow": True})
     return pyplot
 
 
-def ending_of(path: str) -> str:
+def picture_format(path: str) -> str:
     """The format of a picture by the end of its name: png, svg or pdf; Fault for any other."""
     ending = os.path.splitext(path)[1].lower().removeprefix(".")
     if ending not in ("png", *DATES):
@@ -50,10 +46,10 @@ def ending_of(path: str) -> str:
     return ending
 
 
-def save(figure: Figure, path: str) -> None:
+def save_picture(figure: Figure, path: str) -> None:
     """Writes a picture in the format of its name, whole or not at all; a PNG with 64 colours, which keeps it small.
     Fault for a name with another ending than png, svg or pdf, or where it cannot be written."""
-    ending = ending_of(path)
+    ending = picture_format(path)
     with whole_path(path) as half:
         if ending != "png":
             figure.savefig(half, format=ending, bbox_inches="tight", facecolor="white", metadata=DATES[ending])

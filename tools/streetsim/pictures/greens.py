@@ -15,9 +15,9 @@ Row = Mapping[str, str]
 
 
 def draw_greens(pyplot: Pyplot, folder: Folder, lights: Sequence[str]) -> Figure:
-    """A panel for each of some lights, the first six where none is named: how long each of its greens lasted. Fault
-    where detectors drive none, or none of that name; ValueError where none is named and no green has ended."""
-    rows = of_lights(folder, lights)
+    """A panel for each of some lights, the first six where none is named: how long each of its greens lasted. Fault as
+    of ended_greens."""
+    rows = ended_greens(folder, lights)
     figure, panels = pyplot.subplots(len(rows), figsize=(10, 1 + 2.6 * len(rows)), squeeze=False, sharex=True)
     names, mapping = Names(folder.mapping), folder.mapping
     places = {light: mapping.nodes[node][0] for light, node in mapping.signals}
@@ -29,21 +29,26 @@ def draw_greens(pyplot: Pyplot, folder: Folder, lights: Sequence[str]) -> Figure
     return figure
 
 
-def of_lights(folder: Folder, lights: Sequence[str]) -> dict[str, list[Row]]:
-    """{light: the rows of phases.csv of its greens that have ended, without those in which yellow is shown}; of the
-    first six lights by name where none is named, which may be none. Fault where a named one has none."""
+def ended_greens(folder: Folder, lights: Sequence[str]) -> dict[str, list[Row]]:
+    """{light: the rows of phases.csv of its greens that have ended, one at least, without those in which yellow is
+    shown}; of the first six lights by name that have some where none is named. Fault where detectors drive no light, or
+    none of that name, or no green of it, or of any, has ended."""
     found: defaultdict[str, list[Row]] = defaultdict(list)
-    for row in folder.phases():
+    rows = folder.phases()
+    for row in rows:
         if set(row["state"]) & set("Gg") and not set(row["state"]) & set("yY") and row["ended"]:
             found[row["light"]].append(row)
-    if unknown := [light for light in lights if light not in found]:
-        raise Fault(f"{folder.path}: detectors drive no light {unknown[0]!r} in this run")
+    for light in lights:
+        if not any(row["light"] == light for row in rows):
+            raise Fault(f"{folder.path}: detectors drive no light {light!r} in this run")
+    if not found or (late := [light for light in lights if light not in found]):
+        raise Fault(f"{folder.path}: no green{f' of light {late[0]!r}' if found else ''} had ended when the run did")
     return {light: found[light] for light in lights or sorted(found)[:MOST]}
 
 
 def draw_light(axes: Axes, light: str, rows: Sequence[Row]) -> None:
     """Draws seconds of greens over their begin in minutes, by phase; filled where traffic held one until its greatest
-    length. light: its title; rows: as of_lights gives them, one at least."""
+    length. light: its title; rows: its own, of ended_greens."""
     phases = sorted({int(row["phase"]) for row in rows})
     for at, phase in enumerate(phases):
         own = [row for row in rows if int(row["phase"]) == phase]

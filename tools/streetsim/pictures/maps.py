@@ -4,12 +4,13 @@ from dataclasses import dataclass
 from typing import Any
 
 from streetsim.base.files import Fault
+from streetsim.base.words import time_of_day
 from streetsim.model.folder import Folder
 from streetsim.model.mapping import Shape
-from streetsim.model.service import COLOURS, LETTERS, LIGHT
+from streetsim.model.service import COLOURS, LETTERS, WHITE_LETTERS
 from streetsim.pictures.drawing import Axes, Figure, Lines, Pyplot
 from streetsim.results import series
-from streetsim.results.reading import Runs, read_any
+from streetsim.results.reading import Runs, read_with_any_tables
 from streetsim.results.values import Values, intervals_of, values_of
 
 WHAT = ("density", "delay", "los", "vc", "flow", "queue")
@@ -24,31 +25,29 @@ LABELS = {
 ROUND = (0.5, 1, 2, 5, 10, 20, 50, 100, 200, 500, 1000, 2000, 5000, 10_000)  # ends of the scale of colours
 
 
-@dataclass(slots=True)
-class Shown:
-    """A street in a picture: its shape, and its number or letter; none where it has none."""
+@dataclass(frozen=True, slots=True)
+class Street:
+    """A street in a picture: its shape, and its number or letter; None where it has none."""
 
     shape: Shape
-    value: Any  # a number or a letter
+    value: Any
 
 
-def draw(pyplot: Pyplot, path: str, what: str, second: int | None) -> Figure:
+def draw_measure(pyplot: Pyplot, path: str, what: str, second: int | None) -> Figure:
     """The streets of a folder's run, or of its seeds, by one of WHAT but the density, in the interval of interval_of
-    (as a rule the busiest where `second` is None). Fault where the folder or edges.csv cannot be read, interval_of
-    raises one, or nothing is known of it then."""
-    runs = read_any(path)
+    (as a rule the busiest where `second` is None). Fault as of that, and where nothing is known of it then."""
+    runs = read_with_any_tables(path)
     begin, end = interval_of(runs, what, second)
-    values = values_of(runs, begin, end)
-    shapes = [
-        (edge, runs.first.mapping.links[links[len(links) // 2]].shape)
-        for edge, links in runs.first.mapping.links_of.items()
+    values, mapping = values_of(runs, begin, end), runs.first.mapping
+    shown = [
+        Street(mapping.links[links[len(links) // 2]].shape, measure_of(values[edge], what))
+        for edge, links in mapping.links_of.items()
     ]
-    shown = [Shown(shape, value_of(values[edge], what)) for edge, shape in shapes]
     if all(one.value is None for one in shown):
         raise Fault(f"{path}: nothing is known of {what} from {begin} to {end} s")
     figure, axes, beside = canvas(pyplot, [one.shape for one in shown])
     title, label = LABELS[what]
-    axes.set(title=f"{title}, {clock(begin)} to {clock(end)}")
+    axes.set(title=f"{title}, {time_of_day(begin)} to {time_of_day(end)}")
     if what == "los":
         draw_letters(axes, shown, runs, (begin, end))
     else:
@@ -63,27 +62,23 @@ def interval_of(runs: Runs, what: str, second: int | None) -> tuple[int, int]:
     none."""
     if what != "flow" and not runs.rows:
         raise Fault(f"{runs.first.path}: a map of {what} needs streetsim-run --junctions")
-    found = intervals_of(runs)
+    found = dict(intervals_of(runs))
+    if not found:
+        raise Fault(f"{runs.first.path}: nothing is known of any interval")
     if second is None:
-        return runs.busiest() if runs.rows else found[0]
-    those = [one for one in found if one[0] == second]
-    if not those:
-        raise Fault(f"--begin {second}: no interval begins there, of {', '.join(str(begin) for begin, _ in found)}")
-    return those[0]
+        return runs.busiest() if runs.rows else min(found.items())
+    if second not in found:
+        raise Fault(f"--begin {second}: no interval begins there, of {', '.join(map(str, found))}")
+    return second, found[second]
 
 
-def value_of(values: Values, what: str) -> float | str | None:
+def measure_of(values: Values, what: str) -> float | str | None:
     """The value of an edge by one of WHAT but the density: a number or a letter; none where it is not known."""
     if what == "flow":
         return values.traffic.flow if values.traffic else None
     if values.row is None:
         return None
     return values.row.letter() if what == "los" else values.row.values.get(MEASURES[what])
-
-
-def clock(second: int) -> str:
-    """Seconds since midnight as hours and minutes, 7:30; seconds are cut off."""
-    return f"{second // 3600:d}:{second // 60 % 60:02d}"
 
 
 def canvas(pyplot: Pyplot, shapes: Sequence[Shape]) -> tuple[Figure, Axes, dict[str, str | float]]:
@@ -102,25 +97,21 @@ def canvas(pyplot: Pyplot, shapes: Sequence[Shape]) -> tuple[Figure, Axes, dict[
     return figure, axes, {"orientation": "horizontal", "pad": 0.18} if wide else {}
 
 
-def draw_lines(axes: Axes, shown: Iterable[Shown], colours: str = "YlOrRd") -> Lines:
+def draw_lines(axes: Axes, shown: Iterable[Street], colours: str = "YlOrRd") -> Lines:
     """Draws edges by their numbers, wider where they are higher, those with none left out; gives the lines, for a bar
     of colours. One at least has a number."""
     from matplotlib.collections import LineCollection
 
     known = sorted((one for one in shown if one.value is not None), key=lambda one: one.value)
     most = next((most for most in ROUND if known[-1].value <= most), known[-1].value)
-    lines = LineCollection(
-        [one.shape for one in known],
-        cmap=colours,
-        array=[one.value for one in known],
-        clim=(0, most),
-        linewidths=[1.5 + 5 * one.value / most for one in known],
-    )
+    values, widths = [one.value for one in known], [1.5 + 5 * one.value / most for one in known]
+    shapes = [one.shape for one in known]
+    lines = LineCollection(shapes, cmap=colours, array=values, clim=(0, most), linewidths=widths)
     axes.add_collection(lines)
     return lines
 
 
-def draw_letters(axes: Axes, shown: Sequence[Shown], runs: Runs, interval: tuple[int, int]) -> None:
+def draw_letters(axes: Axes, shown: Sequence[Street], runs: Runs, interval: tuple[int, int]) -> None:
     """Draws edges and junctions by letter, darker and wider where it is worse, in an interval (begin, end), with the
     legend; those without a letter stay grey."""
     from matplotlib.collections import LineCollection
@@ -134,9 +125,8 @@ def draw_letters(axes: Axes, shown: Sequence[Shown], runs: Runs, interval: tuple
     for (name,), row in runs.rows["junctions", *interval].items():
         letter = row.letter()
         axes.plot(*places[name], "o", color=COLOURS[letter], markeredgecolor="black", markersize=12)
-        axes.annotate(
-            letter, places[name], ha="center", va="center", fontsize=8, color="white" if letter in LIGHT else "black"
-        )
+        colour = "white" if letter in WHITE_LETTERS else "black"
+        axes.annotate(letter, places[name], ha="center", va="center", fontsize=8, color=colour)
     marks = [Line2D([], [], color=COLOURS[letter], linewidth=6, label=letter) for letter in LETTERS]
     axes.set_xlabel("")  # the legend stands there
     axes.legend(handles=marks, loc="upper center", bbox_to_anchor=(0.5, -0.1), ncol=6, frameon=False)
@@ -146,11 +136,11 @@ def draw_density(pyplot: Pyplot, folder: Folder) -> Figure:
     """The streets by mean density over all polls, vehicles a kilometre and lane, of each link, above 100 as 100; Fault
     where nothing was polled."""
     densities = series.densities(folder)
-    shown = [Shown(link.shape, value) for value, link in zip(densities, folder.mapping.links, strict=True)]
+    shown = [Street(link.shape, value) for value, link in zip(densities, folder.mapping.links, strict=True)]
     figure, axes, beside = canvas(pyplot, [one.shape for one in shown])
     axes.set(title="Mean density: wider and darker is denser")
     most = next((most for most in (25, 50) if max(densities) <= most), 100)
-    lines = draw_lines(axes, [Shown(one.shape, min(one.value, most)) for one in shown], "viridis_r")
+    lines = draw_lines(axes, [Street(one.shape, min(one.value, most)) for one in shown], "viridis_r")
     lines.set_clim(0, most)
     figure.colorbar(lines, ax=axes, label="vehicles/km and lane", extend="max", shrink=0.7, **beside)
     scale_bar(axes)

@@ -1,7 +1,7 @@
-"""Draws the pictures of a run but for maps, greens and works: ways along a path, flow over density, queues,
-arrivals."""
+"""Draws pictures of a run: ways along a path, flow over density (in a ring of one lane, too), queues, arrivals."""
 from collections.abc import Sequence
 from dataclasses import dataclass, replace
+from itertools import cycle, pairwise
 from math import inf
 
 from streetsim.base import limits
@@ -28,7 +28,7 @@ def refuse_broken(folder: Folder, edges: Sequence[str]) -> None:
     """Fault where one of some edges does not lead to the next, or the map does not have one."""
     links = folder.links_along(edges)
     turns = {(turn.link, turn.next) for turn in folder.mapping.turns}
-    for (edge, here), (following, there) in zip(zip(edges, links), list(zip(edges, links))[1:]):
+    for (edge, here), (following, there) in pairwise(zip(edges, links, strict=True)):
         if not any((link, target) in turns for link in here for target in there):
             raise Fault(f"--edges: no turn leads from {edge!r} to {following!r}")
 
@@ -66,21 +66,23 @@ def draw_corridor(pyplot: Pyplot, folder: Folder, corridor: Corridor) -> Figure:
 
 
 def draw_way(axes: Axes, folder: Folder, way: Corridor) -> None:
-    """Draws the vehicles along one direction of a path, with its red signals, and the names of junctions beside it.
-    Fault where the map has no such edge, or the run no polls."""
+    """Draws the vehicles along one direction of a path, with its red signals, its green band (in the title), and the
+    names of junctions beside it."""
     from matplotlib.collections import LineCollection, PolyCollection
 
     edges, first, last = way.edges, way.first, way.last
     pieces = series.trajectories(folder, edges, first, last)
-    _, length = series.stretches(folder, edges)
+    _, length = series.links_and_length(folder, edges)
     for least, label, colour, width in reversed(SPEEDS):
-        shown = [piece for piece in pieces if piece[2] == least or (piece[2] > least and least == SPEEDS[-1][0])]
+        shown = [piece for piece in pieces if min(piece[2], SPEEDS[-1][0]) == least]
         if least == SPEEDS[-1][0] and not shown:
             continue
         fronts = [(begin, end) for begin, end, _, _ in shown]
         axes.add_collection(LineCollection(fronts, colors=colour, linewidths=width, label=label))
-        axes.add_collection(PolyCollection(series.bands(shown), facecolors=colour, linewidths=0, alpha=0.6))
-    for at, (place, begin, end) in enumerate(series.reds(folder, edges, first, last)):
+        axes.add_collection(
+            PolyCollection(series.long_vehicle_strips(shown), facecolors=colour, linewidths=0, alpha=0.6)
+        )
+    for at, (place, begin, end) in enumerate(series.red_times(folder, edges, first, last)):
         named = "red" if at == 0 else None
         axes.plot((begin, end), (place, place), color="black", linewidth=4, solid_capstyle="butt", label=named)
     streets = Names(folder.mapping)
@@ -97,78 +99,67 @@ def draw_way(axes: Axes, folder: Folder, way: Corridor) -> None:
 
 
 def draw_ring(pyplot: Pyplot, program: str | None, dawdles: Sequence[int], limit: int) -> Figure:
-    """Flow over density in a ring of one lane, measured by the program, for one to six chances of dawdling, of 1,000
-    (further ones are left out); program: its path, None: as Client finds it; limit: cells a step. Fault where it cannot
-    be started."""
-    figure, axes = fundamental(pyplot, f"One lane in a ring, limit {limit * limits.CELL_KMH} km/h")
-    for dawdle, marker in zip(dawdles, MARKERS):
-        points = [ring.measure(program, count, limit, dawdle) for count in RING]
+    """Flow over density in a ring of one lane, measured by the program, for some chances of dawdling, of 1,000;
+    program: its path, None: as Client finds it; limit: cells a step. Fault where it cannot be started."""
+    figure, axes = empty_diagram(pyplot, f"One lane in a ring, limit {limit * limits.CELL_KMH} km/h")
+    for dawdle, marker in zip(dawdles, cycle(MARKERS)):
+        points = [ring.measure_ring(program, count, limit, dawdle) for count in RING]
         densities, flows = [point.per_km for point in points], [point.per_hour for point in points]
         axes.plot(densities, flows, marker=marker, markersize=4, label=f"dawdle {dawdle}")
     axes.legend(frameon=False)
-    return from_zero(figure, axes)
+    begin_at_zero(axes)
+    return figure
 
 
 def draw_fundamental(pyplot: Pyplot, folder: Folder, edges: Sequence[str], at_stop_lines: bool) -> Figure:
     """Flow over density of some edges, or of all where none is named: at the stop lines by counts.csv, else in the
-    middle third of lanes by polls. Fault for an unknown edge, or where counts.csv (at_stop_lines) cannot be read, or
-    else nothing was polled."""
+    middle third of lanes by polls. Fault for an unknown edge, or where the polls it needs are missing."""
     folder.links_along(edges)  # which names an edge that the map does not have
-    counts = (series.flows if at_stop_lines else series.middle_flows)(folder, edges)
-    where = f"Counts of {folder.period} s at the stop lines"
-    figure, axes = fundamental(pyplot, where if at_stop_lines else f"Middle third of lanes, means of {folder.period} s")
+    counts = (series.counted_densities_and_flows if at_stop_lines else series.middle_densities_and_flows)(folder, edges)
+    where = "Counts of {} s at the stop lines" if at_stop_lines else "Middle third of lanes, means of {} s"
+    figure, axes = empty_diagram(pyplot, where.format(folder.period))
     axes.scatter(*(zip(*counts, strict=True) if counts else ((), ())), s=10, color="#225588", alpha=0.6, linewidths=0)
-    return from_zero(figure, axes)
+    begin_at_zero(axes)
+    return figure
 
 
-def fundamental(pyplot: Pyplot, title: str) -> tuple[Figure, Axes]:
+def empty_diagram(pyplot: Pyplot, title: str) -> tuple[Figure, Axes]:
     """(empty picture of flow over density, its axes)."""
     figure, axes = pyplot.subplots(figsize=(7, 5))
     axes.set(xlabel="density (vehicles/km and lane)", ylabel="flow (vehicles/h and lane)", title=title)
     return figure, axes
 
 
-def from_zero(figure: Figure, axes: Axes) -> Figure:
-    """The same picture with axes that begin at 0."""
+def begin_at_zero(axes: Axes) -> None:
+    """Has both axes begin at 0."""
     axes.set_xlim(left=0)
     axes.set_ylim(bottom=0)
-    return figure
 
 
 def draw_queues(pyplot: Pyplot, folder: Folder) -> Figure:
-    """The longest queues at stop lines over time, of 25 lanes at most; Fault where there were none, or queues.csv
-    cannot be read."""
+    """The longest queues at stop lines over time, of 25 lanes at most; Fault where there were none."""
     lanes, count = series.longest_queues(folder, MOST_LANES)
     if not lanes:
         raise Fault(f"{folder.path}: no queues in this run")
-    times = sorted({time for _, queue in lanes for time in queue})
-    times = list(range(times[0], times[-1] + 1, folder.every))
+    known = {time for _, queue in lanes for time in queue}
+    times = range(min(known), max(known) + 1, folder.every)
     figure, axes = pyplot.subplots(figsize=(10, 1 + 0.26 * max(4, len(lanes))))
-    image = axes.imshow(
-        [[queue.get(time, 0) for time in times] for _, queue in lanes],
-        aspect="auto",
-        cmap="magma_r",
-        interpolation="nearest",
-        extent=(times[0] / 60, (times[-1] + folder.every) / 60, len(lanes) - 0.5, -0.5),
-    )
-    room = {
-        folder.mapping.lane_name(link, lane): folder.mapping.links[link].metres for link, lane in folder.mapping.lanes()
-    }
+    grid = [[queue.get(time, 0) for time in times] for _, queue in lanes]
+    extent = (times[0] / 60, (times[-1] + folder.every) / 60, len(lanes) - 0.5, -0.5)
+    image = axes.imshow(grid, aspect="auto", cmap="magma_r", interpolation="nearest", extent=extent)
+    mapping = folder.mapping
+    room = {mapping.lane_name(link, lane): mapping.links[link].metres for link, lane in mapping.lanes()}
     axes.set_yticks(range(len(lanes)), [f"{name}, {room[name]:.0f} m" for name, _ in lanes])
     axes.grid(False)
-    axes.set(
-        xlabel="time (min)",
-        ylabel="lane and its length",
-        title=f"Queues at the stop lines: the {len(lanes)} longest of {count} lanes",
-    )
+    title = f"Queues at the stop lines: the {len(lanes)} longest of {count} lanes"
+    axes.set(xlabel="time (min)", ylabel="lane and its length", title=title)
     figure.colorbar(image, ax=axes, label="queue (m)")
     return figure
 
 
 def draw_arrivals(pyplot: Pyplot, folder: Folder, tripinfo: str | None) -> Figure:
-    """Wished departures and arrivals over time, and below them a difference: the arrivals less SUMO's up to the run's
-    end, where a tripinfo (its path) is given, else the departures less the arrivals. Fault where trips.csv or the
-    tripinfo cannot be read."""
+    """Wished departures and arrivals over time, and below them the departures less the arrivals; where a tripinfo (its
+    path) is given, also SUMO's arrivals up to the run's end, and below the arrivals less these."""
     departs, arrivals = series.arrival_curves(folder)
     figure, (axes, below) = pyplot.subplots(2, figsize=(8, 6.5), sharex=True, height_ratios=(3, 1))
     curves: list[tuple[Sequence[float], str, str, str]]
@@ -177,16 +168,14 @@ def draw_arrivals(pyplot: Pyplot, folder: Folder, tripinfo: str | None) -> Figur
         end = folder.made.get("until", inf)
         sumo = sorted(arrival for _, arrival in read_tripinfo(tripinfo).values() if arrival <= end)
         curves.append((sumo, "arrivals in SUMO", "#d06000", ":"))
-        times, values = series.difference(arrivals, sumo)
+        times, values = series.curve_difference(arrivals, sumo)
         below.set(ylabel="here less SUMO")
     else:
-        times, values = series.difference(departs, arrivals)
+        times, values = series.curve_difference(departs, arrivals)
         below.set(ylabel="on their way or\nwaiting to depart")
     for moments, label, colour, style in curves:
-        minutes = [moment / 60 for moment in moments]
-        axes.step(
-            minutes, range(1, len(minutes) + 1), where="post", label=label, color=colour, linestyle=style, linewidth=1.8
-        )
+        minutes, counts = [moment / 60 for moment in moments], range(1, len(moments) + 1)
+        axes.step(minutes, counts, where="post", label=label, color=colour, linestyle=style, linewidth=1.8)
     below.step([time / 60 for time in times], values, where="post", color="#225588", linewidth=1.4)
     below.axhline(0, color="black", linewidth=0.8)
     title = f"{len(arrivals):,} of {len(folder.trips()):,} vehicles arrived"

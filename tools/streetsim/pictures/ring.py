@@ -30,12 +30,12 @@ class Point:
         return self.flow * 3600
 
 
-def measure(program: str | None, vehicles: int, limit: int = 5, dawdle: int = 0, seed: int = 1) -> Point:
+def measure_ring(program: str | None, vehicles: int, limit: int = 5, dawdle: int = 0) -> Point:
     """A point of the diagram, for which the program runs: a ring of 1,000 cells with so many vehicles (CELLS at most,
     as all have to enter), over ten rows of 300 steps; program: its path, None: as Client finds it; limit: cells a step;
     dawdle: of 1,000. Fault where it cannot be started."""
     with Client(program) as sim:
-        sim.load(nodes=[[0, 1, 2]], links=[[0, 0, 0, 1, CELLS, limit]], turns=[[0, 0, 0, 0]], dawdle=dawdle, seed=seed)
+        sim.load(nodes=[[0, 1, 2]], links=[[0, 0, 0, 1, CELLS, limit]], turns=[[0, 0, 0, 0]], dawdle=dawdle, seed=1)
         sim.signal(0, [[600, []]])
         for _ in range(vehicles):
             sim.enter([0] * LAPS)
@@ -48,7 +48,5 @@ def measure(program: str | None, vehicles: int, limit: int = 5, dawdle: int = 0,
         meter = sim.meter(0, 0, CELLS // 2, PERIOD)
         sim.advance(PERIOD * ROWS)
         rows = sim.read(meter).rows
-    passes = sum(row.passes for row in rows)
-    return Point(
-        vehicles / CELLS, passes / sum(row.steps for row in rows), sum(row.speeds for row in rows) / max(1, passes)
-    )
+    passes, steps, speeds = (sum(getattr(row, name) for row in rows) for name in ("passes", "steps", "speeds"))
+    return Point(vehicles / CELLS, passes / steps, speeds / max(1, passes))

@@ -1,9 +1,8 @@
 """Draws queues before road works, over time and place."""
-
 from streetsim.model.folder import Folder
 from streetsim.model.names import Names
 from streetsim.pictures.drawing import Axes, Figure, Lines, Pyplot
-from streetsim.results.works import Place, places_of
+from streetsim.results.works import WorksPlace, works_places_of
 
 MOST = 6  # places in one picture
 BIN = 22.5  # metres of a field of the picture
@@ -12,7 +11,7 @@ BIN = 22.5  # metres of a field of the picture
 def draw_works(pyplot: Pyplot, folder: Folder) -> Figure:
     """A panel for each of the first six places of works: how far before them vehicles stand, and how far the queue
     reaches, over time. Fault where the run had no works, ended before them, or has no polls."""
-    places = places_of(folder)[:MOST]
+    places = works_places_of(folder)[:MOST]
     figure, panels = pyplot.subplots(len(places), figsize=(10, 1 + 2.6 * len(places)), squeeze=False)
     for place, (axes,) in zip(places, panels, strict=True):
         image = draw_place(axes, folder, place)
@@ -22,7 +21,7 @@ def draw_works(pyplot: Pyplot, folder: Folder) -> Figure:
     return figure
 
 
-def draw_place(axes: Axes, folder: Folder, place: Place) -> Lines:
+def draw_place(axes: Axes, folder: Folder, place: WorksPlace) -> Lines:
     """Draws how many vehicles stand how many metres before one place of works, over time in minutes, with the queue's
     end and the begins of links; gives the image, for a bar of colours."""
     every, room, names = folder.every, place.room, Names(folder.mapping)
@@ -34,7 +33,7 @@ def draw_place(axes: Axes, folder: Folder, place: Place) -> Lines:
             grid[row][column] += 1
     extent = (place.begin / 60, (place.begin + columns * every) / 60, 0, rows * BIN)
     image = axes.imshow(grid, origin="lower", aspect="auto", cmap="YlOrRd", interpolation="nearest", extent=extent)
-    times = sorted(range(place.begin + every, place.end + 1, every))
+    times = range(place.begin + every, place.end + 1, every)
     lengths = [place.lengths.get(time, 0.0) for time in times]
     axes.step([time / 60 for time in times], lengths, where="pre", color="black", linewidth=0.8, label="queue")
     for piece in place.way[:-1]:

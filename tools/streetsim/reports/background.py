@@ -3,8 +3,9 @@ from collections.abc import Sequence
 from html import escape
 
 from streetsim.base.limits import GAP_METRES
+from streetsim.base.words import time_of_day
 from streetsim.model.service import STOP_LOSS
-from streetsim.reports.markup import bullets, clock, facts
+from streetsim.reports.markup import bullets, facts
 from streetsim.results.reading import Runs
 
 WEIGHTS = (
@@ -28,40 +29,29 @@ ASSUMPTIONS = (
 
 
 def what_was_run(all_runs: Sequence[Runs]) -> str:
-    """A table, as HTML, of what was run for each plan: network, demand, time, seeds, SHA-256 of the program."""
+    """A table, as HTML, of each plan's run: its files, network, demand, time, seeds, SHA-256 of the program."""
     rows: list[tuple[str, str]] = []
     for runs in all_runs:
-        folder, made = runs.first, runs.first.made
-        mapping = folder.mapping
+        mapping, made = runs.first.mapping, runs.first.made
         sources = mapping.sources or {}
-        files = ", ".join(
-            escape(path)
-            for path in (sources.get("net"), *sources.get("routes", ()), *sources.get("additional", ()))
-            if path
-        )
+        files = [sources["net"], *sources.get("routes", ()), *sources.get("additional", ())] if sources else []
+        places = f"{len(mapping.links_of):,} edges, {len(mapping.nodes):,} junctions"
+        times = f"{time_of_day(made.get('start', 0))} to {time_of_day(made.get('until', 0))}"
         seeds = ", ".join(map(str, runs.folders))
         rows += [
             (f"<b>{escape(runs.name)}</b>", escape(made.get("run", ""))),
-            ("files of the import", files or "not told by the map"),
-            (
-                "network",
-                f"{len(mapping.links_of):,} edges, {len(mapping.nodes):,} junctions, "
-                f"{len(mapping.signals):,} with signals",
-            ),
+            ("files of the import", escape(", ".join(files)) or "not told by the map"),
+            ("network", f"{places}, {len(mapping.signals):,} with signals"),
             ("demand", f"{made.get('vehicles', len(mapping.cars)):,} vehicles"),
-            (
-                "time",
-                f"{clock(made.get('start', 0))} to {clock(made.get('until', 0))}, seeds {seeds}, "
-                f"dawdle {folder.dawdle}",
-            ),
-            ("program", f'<span class="sum">SHA-256 {escape(str(made.get("program")))}</span>'),
+            ("time", f"{times}, seeds {seeds}, dawdle {runs.first.dawdle}"),
+            ("program", f'<span class="sum">SHA-256 {escape(made.get("program") or "not told")}</span>'),
         ]
     return facts(rows)
 
 
 def warnings(all_runs: Sequence[Runs]) -> str:
-    """What the imports of all plans had to say, notes too, by kind, as HTML, first what changes results most; at most
-    eight lines of each kind, equal ones once."""
+    """What the imports of all plans had to say, as HTML: what is left out, what is otherwise than in SUMO, what has no
+    effect, and notes; at most eight lines of each, equal ones once. A sentence where they said nothing."""
     lines = list(dict.fromkeys(line for runs in all_runs for line in runs.first.mapping.warnings))
     marks = tuple(mark for mark, _ in WEIGHTS if mark)
     parts = []
@@ -69,6 +59,7 @@ def warnings(all_runs: Sequence[Runs]) -> str:
         those = [line for line in lines if (line.startswith(mark) if mark else not line.startswith(marks))]
         if those:
             told = [line.removeprefix(mark).strip() for line in those[:MOST_LINES]]
-            left = len(those) - len(told)
-            parts.append(f"<h3>{title}</h3>" + bullets([*told, *([f"{left:,} more: warnings.csv"] if left else [])]))
+            if left := len(those) - len(told):
+                told.append(f"{left:,} more: warnings.csv")
+            parts.append(f"<h3>{title}</h3>{bullets(told)}")
     return "".join(parts) or "<p>The import had nothing to warn of.</p>"

@@ -1,15 +1,15 @@
-"""Which junctions a report tells first: those that change, or that are worse than D."""
+"""Which junctions, approaches and movements a report tells first: those that change, or that are worse than D."""
 from dataclasses import dataclass
 
-from streetsim.reports.comparing import Difference, by_seed, paired
+from streetsim.reports.comparing import Difference, difference_of, values_by_seed
 from streetsim.results.reading import Row, Rows
 
 BAD = "EF"  # worse than D
 LEAST = 5.0  # seconds of control delay, from which on a sure change is noticed
 
 
-@dataclass(slots=True)
-class Told:
+@dataclass(frozen=True, slots=True)
+class RowChange:
     """A junction, approach or movement: its row with the last plan, and where there is another plan the row before it
     and the change of its control delay; key: as in KEYS of reading."""
 
@@ -24,9 +24,9 @@ class Told:
         return self.row.letter() in BAD
 
     @property
-    def changes(self) -> bool:
-        """Whether its delay changes for sure by 5 s or more, or for sure and with another level of service; false with
-        one plan."""
+    def changes_noticeably(self) -> bool:
+        """Whether the sign of its delay's change is sure, and the change is 5 s or more or comes with another level of
+        service; false with one plan."""
         if self.change is None or self.before is None:
             return False
         other = self.before.letter() != self.row.letter()
@@ -40,13 +40,13 @@ class Told:
         return seconds * self.row.values["vehicles_per_hour"]
 
 
-def told_of(after: Rows, before: Rows | None) -> list[Told]:
-    """What is told of each row of the last plan (after), with the row of the same key of the plan before (before; none:
-    there is one plan): first those that change or are worse than D, then the others; in each part the greatest weight
-    first."""
+def ranked_changes(after: Rows, before: Rows | None) -> list[RowChange]:
+    """What is told of each row of the last plan (after), with the row of the same key of the plan before (None: there
+    is none): first those that change noticeably or are worse than D; in each part the greatest weight first."""
     found = []
     for key, row in after.items():
         first = before.get(key) if before is not None else None
-        change = paired(by_seed(first, "control_delay_s"), by_seed(row, "control_delay_s")) if first else None
-        found.append(Told(key, row, first, change))
-    return sorted(found, key=lambda one: (not (one.changes or one.is_bad), -one.weight, one.key))
+        delays = [values_by_seed(one, "control_delay_s") for one in (first, row) if one]
+        change = difference_of(*delays) if first else None
+        found.append(RowChange(key, row, first, change))
+    return sorted(found, key=lambda one: (not (one.changes_noticeably or one.is_bad), -one.weight, one.key))

@@ -1,16 +1,19 @@
-"""The first page of a report: what was asked, a map, the verdict, what it costs whom, what is doubted."""
-from collections.abc import Sequence
+"""The first page of a report: what was asked, a map, the verdict, what it costs whom, what is doubted. Fault where a
+table of the runs cannot be read."""
+from collections.abc import Mapping, Sequence
 from html import escape
+from statistics import fmean
 
 from streetsim.base.report import HEAVY
+from streetsim.base.words import time_of_day
 from streetsim.model.service import COLOURS
 from streetsim.reports import works
-from streetsim.reports.choosing import Told, told_of
-from streetsim.reports.comparing import mean_delay, paired
+from streetsim.reports.choosing import RowChange, ranked_changes
+from streetsim.reports.comparing import difference_of, mean_delays
 from streetsim.reports.costs import NOTICED, Costs, Means, costs_of, means_by_class
 from streetsim.reports.drawing import letter_mark, map_picture
-from streetsim.reports.markup import bullets, change_told, clock, mean_told, table
-from streetsim.reports.saying import change_in_words, number, several
+from streetsim.reports.markup import bullets, change_told, mean_told, table
+from streetsim.reports.saying import change_in_words, count_in_words, counted_noun
 from streetsim.results.reading import Runs
 
 Interval = tuple[int, int]  # begin and end, seconds
@@ -21,14 +24,14 @@ CALLED = {BUS: "buses", "passenger": "cars"}  # others have SUMO's name
 LEAST_HOURLY = 20  # vehicles an hour of a movement that is called the worst
 
 
-def junctions_of(plans: Sequence[Runs], shown: Interval, table_: str = "junctions") -> list[Told]:
+def ranked_rows(plans: Sequence[Runs], shown: Interval, table_: str = "junctions") -> list[RowChange]:
     """What is told of each row of one table in the interval that is shown: of the last plan, beside the first where
-    there are two; first those that change or are worse than D. table_: junctions, approaches or movements."""
+    there are two; in the order of ranked_changes. table_: junctions, approaches or movements."""
     rows = [runs.rows.get((table_, *shown), {}) for runs in plans]
-    return told_of(rows[-1], rows[0] if len(plans) == 2 else None)
+    return ranked_changes(rows[-1], rows[0] if len(plans) == 2 else None)
 
 
-def asked(question: str, plans: Sequence[Runs], shown: Interval) -> str:
+def question_html(question: str, plans: Sequence[Runs], shown: Interval) -> str:
     """What was asked (a usual question where it is empty), and of which runs, as HTML."""
     last, made = plans[-1], plans[-1].first.made
     names = [runs.name for runs in plans]
@@ -36,17 +39,16 @@ def asked(question: str, plans: Sequence[Runs], shown: Interval) -> str:
     usual = f"What changes if '{names[1]}' takes the place of '{names[0]}'?" if two else f"How does '{names[0]}' flow?"
     vehicles = made.get("vehicles", len(last.first.mapping.cars))
     of = (
-        f"{vehicles:,} vehicles from {clock(made.get('start', 0))} to {clock(made.get('until', 0))}; "
-        f"{several(len(last.rows['junctions', *shown]), 'junction')}, "
-        f"shown from {clock(shown[0])} to {clock(shown[1])}; "
-        f"{several(len(last.folders), 'run')} of {'each' if two else 'the'} plan, simulated by streetsim."
+        f"{vehicles:,} vehicles from {time_of_day(made.get('start', 0))} to {time_of_day(made.get('until', 0))}; "
+        f"{counted_noun(len(last.rows['junctions', *shown]), 'junction')}, "
+        f"shown from {time_of_day(shown[0])} to {time_of_day(shown[1])}; "
+        f"{counted_noun(len(last.folders), 'run')} of {'each' if two else 'the'} plan, simulated by streetsim."
     )
     return f'<p class="asked">What was asked: <b>{escape(question or usual)}</b></p><p class="small">{escape(of)}</p>'
 
 
 def verdict(plans: Sequence[Runs], shown: Interval) -> str:
-    """The verdict in a few sentences, as HTML, with a mark where runs are not to be trusted. Fault where trips.csv
-    cannot be read."""
+    """The verdict in a few sentences, as HTML, with a mark where runs are not to be trusted."""
     said = change_verdict(plans, shown) if len(plans) == 2 else state_verdict(plans[0], shown)
     untrusted = [runs.name for runs in plans if doubts_of(runs)]
     told = f"Not to be trusted: {' and '.join(untrusted)} (why: below)."
@@ -60,29 +62,28 @@ def doubts_of(runs: Runs) -> list[str]:
 
 
 def change_verdict(plans: Sequence[Runs], shown: Interval) -> str:
-    """What the second of two plans changes for trips and delays, as plain text. Fault where trips.csv cannot be
-    read."""
-    trip = paired(*(runs.mean_trips() for runs in plans))
-    delay = paired(*(mean_delay(runs.rows["junctions", *shown].values()) for runs in plans))
+    """What the second of two plans changes for trips and delays, as plain text."""
+    trip = difference_of(*(runs.mean_trips() for runs in plans))
+    delay = difference_of(*(mean_delays(runs.rows["junctions", *shown].values()) for runs in plans))
     first, name = "Nothing can be said of trips, as nobody arrived.", plans[1].name
     if trip:
         means = f"{trip.after:.1f} s on average, and {trip.before:.1f} s with '{plans[0].name}'"
         first = f"With '{name}' a trip takes {means}: {change_in_words(trip)}."
     if not delay:
         return f"{first} No junction has vehicles with both plans."
-    rows = junctions_of(plans, shown)
+    rows = ranked_rows(plans, shown)
     sure = [one.change.change for one in rows if one.change and one.change.is_sure()]
     less, more = (sum((change > 0) == up for change in sure) for up in (False, True))
-    counts = f"at {number(less)} of {several(len(rows), 'junction')} it is less for sure, at {number(more)} more"
+    fewer, all_, greater = count_in_words(less), counted_noun(len(rows), "junction"), count_in_words(more)
+    counts = f"at {fewer} of {all_} it is less for sure, at {greater} more"
     means = f"{delay.after:.1f} s, and {delay.before:.1f} s before"
     return f"{first} A vehicle's mean delay at a junction is {means}: {change_in_words(delay)}; {counts}."
 
 
 def state_verdict(runs: Runs, shown: Interval) -> str:
-    """How long trips and delays are with one plan, and how many junctions are worse than D, as plain text. Fault
-    where trips.csv cannot be read."""
-    delays = mean_delay(runs.rows["junctions", *shown].values())
-    rows = junctions_of([runs], shown)
+    """How long trips and delays are with one plan, how many junctions are worse than D and which most, plain text."""
+    delays = mean_delays(runs.rows["junctions", *shown].values())
+    rows = ranked_rows([runs], shown)
     bad = [one for one in rows if one.is_bad]
     trip = f"A trip takes {mean_told(runs.mean_trips().values())} s on average"
     first = f"{trip}, and a vehicle's delay at a junction is {mean_told(delays.values())} s."
@@ -90,12 +91,13 @@ def state_verdict(runs: Runs, shown: Interval) -> str:
         return f"{first} All {len(rows):,} junctions have level of service D or better."
     worst = runs.names.junction_told(bad[0].key[0])
     have = f"{'has' if len(bad) == 1 else 'have'} a level of service worse than D, most of all {worst}"
-    return f"{first} {number(len(bad)).capitalize()} of {several(len(rows), 'junction')} {have}."
+    return f"{first} {count_in_words(len(bad)).capitalize()} of {counted_noun(len(rows), 'junction')} {have}."
 
 
-def map_section(runs: Runs, shown: Interval, rows: Sequence[Told] = (), detailed: int = 0) -> str:
-    """The map of a plan in an interval by level of service, with its legend, as HTML. rows: of junctions, which are
-    marked where they change; the first `detailed` of them are links to their sections. Fault as of seen_in of works."""
+def service_and_works_map(runs: Runs, shown: Interval, rows: Sequence[RowChange] = (), detailed: int = 0) -> str:
+    """The map of a plan in an interval by level of service, and its road works, with a legend, as HTML. rows: of
+    junctions, which are marked where they change noticeably; the first `detailed` of them are links to their
+    sections."""
     names, told = runs.names, runs.names.junction_told
     approaches = {
         row.key[1]: (row.letter(), f"{row.key[1]} {names.approach(row.key[1])}: {row.delay:.1f} s, {row.letter()}")
@@ -106,9 +108,9 @@ def map_section(runs: Runs, shown: Interval, rows: Sequence[Told] = (), detailed
         row.key[0]: (row.letter(), f"{told(row.key[0])}: {row.delay:.1f} s, {row.letter()}", row.key[0] in linked)
         for row in runs.rows["junctions", *shown].values()
     }
-    signs = {one.key[0]: one.change.change for one in rows if one.changes and one.change}
+    signs = {one.key[0]: one.change.change for one in rows if one.changes_noticeably and one.change}
     legend = " ".join(letter_mark(letter) for letter in COLOURS)
-    closed = works.stretches(runs)
+    closed = works.closed_shapes(runs)
     picture = map_picture(runs.first.mapping, approaches, junctions, signs, closed)
     more = "; &#9650; waits more and &#9660; less than before, for sure" if signs else ""
     more += "; black: road works" if closed else ""
@@ -118,9 +120,8 @@ def map_section(runs: Runs, shown: Interval, rows: Sequence[Told] = (), detailed
 
 def costs(plans: Sequence[Runs], shown: Interval) -> str:
     """What a plan costs whom, as HTML: the worst movements, trips by class, and with two plans how trips of the same
-    vehicles change, in all and by flow. Fault where trips.csv cannot be read."""
-    movements = junctions_of(plans, shown, "movements")
-    texts = [*worst_movements(movements, plans[-1])]
+    vehicles change, in all and by flow."""
+    texts = worst_movements(ranked_rows(plans, shown, "movements"), plans[-1])
     if len(plans) < 2:
         return bullets(texts) + classes_table(plans)
     found = costs_of(*plans)
@@ -129,7 +130,7 @@ def costs(plans: Sequence[Runs], shown: Interval) -> str:
 
 def classes_table(plans: Sequence[Runs]) -> str:
     """A table of the trips and delays of buses, cars and other classes, with two plans before and after, as HTML; empty
-    where all that arrived are of one class. Fault where trips.csv cannot be read."""
+    where all that arrived are of one class."""
     found = [means_by_class(runs) for runs in plans]
     classes = sorted(found[0].keys() | found[-1].keys(), key=lambda vclass: (vclass != BUS, vclass))
     if len(classes) < 2:
@@ -141,31 +142,32 @@ def classes_table(plans: Sequence[Runs]) -> str:
     return table(["trips by class", "trips", *heads], rows)
 
 
-def class_row(sides: Sequence[Means]) -> list[str]:
+def class_row(sides: Sequence[Mapping[int, Means]]) -> list[str]:
     """The cells, as HTML, of a class in a table of trips: how many arrived in all runs of the last plan, then the mean
     trip and the mean delay in seconds; with two plans before, after and the change of each, '-' without a common seed.
-    sides: by plan."""
-    cells = [f"{sum(count for count, *_ in sides[-1].values()):,}"]
-    for at in (1, 2):
-        values = [{seed: own[at] for seed, own in side.items()} for side in sides]
+    sides: by plan the means of each seed."""
+    cells = [f"{sum(own.arrived for own in sides[-1].values()):,}"]
+    for name in ("trip", "delay"):
+        values = [{seed: getattr(own, name) for seed, own in side.items()} for side in sides]
         if len(sides) == 1:
             cells.append(mean_told(values[0].values()))
             continue
-        one = paired(*values)
+        one = difference_of(*values)
         cells += [f"{one.before:.1f}", f"{one.after:.1f}", change_told(one)] if one else ["-", "-", "-"]
     return cells
 
 
 def trips_told(found: Costs) -> list[str]:
-    """Sentences, plain text, on how many trips become slower or quicker, and how many arrive with one plan alone."""
-    if not found.changes:
+    """Sentences, plain text, on how many trips become slower or quicker, and how many arrive with one plan alone; one
+    that says so where no trip arrived with both."""
+    if not (count := len(found.changes)):
         return ["No trip arrived with both plans."]
-    slower, quicker = found.share(True), found.share(False)
+    quicker, slower = (fmean(sign * change > NOTICED for change in found.changes) for sign in (-1, 1))
     told = (
-        f"Of {len(found.changes):,} trips of the same vehicles {100 * quicker:.0f} % become quicker by more than "
-        f"{NOTICED} s, {100 * slower:.0f} % slower by more than {NOTICED} s"
+        f"Of {count:,} trips of the same vehicles {100 * quicker:.0f} % become quicker by more than {NOTICED} s, "
+        f"{100 * slower:.0f} % slower by more than {NOTICED} s"
     )
-    tenth = found.tenth()
+    tenth = found.changes[count * 9 // 10]
     told += f"; one in ten takes {tenth} s longer or more." if tenth > 0 else "."
     more = f"{found.lost:,} trips arrived before and do not now, {found.won:,} the other way round."
     return [told, *([more] if found.lost or found.won else [])]
@@ -179,23 +181,22 @@ def groups_table(found: Costs) -> str:
     told = ranked if len(ranked) <= MOST_GROUPS else [*ranked[:half], *ranked[-half:]]
     if not told:
         return ""
-    rows = []
-    for group in told:
-        count, one = found.groups[group]
-        rows.append([escape(group), f"{count:,}", f"{one.before:.1f}", f"{one.after:.1f}", change_told(one)])
+    rows = [
+        [escape(group), f"{count:,}", f"{one.before:.1f}", f"{one.after:.1f}", change_told(one)]
+        for group, (count, one) in ((group, found.groups[group]) for group in told)
+    ]
     left = f" (those that lose and that win most, of {len(ranked):,})" if len(told) < len(ranked) else ""
     return table([f"trips by flow{left}", "trips", "before, s", "after, s", "change, s"], rows)
 
 
-def worst_movements(movements: Sequence[Told], runs: Runs) -> list[str]:
+def worst_movements(movements: Sequence[RowChange], runs: Runs) -> list[str]:
     """Sentences, plain text, on the movement that waits longest, and with two plans on the one that loses most for
-    sure. Movements of fewer than 20 vehicles an hour are passed over; empty where no other is left. runs: of the last
-    plan, for names."""
+    sure, of those with 20 vehicles an hour or more; empty where there is none. runs: of the last plan, for names."""
     names, busy = runs.names, [one for one in movements if one.row.values["vehicles_per_hour"] >= LEAST_HOURLY]
     if not busy:
         return []
 
-    def called(one: Told) -> str:
+    def called(one: RowChange) -> str:
         """What a movement is called, with its edges and junction."""
         junction, edge, to = one.key
         return f"{names.movement(edge, to)} ({edge} to {to}) at {names.junction_told(junction)}"
@@ -204,11 +205,10 @@ def worst_movements(movements: Sequence[Told], runs: Runs) -> list[str]:
     level = f"level of service {worst.row.letter()}"
     hourly = f"{worst.row.values['vehicles_per_hour']:.0f} vehicles an hour"
     texts = [f"Longest delay: {called(worst)}, {worst.row.delay:.0f} s, {level}, {hourly}."]
-    losing = [one for one in busy if one.change and one.change.is_sure() and one.change.change > 0]
+    losing = [(one.change, one) for one in busy if one.change and one.change.is_sure() and one.change.change > 0]
     if losing:
-        most = max(losing, key=lambda one: one.change.change if one.change else 0.0)
-        assert most.change
-        told = f"{most.change.after:.0f} s instead of {most.change.before:.0f} s ({most.change.told()} s)"
+        change, most = max(losing, key=lambda pair: pair[0].change)
+        told = f"{change.after:.0f} s instead of {change.before:.0f} s ({change.told()} s)"
         texts.append(f"Loses most: {called(most)}, {told}.")
     elif any(one.change and one.change.half is not None for one in busy):
         texts.append("No movement loses for sure.")
@@ -230,7 +230,7 @@ def doubted(plans: Sequence[Runs], more: Sequence[str] = ()) -> str:
     heavy = list(dict.fromkeys(row[1] for runs in plans for row in runs.first.mapping.told if row[0] == HEAVY))
     if heavy:
         first = heavy[0] if len(heavy[0]) < LONG else heavy[0][: LONG - 3] + ".."
-        told = f"The import did {several(len(heavy), 'thing')} otherwise than SUMO that may change results"
+        told = f"The import did {counted_noun(len(heavy), 'thing')} otherwise than SUMO that may change results"
         texts.append(f"{told} (appendix); the first: {first}.")
     texts.append("These are numbers of a simulation: the street may do otherwise, and nobody here changes the way.")
     return bullets(texts)

@@ -1,10 +1,10 @@
-"""Draws the pictures of a page as SVG: the map by level of service, and queues beside the room that they have."""
+"""Draws the pictures of a page as SVG: maps by level of service or by differences, and queues beside their room."""
 from collections.abc import Callable, Mapping, Sequence
 from html import escape
 from math import hypot
 
 from streetsim.model.mapping import Map, Shape
-from streetsim.model.service import COLOURS, LIGHT, fills
+from streetsim.model.service import COLOURS, WHITE_LETTERS, fills
 
 WIDE, MOST_HIGH, SIDE = 900, 640, 4  # pixels
 
@@ -15,29 +15,26 @@ def letter_mark(letter: str) -> str:
 
 
 def map_picture(
-    mapping: Map,
-    approaches: Mapping[str, tuple[str, str]],
-    junctions: Mapping[str, tuple[str, str, bool]],
-    signs: Mapping[str, float] | None = None,
-    works: Sequence[Shape] = (),
+    mapping: Map, approaches: Mapping[str, tuple[str, str]], junctions: Mapping[str, tuple[str, str, bool]],
+    signs: Mapping[str, float], works: Sequence[Shape],
 ) -> str:
     """The streets of a map, as SVG; approaches by the colour of their level of service, junctions as marks with theirs.
 
     approaches: {edge: (letter, text)}; junctions: {name: (letter, text, whether the page tells it in detail)}; signs:
     {junction: change of its delay in seconds}, of those that change; works: the shapes of what is closed.
     """
-    at, tall = placing(mapping)
+    at, tall = placing_and_height(mapping)
     parts = [f'<svg class="map" viewBox="0 0 {WIDE} {tall:.0f}" role="img" aria-label="Map by delay">']
     for link in mapping.links:
         letter, text = approaches.get(link.edge, ("", link.edge))
         colour, width = (COLOURS[letter], 4 + "ABCDEF".index(letter)) if letter else ("#bbbbbb", 2)
-        way = " ".join(at(point, aside(link.shape)) for point in link.shape)
+        way = " ".join(at(point, shift_to_right(link.shape)) for point in link.shape)
         if letter:
             parts.append(f'<polyline points="{way}" class="edge-line" stroke="#666" stroke-width="{width + 2}"/>')
         line = f'<polyline points="{way}" class="edge-line" stroke="{colour}" stroke-width="{width}">'
         parts.append(f"{line}<title>{escape(text)}</title></polyline>")
     for shape in works:
-        way = " ".join(at(point, aside(shape)) for point in shape)
+        way = " ".join(at(point, shift_to_right(shape)) for point in shape)
         parts.append(f'<polyline points="{way}" class="works"><title>road works</title></polyline>')
     for name, x, y, _ in mapping.nodes:
         if name in junctions:
@@ -45,12 +42,12 @@ def map_picture(
             across, down = at((x, y)).split(",")
             mark = junction_mark(letter, text, across, down)
             parts.append(f'<a href="#{anchor(name)}">{mark}</a>' if linked else mark)
-            if change := (signs or {}).get(name):
+            if change := signs.get(name):
                 parts.append(change_mark(change, float(across), float(down)))
     return "".join([*parts, "</svg>"])
 
 
-def placing(mapping: Map) -> tuple[Callable[..., str], float]:
+def placing_and_height(mapping: Map) -> tuple[Callable[..., str], float]:
     """(a function that gives where a point (x, y) of a map lies in a picture, as 'across,down' in pixels, moved by a
     shift of pixels; how high the picture is, in pixels)."""
     points = [point for link in mapping.links for point in link.shape]
@@ -64,14 +61,14 @@ def placing(mapping: Map) -> tuple[Callable[..., str], float]:
     return at, (high - low) * scale + 60
 
 
-def lines_picture(mapping: Map, values: Mapping[str, float]) -> str:
+def difference_map(mapping: Map, values: Mapping[str, float]) -> str:
     """The streets, as SVG; edges with a value red above 0 and blue below, but dark grey within 0.5 of it, wider where
     it is farther from 0; others thin and light grey. values: by edge, shown in whole numbers without a unit."""
-    at, tall = placing(mapping)
+    at, tall = placing_and_height(mapping)
     most = max([1.0, *(abs(value) for value in values.values())])
     parts = [f'<svg class="map" viewBox="0 0 {WIDE} {tall:.0f}" role="img" aria-label="Map of differences">']
     for link in mapping.links:
-        way = " ".join(at(point, aside(link.shape)) for point in link.shape)
+        way = " ".join(at(point, shift_to_right(link.shape)) for point in link.shape)
         value = values.get(link.edge)
         colour = "#bbb" if value is None else "#777" if abs(value) < 0.5 else "#b2182b" if value > 0 else "#2166ac"
         width = 1.5 if value is None else 2 + 6 * abs(value) / most
@@ -81,9 +78,8 @@ def lines_picture(mapping: Map, values: Mapping[str, float]) -> str:
     return "".join([*parts, "</svg>"])
 
 
-def aside(shape: Shape) -> tuple[float, float]:
-    """(pixels across, pixels down the page) by which a line is moved to its right, so that the directions of a street
-    lie side by side."""
+def shift_to_right(shape: Shape) -> tuple[float, float]:
+    """(pixels across, pixels down) by which a line is moved to its right, so that both directions lie side by side."""
     (x, y), (end_x, end_y) = shape[0], shape[-1]
     size = hypot(end_x - x, end_y - y) or 1.0
     return SIDE * (end_y - y) / size, SIDE * (end_x - x) / size
@@ -92,7 +88,7 @@ def aside(shape: Shape) -> tuple[float, float]:
 def junction_mark(letter: str, text: str, across: str, down: str) -> str:
     """A circle (SVG) with a letter of the level of service, at pixels across and down; text: what it says when pointed
     at."""
-    colour = "#fff" if letter in LIGHT else "#000"
+    colour = "#fff" if letter in WHITE_LETTERS else "#000"
     circle = f'<circle cx="{across}" cy="{down}" r="11" fill="{COLOURS[letter]}" stroke="#000"/>'
     write = f'<text x="{across}" y="{down}" dy="4" text-anchor="middle" fill="{colour}" class="letter">{letter}</text>'
     return f"<g><title>{escape(text)}</title>{circle}{write}</g>"
@@ -114,8 +110,8 @@ def anchor(name: str) -> str:
 
 def queue_picture(rows: Sequence[tuple[str, float, float, float, float]]) -> str:
     """A bar (SVG) for each approach: the room of the edge, the 95 % queue in it, the 50 % queue, and a line at the
-    greatest. rows, one at least: (name, 50 %, 95 %, greatest, room), in metres."""
-    most = max(max(greatest, room) for _, _, _, greatest, room in rows) or 1.0
+    greatest. rows: (name, 50 %, 95 %, greatest, room), in metres."""
+    most = max((max(greatest, room) for _, _, _, greatest, room in rows), default=0.0) or 1.0
     scale, parts = 480 / most, []
     for place, (name, half, usual, greatest, room) in enumerate(rows):
         y = 8 + 26 * place

@@ -1,4 +1,4 @@
-"""A page as a list of its tags and texts, with their places, so that two pages can be compared."""
+"""A page as a list of its tags and texts, and where each stands, so that two pages can be compared."""
 import re
 from collections.abc import Iterator, Sequence
 from dataclasses import dataclass
@@ -15,24 +15,24 @@ class Element:
     """A tag with its attributes, or a text of the page, as one text."""
 
     text: str
-    place: str  # section, row and column where it stands
+    where: str  # section, row and column where it stands
 
 
 @dataclass(slots=True, frozen=True)
 class Mismatch:
-    """What a page says at a place, and what was found there anew."""
+    """What a page says somewhere, and what was found there anew."""
 
-    place: str
+    where: str
     said: str
     found: str
 
     def told(self) -> str:
         """The difference in words; long texts cut to what is around it."""
-        said, found = apart(self.said, self.found)
-        return f"{self.place}: said {said!r}, found {found!r}"
+        said, found = around_difference(self.said, self.found)
+        return f"{self.where}: said {said!r}, found {found!r}"
 
 
-def apart(said: str, found: str) -> tuple[str, str]:
+def around_difference(said: str, found: str) -> tuple[str, str]:
     """(said, found): two texts; where one is longer than 60 letters, of both the 60 or so around their first
     difference."""
     if len(said) <= LONG and len(found) <= LONG:
@@ -55,21 +55,20 @@ class Reader(HTMLParser):
         self.column, self.row = -1, ""
 
     @property
-    def place(self) -> str:
+    def where(self) -> str:
         """Where the reader is, in words: headings, row and column; 'the page's head' before any of these."""
         heads = [self.heads["h2"] or self.heads["h1"], self.heads["h3"]]
         column = self.columns[self.column] if 0 <= self.column < len(self.columns) else ""
         return ", ".join(filter(None, [*heads, self.row, column])) or "the page's head"
 
     def handle_starttag(self, tag: str, attributes: list[tuple[str, str | None]]) -> None:
-        """Adds the begin of an element, and notes the heading, table, row or cell that begins with it; attributes:
-        (name, value)."""
-        self.begin("row" if tag == "th" and ("scope", "row") in attributes else tag)
+        """Adds the begin of an element, with its attributes (name, value), and notes what begins with it."""
+        self.note_begin("row" if tag == "th" and ("scope", "row") in attributes else tag)
         told = "".join(f' {name}="{value}"' for name, value in attributes)
-        self.found.append(Element(f"<{tag}{told}>", self.place))
+        self.found.append(Element(f"<{tag}{told}>", self.where))
 
-    def begin(self, tag: str) -> None:
-        """Notes that a heading, a table, a row or a cell begins, by its tag; 'row' is the cell that heads a row."""
+    def note_begin(self, tag: str) -> None:
+        """Notes by its tag that a heading, table, row, cell or other block begins; 'row': the cell that heads a row."""
         if tag in HEADS:
             self.open, self.column, self.row = tag, -1, ""
             for name in HEADS[HEADS.index(tag) :]:
@@ -89,7 +88,7 @@ class Reader(HTMLParser):
 
     def handle_endtag(self, tag: str) -> None:
         """Adds the end of an element, and notes that a heading, cell or table is over."""
-        self.found.append(Element(f"</{tag}>", self.place))
+        self.found.append(Element(f"</{tag}>", self.where))
         if tag in (*HEADS, "td", "th"):
             self.open = ""
         if tag == "table":
@@ -97,7 +96,7 @@ class Reader(HTMLParser):
 
     def handle_data(self, data: str) -> None:
         """Adds a text, without blanks around it; blanks alone are left out. That of a heading, or of the cell that
-        heads a row or column, is the name of the place from now on."""
+        heads a row or column, is where the reader is from now on."""
         if self.open in HEADS:
             self.heads[self.open] += data
         elif self.open == "th" and self.columns:
@@ -105,15 +104,15 @@ class Reader(HTMLParser):
         elif self.open == "td" and self.column == 0:
             self.row += data
         if data.strip():
-            self.found.append(Element(data.strip(), self.place))
+            self.found.append(Element(data.strip(), self.where))
 
     def handle_comment(self, data: str) -> None:
         """Adds a comment."""
-        self.found.append(Element(f"<!--{data}-->", self.place))
+        self.found.append(Element(f"<!--{data}-->", self.where))
 
     def handle_decl(self, decl: str) -> None:
         """Adds a declaration."""
-        self.found.append(Element(f"<!{decl}>", self.place))
+        self.found.append(Element(f"<!{decl}>", self.where))
 
 
 def elements_of(text: str) -> list[Element]:
@@ -132,26 +131,26 @@ def numbers_in(text: str) -> int:
     return len(NUMBER.findall(shown))
 
 
-def differences(said: str, found: str) -> list[Mismatch]:
+def page_mismatches(said: str, found: str) -> list[Mismatch]:
     """The mismatches of two pages (HTML), the one that is checked (said) and the one made anew (found): one at least
     where they differ, none where they are equal to the byte."""
     if said == found:
         return []
     first, second = elements_of(said), elements_of(found)
-    told = list(pairs(first, second))
-    return told or [Mismatch("between the words", *apart(said, found))]
+    told = list(mismatches(first, second))
+    return told or [Mismatch("between the words", *around_difference(said, found))]
 
 
-def pairs(first: Sequence[Element], second: Sequence[Element]) -> Iterator[Mismatch]:
+def mismatches(first: Sequence[Element], second: Sequence[Element]) -> Iterator[Mismatch]:
     """What differs of two lists of elements, of the page that is checked and of the one made anew: one by one where
     they have equally many, else by the parts that were put in, taken out or changed."""
     if len(first) == len(second):
         for one, other in zip(first, second, strict=True):
             if one.text != other.text:
-                yield Mismatch(other.place, one.text, other.text)
+                yield Mismatch(other.where, one.text, other.text)
         return
     said, found = ([one.text for one in side] for side in (first, second))
     for kind, begin, end, start, stop in SequenceMatcher(None, said, found, autojunk=False).get_opcodes():
         if kind != "equal":
-            place = (second[start:stop] or first[begin:end])[0].place
-            yield Mismatch(place, "".join(said[begin:end]), "".join(found[start:stop]))
+            where = (second[start:stop] or first[begin:end])[0].where
+            yield Mismatch(where, "".join(said[begin:end]), "".join(found[start:stop]))

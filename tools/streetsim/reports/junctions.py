@@ -1,11 +1,13 @@
-"""The appendix of junctions: one line for each, and those that matter with their movements and queues."""
+"""The appendix of junctions: a line for each, movements that change, and some with all their movements and queues."""
 from collections.abc import Sequence
 from html import escape
+from operator import itemgetter
 
+from streetsim.base.words import time_of_day
 from streetsim.model.names import Names
-from streetsim.reports.choosing import LEAST, Told
+from streetsim.reports.choosing import LEAST, RowChange
 from streetsim.reports.drawing import anchor, letter_mark, queue_picture
-from streetsim.reports.markup import change_told, clock, table
+from streetsim.reports.markup import change_told, table
 from streetsim.results.reading import Row, Runs
 
 KEY = (
@@ -21,9 +23,9 @@ def title_of(name: str, names: Names) -> str:
     return f"{called} (junction {name})" if called else f"Junction {name}"
 
 
-def lines(rows: Sequence[Told], names: Names, detailed: int) -> str:
-    """A table with one line for each junction, as HTML; the first `detailed` of them are links to their sections. With
-    two plans the cells of before and of change are empty where nothing can be paired."""
+def junction_table(rows: Sequence[RowChange], names: Names, detailed: int) -> str:
+    """A table with one line for each junction, as HTML; the first `detailed` of them are links to their sections. Where
+    one has a row before, it is of two plans, with empty cells where nothing can be paired."""
     two = any(one.before for one in rows)
     made = []
     for place, one in enumerate(rows):
@@ -43,10 +45,10 @@ def lines(rows: Sequence[Told], names: Names, detailed: int) -> str:
     return table(["junction", "vehicles/h", "delay, s", "level of service", "greatest v/c"], made)
 
 
-def movement_changes(rows: Sequence[Told], names: Names) -> str:
-    """A table of the movements with both plans that change, or are worse than D, as HTML, at most 25; a sentence where
-    there are none. rows: movements as junctions_of of council gives them, whose order stays."""
-    those = [one for one in rows if one.change and one.before and (one.changes or one.is_bad)]
+def movement_changes(rows: Sequence[RowChange], names: Names) -> str:
+    """A table of the movements with both plans that change noticeably or are worse than D, as HTML, at most 25; a
+    sentence where there are none. rows: movements as ranked_rows of council gives them, whose order stays."""
+    those = [one for one in rows if one.change and one.before and (one.changes_noticeably or one.is_bad)]
     made = []
     for one in those[:MOST_MOVEMENTS]:
         assert one.change and one.before
@@ -64,34 +66,28 @@ def movement_changes(rows: Sequence[Told], names: Names) -> str:
 
 
 def said_of_changes(seeds: int) -> str:
-    """A note, as HTML, on how differences are paired and what is bold; seeds: how many both plans have."""
-    said = "Differences are of the same seeds"
-    if seeds < 2:
-        said = "One seed alone tells nothing of chance: use --seeds 1-5"
+    """A note, as HTML, on how differences are paired, what is bold and what comes first; seeds: how many both have."""
+    alone = "One seed alone tells nothing of chance: use --seeds 1-5"
+    said = "Differences are of the same seeds" if seeds > 1 else alone
     return (
         f'<p class="small">{said}; those whose sign is sure at 95 % are bold. Control delay, seconds. First those that '
         f"change by {LEAST:.0f} s or in their level of service for sure, or are worse than D.</p>"
     )
 
 
-def detail(runs: Runs, name: str, interval_of: tuple[int, int]) -> str:
+def detail(runs: Runs, name: str, shown: tuple[int, int]) -> str:
     """The section of a junction, as HTML: its movements and the queues of its approaches in an interval (begin, end),
-    in which it must have a row."""
-    junction, called = runs.rows["junctions", *interval_of][name,], runs.names
-    movements = [row for row in runs.rows["movements", *interval_of].values() if row.key[0] == name]
-    approaches = [row for row in runs.rows["approaches", *interval_of].values() if row.key[0] == name]
-    head = [
-        "movement", "from and to edge", "", "vehicles/h", "delay, s", "level of service", "v/c", "stopped, s", "stops",
-        "queues, m",
-    ]
+    in which it must have a row, and by_time."""
+    junction, called = runs.rows["junctions", *shown][name,], runs.names
+    movements = [row for row in runs.rows["movements", *shown].values() if row.key[0] == name]
+    approaches = [row for row in runs.rows["approaches", *shown].values() if row.key[0] == name]
+    head = ["movement", "from and to edge", "", "vehicles/h", "delay, s", "level of service", "v/c", "stopped, s"]
+    head += ["stops", "queues, m"]
     rows = [movement_row(row, called) for row in sorted(movements, key=lambda row: row.key)]
-    queues = [
-        (
-            called.approach(row.key[1]), row.values["queue_50_m"], row.values["queue_95_m"], row.values["queue_max_m"],
-            row.values["storage_m"],
-        )
-        for row in sorted(approaches, key=lambda row: row.key)
-    ]
+    queues = []
+    for row in sorted(approaches, key=lambda row: row.key):
+        half, usual, greatest, room = itemgetter("queue_50_m", "queue_95_m", "queue_max_m", "storage_m")(row.values)
+        queues.append((called.approach(row.key[1]), half, usual, greatest, room))
     values = junction.values
     return (
         f'<section class="whole"><h3 id="{anchor(name)}">{escape(title_of(name, called))}: {junction.delay:.1f} s '
@@ -102,13 +98,13 @@ def detail(runs: Runs, name: str, interval_of: tuple[int, int]) -> str:
 
 
 def by_time(runs: Runs, name: str) -> str:
-    """The mean delay and the level of service of a junction in each interval, as HTML; empty where there is one
-    interval alone."""
+    """The mean delay and the level of service of a junction in each interval that has them, as HTML; empty where the
+    tables have one interval alone."""
     intervals = runs.intervals()
-    found = [(begin, runs.rows.get(("junctions", begin, end), {}).get((name,))) for begin, end in intervals]
     if len(intervals) < 2:
         return ""
-    those = ((clock(begin), row) for begin, row in found if row)
+    found = ((begin, runs.rows.get(("junctions", begin, end), {}).get((name,))) for begin, end in intervals)
+    those = ((time_of_day(begin), row) for begin, row in found if row)
     told = ", ".join(f"from {begin} {row.delay:.0f} s {letter_mark(row.letter())}" for begin, row in those)
     return f'<p class="small">By time: {told}</p>'
 

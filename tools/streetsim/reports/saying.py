@@ -4,14 +4,14 @@ from streetsim.reports.comparing import Difference
 NUMBERS = ("no", "one", "two", "three", "four", "five", "six", "seven", "eight", "nine", "ten", "eleven", "twelve")
 
 
-def number(count: int) -> str:
+def count_in_words(count: int) -> str:
     """A count in words up to twelve, 0 as 'no'; else in digits."""
     return NUMBERS[count] if count < len(NUMBERS) else f"{count:,}"
 
 
-def several(count: int, one: str, many: str = "") -> str:
-    """A count with its noun: 'one run', 'five runs'; many: the plural where it is not the noun with an s."""
-    return f"{number(count)} {one if count == 1 else many or one + 's'}"
+def counted_noun(count: int, one: str) -> str:
+    """A count with its noun: 'one run', 'five runs'."""
+    return f"{count_in_words(count)} {one}{'' if count == 1 else 's'}"
 
 
 def less_or_more(change: float) -> str:
@@ -19,7 +19,7 @@ def less_or_more(change: float) -> str:
     return f"{abs(change):.1f} s {'less' if change < 0 else 'more'}"
 
 
-def between(one: Difference) -> str:
+def interval_in_words(one: Difference) -> str:
     """The 95 % interval of a change in seconds: '17.7 to 18.1 s less', or 'from 0.3 s less to 0.5 s more' where 0 is in
     it; empty for one seed."""
     if one.half is None:
@@ -37,5 +37,5 @@ def change_in_words(one: Difference) -> str:
     if one.half is None:
         return f"{less_or_more(one.change)} (of one run, which says nothing of chance)"
     if one.is_sure():
-        return f"{less_or_more(one.change)} (95 % interval: {between(one)})"
-    return f"not shown to differ (95 % interval of the change: {between(one)})"
+        return f"{less_or_more(one.change)} (95 % interval: {interval_in_words(one)})"
+    return f"not shown to differ (95 % interval of the change: {interval_in_words(one)})"

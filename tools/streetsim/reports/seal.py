@@ -16,6 +16,8 @@ from streetsim.reports.markup import facts
 
 LARGEST = 5_000_000  # bytes of a packed file in the page; larger ones are in the file beside it
 BESIDE = ".sealed.zip"  # after the page's name
+CONTENT = ("words", "plans", "tools", "drawn_by", "files", "beside")
+PLAN = ("name", "run", "map", "words", "again", "seeds", "several", "program")  # of each of "plans"
 DATA = re.compile(r'<script type="application/json" id="sealed">(.*?)</script>', re.DOTALL)
 PACK = re.compile(r'<script type="text/plain" class="sealed" title="([^"]*)">([^<]*)</script>')
 HOW = (
@@ -29,10 +31,10 @@ SHOWS = (
 )
 
 
-@dataclass(slots=True)
+@dataclass(frozen=True, slots=True)
 class Seal:
-    """What made a page. content: {"words", "plans": as plan_of of sealing, "tools", "drawn_by", "files": {name:
-    SHA-256}, "beside": names of those in the file beside it}; texts: the files that are packed in the page itself."""
+    """What made a page. content, as CONTENT has it: "plans" as sealed_plan of sealing, "files": {name: SHA-256},
+    "beside": names of those in the file beside it; texts: the files that are packed in the page itself."""
 
     content: Json
     texts: dict[str, str] = field(default_factory=dict)  # by name, as `packed` makes them
@@ -82,11 +84,8 @@ def packed(content: bytes) -> str:
 
 
 def unpacked(text: str) -> bytes:
-    """The bytes of a text that `packed` made; ValueError where it is none."""
-    try:
-        return zlib.decompress(base64.b64decode(text, validate=True))
-    except (ValueError, zlib.error) as fault:
-        raise ValueError(str(fault)) from None
+    """The bytes of a text that `packed` made; ValueError or zlib.error where it is none."""
+    return zlib.decompress(base64.b64decode(text, validate=True))
 
 
 def sealed(content: Json, files: Mapping[str, bytes], page: str) -> tuple[Seal, dict[str, bytes]]:
@@ -123,21 +122,21 @@ def seal_of(page: str, text: str) -> Seal:
     try:
         content = json.loads(found[1])
         content.pop("packs")
-        content["plans"], content["words"], content["files"], content["beside"], content["tools"]
+        [[plan[name] for name in PLAN] for plan in content["plans"]], [content[name] for name in CONTENT]
     except (ValueError, KeyError, TypeError, AttributeError):
         raise Fault(f"{page}: what is sealed in it cannot be read: the page was changed") from None
     texts = {unescape(name): pack for name, pack in PACK.findall(text)}
     return Seal(content, texts, beside_of(page) if content["beside"] else "")
 
 
-def files_of(seal: Seal, page: str) -> Iterator[tuple[str, bytes]]:
+def sealed_files(seal: Seal, page: str) -> Iterator[tuple[str, bytes]]:
     """Each sealed file, (name, content), of a page at a path; Fault where one is missing, or is not what the seal
     says."""
     large = read_beside(seal, page)
     for name, known in seal.content["files"].items():
         try:
             content = large[name] if name in seal.content["beside"] else unpacked(seal.texts[name])
-        except (KeyError, ValueError):
+        except (KeyError, ValueError, zlib.error):
             raise Fault(f"{page}: the sealed file {name} cannot be read: it was changed") from None
         if (found := sum_of(content)) != known:
             raise Fault(f"{page}: the sealed file {name} was changed: SHA-256 said to be {known}, found {found}")

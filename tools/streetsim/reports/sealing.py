@@ -7,26 +7,26 @@ from importlib.util import find_spec
 from pathlib import Path
 
 from streetsim.base.files import Fault, Json, read_json, reading
-from streetsim.model.folder import KEPT, LIGHTS, NAME, Folder
-from streetsim.reports.seal import Seal, canonical, sealed
+from streetsim.model.folder import KEPT, LIGHTS, NAME
+from streetsim.reports.seal import Seal, canonical, sealed, sum_of
 from streetsim.results.reading import Runs
-from streetsim.results.timings import path_of
+from streetsim.results.timings import lights_path
 
 NAMES = "names.csv"  # the sealed file of names of one's own
 COUNTS = "counts-"  # the begin of the names of sealed files of counts, before their number
+HOW = ("run", "words", "again", "lines", "program")  # of a setting, equal for the seeds of one run
 PACKAGE = Path(__file__).parents[1]
 
 
 def seal_for(
     plans: Sequence[Runs], words: Sequence[str], page: str, others: Mapping[str, str]
 ) -> tuple[Seal, dict[str, bytes]]:
-    """(the seal of a page of some plans, the files that go to the one beside it: content by name). words: of
-    streetsim-report that were given; page: its path; others: further files, {name: path}. Fault where a plan's folder
-    does not keep what made it, or its seeds are of several runs, or a file cannot be read. Writes nothing."""
+    """(the seal of a page of some plans, the files that go to the one beside it: content by name). words: as given to
+    streetsim-report; page: its path; others: further files, {name: path}. Fault as of sealed_plan and of reading."""
     files: dict[str, bytes] = {}
     made = []
     for place, runs in enumerate(plans, 1):
-        plan, own = plan_of(runs, place)
+        plan, own = sealed_plan(runs, place)
         made.append(plan)
         files.update(own)
     for name, path in others.items():
@@ -36,13 +36,13 @@ def seal_for(
     return sealed(content, files, page)
 
 
-def plan_of(runs: Runs, place: int) -> tuple[Json, dict[str, bytes]]:
+def sealed_plan(runs: Runs, place: int) -> tuple[Json, dict[str, bytes]]:
     """(what the seal says of a plan: name, run, map, words, again, seeds, several, program; its files, content by
-    name). place: of the plan, from 1. Fault where its folder does not keep what made it, or its seeds are of several
+    name). place: its number, from 1. Fault where its folder does not keep what made it, or its seeds are of several
     runs."""
     folder, made = runs.first, runs.first.made
     lines = kept_lines(runs)
-    if len({canonical(how(one)) for one in runs.folders.values()}) > 1:
+    if len({canonical({name: one.made.get(name) for name in HOW}) for one in runs.folders.values()}) > 1:
         raise Fault(f"{folder.path}: seeds of several runs: they cannot be sealed as one")
     run, mapped = f"plan-{place}/{made['run']}", f"plan-{place}/map.json"
     several = os.path.basename(os.path.normpath(folder.path)).startswith("seed-")
@@ -50,23 +50,13 @@ def plan_of(runs: Runs, place: int) -> tuple[Json, dict[str, bytes]]:
         "name": runs.name, "run": run, "map": mapped, "words": made["words"], "again": made["again"],
         "seeds": list(runs.folders), "several": several, "program": made.get("program"),
     }
-    files = {run: lines, mapped: canonical(map_of(folder)).encode()}
-    if lights := path_of(runs):
-        files[f"plan-{place}/{LIGHTS}"] = Path(lights).read_bytes()
+    # As the setting has it, without names that were given to it later.
+    kept = read_json(f"{folder.path}/{NAME}", ("map",))["map"]
+    files = {run: lines, mapped: canonical(kept).encode()}
+    if lights := lights_path(runs):
+        with reading(lights):
+            files[f"plan-{place}/{LIGHTS}"] = Path(lights).read_bytes()
     return plan, files
-
-
-def how(folder: Folder) -> Json:
-    """What a folder's setting says of how its run was made (run, words, again, lines, program; None where it has none);
-    equal for the seeds of one run."""
-    return {name: folder.made.get(name) for name in ("run", "words", "again", "lines", "program")}
-
-
-def map_of(folder: Folder) -> Json:
-    """The map as the run's setting keeps it, without names that were given to it later. Fault where that cannot be
-    read."""
-    value: Json = read_json(f"{folder.path}/{NAME}", ("map",))["map"]
-    return value
 
 
 def kept_lines(runs: Runs) -> bytes:
@@ -80,13 +70,13 @@ def kept_lines(runs: Runs) -> bytes:
         raise Fault(f"{folder.path}: keeps no {KEPT}, {why}")
     with reading(path):
         content = gzip.decompress(Path(path).read_bytes())
-    if hashlib.sha256(content).hexdigest() != folder.made["lines"]:
+    if sum_of(content) != folder.made["lines"]:
         raise Fault(f"{path}: was changed since the run was made")
     return content
 
 
 def tools_sum() -> str:
-    """The SHA-256, in hex, of all files of this package with their paths: Python, HTML and JavaScript."""
+    """The SHA-256, in hex, of all files of the package streetsim with their paths: Python, HTML and JavaScript."""
     found = hashlib.sha256()
     for path in sorted(PACKAGE.rglob("*")):
         if path.suffix in (".py", ".html", ".js"):

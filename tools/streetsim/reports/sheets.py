@@ -3,11 +3,13 @@ from collections.abc import Mapping, Sequence
 from html import escape
 
 from streetsim.model.names import Names
-from streetsim.model.timing import MAIN, PERMISSIVE, YELLOW, Movement, Timing, intergreen, runs_of
+from streetsim.model.timing import MAIN, PERMISSIVE, YELLOW, Movement, Timing, intergreen, spans_of
 from streetsim.reports.drawing import anchor
 from streetsim.reports.markup import table
 from streetsim.results.reading import Runs
 
+OFF = "oO"  # the light is off, and vehicles drive by the right of way
+KINDS = ("yellow", YELLOW), ("green", MAIN + PERMISSIVE), ("off", OFF)  # of phases, by the first that one has
 COLOURS = ((MAIN, "#1b7837"), (PERMISSIVE, "#a6dba0"), (YELLOW, "#fdd835"), ("s", "#d9f0d3"), ("uoO", "#fdae61"))
 LEFT, WIDE, ROW = 300, 900, 16  # pixels
 MOST_PAIRS = 5  # of conflicting movements on a sheet
@@ -26,7 +28,8 @@ def sheets(plans: Sequence[tuple[str, Timings]], lights: Sequence[str], names: N
 
 
 def sheet(plans: Sequence[tuple[str, Timing | None]], light: str, names: Names) -> str:
-    """The sheet of a light, as HTML; plans: (name, its program or none). Empty where no plan has a program of it."""
+    """The sheet of a light, as HTML, its tables of the last program; plans: (name, its program or none). Empty where no
+    plan has a program of it."""
     known = [(name, timing) for name, timing in plans if timing]
     if not known:
         return ""
@@ -35,12 +38,10 @@ def sheet(plans: Sequence[tuple[str, Timing | None]], light: str, names: Names) 
     parts = [f'<h3 id="{anchor(light).replace("junction", "light")}">{escape(title)}</h3>']
     if len(known) == 2 and known[0][1].phases == known[1][1].phases:
         offsets = [f"{timing.offset:g} s" for _, timing in known]
-        told = "Both plans show the same." if offsets[0] == offsets[1] else ""
-        told = told or f"Both plans have the same phases; the offset is {offsets[0]} before and {offsets[1]} after."
-        parts.append(f"<p>{told}</p>")
+        other = f"Both plans have the same phases; the offset is {offsets[0]} before and {offsets[1]} after."
+        parts.append(f"<p>{'Both plans show the same.' if offsets[0] == offsets[1] else other}</p>")
         known = known[1:]
-    for name, timing in known:
-        parts.append(program(name, timing, names))
+    parts += [program(name, timing, names) for name, timing in known]
     last = known[-1][1]
     parts += [phases_table(last), greens_table(last, names, known[0][1] if len(known) == 2 else None)]
     parts.append(intergreens(last, names))
@@ -49,7 +50,8 @@ def sheet(plans: Sequence[tuple[str, Timing | None]], light: str, names: Names) 
 
 def changed(before: Timings, after: Timings) -> list[str]:
     """The lights, sorted, that both plans have and that show something else, or at other times, with the second."""
-    return [light for light in sorted(after) if light in before and not same(before[light], after[light])]
+    shown = [{light: (one.offset, list(one.phases)) for light, one in plan.items()} for plan in (before, after)]
+    return [light for light, own in sorted(shown[1].items()) if own != shown[0].get(light, own)]
 
 
 def clashes(timings: Timings, runs: Runs) -> list[str]:
@@ -57,16 +59,10 @@ def clashes(timings: Timings, runs: Runs) -> list[str]:
     names."""
     names = runs.names
     return [
-        f"Fault of light {light}: {movement(one, names)} and {movement(other, names)} conflict and have main green "
-        f"together for {seconds} s of each cycle; here both go at once."
+        f"Fault of light {light}: {clash_told(one, other, seconds, names)} of each cycle; here both go at once."
         for light, timing in sorted(timings.items())
         for one, other, seconds in timing.clashes()
     ]
-
-
-def same(one: Timing, other: Timing) -> bool:
-    """Whether two programs have equal phases and offsets."""
-    return (one.offset, list(one.phases)) == (other.offset, list(other.phases))
 
 
 def program(name: str, timing: Timing, names: Names) -> str:
@@ -74,15 +70,18 @@ def program(name: str, timing: Timing, names: Names) -> str:
     cycle = len(timing.states())
     kind = "" if timing.kind == "static" else f", {timing.kind}: listed durations"
     told = f"{name}: cycle {cycle} s, offset {timing.offset:g} s, {len(timing.phases)} phases{kind}"
-    faults = [
-        f"{movement(one, names)} and {movement(other, names)} conflict and have main green together for {seconds} s"
-        for one, other, seconds in timing.clashes()
-    ]
+    faults = [clash_told(one, other, seconds, names) for one, other, seconds in timing.clashes()]
     marks = "".join(f'<p class="doubt">Fault: {escape(fault)}.</p>' for fault in faults)
     return f'<h4>{escape(told)}</h4>{marks}<div class="picture">{bars(timing, names)}</div>'
 
 
-def movement(one: Movement, names: Names) -> str:
+def clash_told(one: Movement, other: Movement, seconds: int, names: Names) -> str:
+    """That two movements conflict and have main green together for some seconds, as plain text."""
+    both = f"{movement_name(one, names)} and {movement_name(other, names)}"
+    return f"{both} conflict and have main green together for {seconds} s"
+
+
+def movement_name(one: Movement, names: Names) -> str:
     """What a movement is called: by streets, else by directions."""
     return names.movement(one.edge, one.to)
 
@@ -92,12 +91,12 @@ def bars(timing: Timing, names: Names) -> str:
     cycle, parts = len(timing.states()), []
     scale = (WIDE - LEFT - 10) / cycle
     for place, one in enumerate(timing.movements):
-        y = 2 + ROW * place
-        parts.append(f'<text x="{LEFT - 6}" y="{y + 10}" text-anchor="end">{escape(movement(one, names)[:52])}</text>')
+        y, name = 2 + ROW * place, escape(movement_name(one, names)[:52])
+        parts.append(f'<text x="{LEFT - 6}" y="{y + 10}" text-anchor="end">{name}</text>')
         parts.append(f'<rect x="{LEFT}" y="{y + 5}" width="{cycle * scale:.1f}" height="3" fill="#999"/>')
         signs = timing.signs(one)
         for letters, colour in COLOURS:
-            for begin, seconds in runs_of(signs, letters):
+            for begin, seconds in spans_of(signs, letters):
                 for start, length in unfolded(begin, seconds, cycle):
                     title = f"{begin} to {(begin + seconds) % cycle or cycle} s"
                     box = f'x="{LEFT + start * scale:.1f}" y="{y}" width="{length * scale:.1f}" height="12"'
@@ -128,55 +127,56 @@ def phases_table(timing: Timing) -> str:
     """A table of the phases, with what they show and when, as HTML."""
     rows, clock = [], 0.0
     for number, (seconds, state) in enumerate(timing.phases, 1):
-        what = "green" if set(state) & set(MAIN + PERMISSIVE) else "red"
-        what = "yellow" if set(state) & set(YELLOW) else what
+        letters = set(state)
+        what = next((name for name, signs in KINDS if letters & {*signs}), "red")
         rows.append([what, escape(state), str(number), f"{clock:g}", f"{clock + seconds:g}", f"{seconds:g}"])
         clock += seconds
     return table(["phase of", "state", "phase", "from, s", "until, s", "seconds"], rows, names=2)
 
 
 def greens_table(timing: Timing, names: Names, before: Timing | None) -> str:
-    """A table of the seconds of green, yellow and red, which is all else, of each movement, as HTML; before: of the
-    plan before, whose greens stand beside; None: there is none."""
+    """A table, as HTML, of when each movement has green, and of its seconds of green, of giving way in it, of yellow
+    and of red, which is all else that is not off. before: the program before, whose greens stand beside, or None."""
     rows, first = [], {(one.edge, one.to): one for one in before.movements} if before else {}
     for one in timing.movements:
         signs = timing.signs(one)
         cycle = len(signs)
-        greens = runs_of(signs, MAIN + PERMISSIVE)
+        greens = spans_of(signs, MAIN + PERMISSIVE)
         told = [greens_told(signs)]
         if before:
             other = first.get((one.edge, one.to))
             told.insert(0, greens_told(before.signs(other)) if other else "")
         gives_way = sum(sign == PERMISSIVE for sign in signs)
         numbers = [sum(seconds for _, seconds in greens), gives_way, sum(sign in YELLOW for sign in signs)]
-        red = cycle - numbers[0] - numbers[2]
+        red = cycle - numbers[0] - numbers[2] - sum(sign in OFF for sign in signs)
         ids = f'<span class="ids">{escape(f"{one.edge} to {one.to}")}</span>'
-        rows.append([escape(movement(one, names)), ids, *told, *map(str, (*numbers, red))])
+        rows.append([escape(movement_name(one, names)), ids, *told, *map(str, (*numbers, red))])
     heads = ["before: green", "after: green"] if before else ["green in the cycle"]
     heads += ["green, s", "gives way, s", "yellow, s", "red, s"]
     return table(["movement", "from and to edge", *heads], rows, names=2)
 
 
 def greens_told(signs: str) -> str:
-    """When a movement has green, as text in seconds of the cycle, '0 to 20, 40 to 55', or 'never'; signs: its letter in
-    each second."""
-    cycle, greens = len(signs), runs_of(signs, MAIN + PERMISSIVE)
-    return ", ".join(f"{begin} to {(begin + seconds) % cycle or cycle}" for begin, seconds in greens) or "never"
+    """When a movement has green, as text in seconds of the cycle, '0 to 20, 40 to 55', or 'never', and where the light
+    is off in some second 'off'; signs: its letter in each second."""
+    cycle, greens = len(signs), spans_of(signs, MAIN + PERMISSIVE)
+    never = "off" if {*signs} & {*OFF} else "never"
+    return ", ".join(f"{begin} to {(begin + seconds) % cycle or cycle}" for begin, seconds in greens) or never
 
 
 def intergreens(timing: Timing, names: Names) -> str:
     """The least time between conflicting greens, and a table of the pairs of movements that have it or a second more,
     five at most, as HTML; empty where there is none."""
-    rows = []
-    for pair in timing.pairs():
-        for one, other in (pair, pair[::-1]):
-            gap = intergreen(timing.signs(one), timing.signs(other))
-            if gap is not None:
-                rows.append((gap, movement(one, names), movement(other, names)))
+    rows = sorted(
+        (gap, movement_name(one, names), movement_name(other, names))
+        for pair in timing.pairs()
+        for one, other in (pair, pair[::-1])
+        if (gap := intergreen(timing.signs(one), timing.signs(other))) is not None
+    )
     if not rows:
         return ""
-    least = min(rows)[0]
-    first = [row for row in sorted(rows) if row[0] <= least + 1][:MOST_PAIRS]
+    least = rows[0][0]
+    first = [row for row in rows if row[0] <= least + 1][:MOST_PAIRS]
     told = table(
         ["green ends", "conflicting green begins", "seconds between"],
         [[escape(one), escape(other), str(gap)] for gap, one, other in first],

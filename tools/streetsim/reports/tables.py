@@ -2,7 +2,7 @@
 from collections.abc import Iterator, Sequence
 
 from streetsim.model.tables import Entry
-from streetsim.reports.council import Interval, junctions_of
+from streetsim.reports.council import Interval, ranked_rows
 from streetsim.results.reading import Runs
 
 CHANGES = (
@@ -13,10 +13,10 @@ CHANGES = (
 
 def change_rows(plans: Sequence[Runs], shown: Interval) -> Iterator[Entry]:
     """The rows of --csv, as CHANGES has the columns: each junction and movement of the last plan, beside the first
-    where there are two; empty texts where a value is not known."""
+    where there are two, delays over the seeds of both, else over all; empty texts where a value is not known."""
     names = plans[-1].names
     for kind in ("junctions", "movements"):
-        for one in junctions_of(plans, shown, kind):
+        for one in ranked_rows(plans, shown, kind):
             edges = one.key[1:] or ("", "")
             called = names.movement(*edges) if edges[0] else ""
             change, before = one.change, one.before

@@ -1,4 +1,5 @@
-"""Road works on a page: where and when, what passes them, the queue over time, and which streets get the traffic."""
+"""Road works on a page: where and when, what passes them, the queue over time, and which streets get the traffic. Fault
+where works.csv, queues.csv or edges.csv cannot be read."""
 import os
 from collections import defaultdict
 from collections.abc import Iterable, Sequence
@@ -6,12 +7,13 @@ from dataclasses import dataclass
 from html import escape
 from statistics import fmean
 
-from streetsim.base.shapes import along
+from streetsim.base.shapes import point_along
+from streetsim.base.words import time_of_day
 from streetsim.model import tables
 from streetsim.model.folder import Folder
 from streetsim.model.mapping import Map, Shape
-from streetsim.reports.comparing import Difference, paired
-from streetsim.reports.markup import change_told, clock, table
+from streetsim.reports.comparing import Difference, difference_of
+from streetsim.reports.markup import change_told, table
 from streetsim.results.reading import Runs
 from streetsim.results.values import traffic_of
 
@@ -24,7 +26,7 @@ GREATEST = ("greatest_delay_s", "queue_max_m", "longest_stand_s")
 Place = tuple[str, str, str, str]  # edge, lane, from and to in metres, as works.csv has them
 
 
-@dataclass(slots=True)
+@dataclass(frozen=True, slots=True)
 class Seen:
     """Works at one place, over all seeds of a plan: rows of works.csv by (begin, end), and metres of queues by
     clock."""
@@ -33,13 +35,16 @@ class Seen:
     rows: dict[tuple[int, int], list[dict[str, str]]]
     queues: dict[int, list[float]]  # metres
 
+    def span(self) -> tuple[int, int]:
+        """(begin of its first period, end of its last), seconds."""
+        return min(begin for begin, _ in self.rows), max(end for _, end in self.rows)
+
 
 def seen_in(runs: Runs) -> list[Seen]:
-    """The works of a plan, in the order of works.csv; empty where it had none. Fault where works.csv or queues.csv
-    cannot be read."""
+    """The works of a plan, in the order of works.csv; empty where it had none."""
     found: dict[Place, Seen] = {}
     for folder in runs.folders.values():
-        rows = rows_of(folder)
+        rows = works_rows(folder)
         for row in rows:
             place = row["edge"], row["lane"], row["from_m"], row["to_m"]
             seen = found.setdefault(place, Seen(place, defaultdict(list), defaultdict(list)))
@@ -49,51 +54,46 @@ def seen_in(runs: Runs) -> list[Seen]:
     return list(found.values())
 
 
-def rows_of(folder: Folder) -> list[dict[str, str]]:
-    """The rows of a run's works.csv; empty where it has none. Fault where it has other columns."""
+def works_rows(folder: Folder) -> list[dict[str, str]]:
+    """The rows of a run's works.csv; empty where it has none."""
     return folder.works() if os.path.exists(f"{folder.path}/{tables.WORKS_FILE}") else []
 
 
 def note_queues(folder: Folder, places: Sequence[Seen]) -> None:
     """Adds to `queues` of each place of works the metres of the queue before it at each poll of a run while they last;
-    0 where none is listed. Fault where queues.csv cannot be read."""
+    0 where none is listed."""
     rows = (row for row in folder.queues() if row["before"] == tables.BEFORE_WORKS)
     queues = {(row["edge"], row["lane"], int(row["time"])): float(row["metres"]) for row in rows}
     for seen in places:
         edge, lane, *_ = seen.place
-        first, last = min(begin for begin, _ in seen.rows), max(end for _, end in seen.rows)
-        for time in polls(folder, first, last):
+        for time in poll_clocks(folder, *seen.span()):
             seen.queues[time].append(queues.get((edge, lane, time), 0.0))
 
 
-def polls(folder: Folder, first: int, last: int) -> range:
-    """The clocks at which lanes were polled, after a first second and up to a last one, which is included; empty where
-    nothing was polled."""
+def poll_clocks(folder: Folder, first: int, last: int) -> range:
+    """The clocks of polls after a first second and up to a last one, included; empty where nothing was polled."""
     every = folder.every
     return range((first // every + 1) * every, last + 1, every) if every else range(0)
 
 
-def stretches(runs: Runs) -> list[Shape]:
-    """The shapes, points (x, y), of what is closed in a plan, for a map. Fault as of seen_in."""
-    mapping = runs.first.mapping
-    return [part_of(mapping, seen.place) for seen in seen_in(runs)]
+def closed_shapes(runs: Runs) -> list[Shape]:
+    """The shapes, points (x, y), of what is closed in a plan, for a map."""
+    return [closed_shape(runs.first.mapping, seen.place) for seen in seen_in(runs)]
 
 
-def part_of(mapping: Map, place: Place) -> Shape:
+def closed_shape(mapping: Map, place: Place) -> Shape:
     """The closed piece of an edge's line as three points: begin, middle and end of a place."""
     edge, lane, begin, end = place
     links = mapping.links_of[edge]
     link = mapping.links[next((one for one in links if int(lane) in mapping.links[one].lanes), links[0])]
     shares = float(begin) / link.metres, float(end) / link.metres
-    return [along(link.shape, share) for share in (shares[0], sum(shares) / 2, shares[1])]
+    return [point_along(link.shape, share) for share in (shares[0], sum(shares) / 2, shares[1])]
 
 
 def section(plans: Sequence[Runs], shown: tuple[int, int]) -> str:
     """The road works of one plan or two, as HTML, with two also the streets that more or fewer vehicles use; empty
-    where none had any. Fault as of seen_in, and with two where edges.csv cannot be read."""
-    parts = []
-    for runs in plans:
-        parts += [place_told(runs, seen) for seen in seen_in(runs)]
+    where none had any."""
+    parts = [place_told(runs, seen) for runs in plans for seen in seen_in(runs)]
     if parts and len(plans) == 2:
         parts.append(other_ways(plans, shown))
     return "".join(parts)
@@ -102,14 +102,15 @@ def section(plans: Sequence[Runs], shown: tuple[int, int]) -> str:
 def place_told(runs: Runs, seen: Seen) -> str:
     """Works at one place, as HTML: where, when, a table by period, and the queue over time."""
     edge, lane, begin, end = seen.place
-    first, last = min(start for start, _ in seen.rows), max(stop for _, stop in seen.rows)
+    first, last = seen.span()
     street = f"{runs.names.street(edge)} ({edge})" if runs.names.street(edge) else edge
-    where = f"{street}, {runs.names.came(edge)}, lane {lane}, {float(begin):.0f} to {float(end):.0f} m"
-    title = f"{runs.name}: {where}, from {clock(first)} to {clock(last)}"
+    where = f"{street}, {runs.names.coming_from(edge)}, lane {lane}, {float(begin):.0f} to {float(end):.0f} m"
+    title = f"{runs.name}: {where}, from {time_of_day(first)} to {time_of_day(last)}"
     head = ["period", "passed", "capacity/h", "mean delay, s", "queue 50 %, m", "95 %", "greatest delay, s"]
     head += ["greatest queue, m", "longest stand, s"]
     rows = [
-        [f'<span class="ids">{clock(start)} to {clock(stop)}</span>', *(mean_of(own, name) for name in MEANS)]
+        [f'<span class="ids">{time_of_day(start)} to {time_of_day(stop)}</span>']
+        + [mean_of(own, name) for name in MEANS]
         + [most_of(own, name) for name in GREATEST]
         for (start, stop), own in sorted(seen.rows.items())
     ]
@@ -148,8 +149,8 @@ def queues_picture(seen: Seen) -> str:
     greatest = line([max(seen.queues[time]) for time in times], 'stroke="#c04000" stroke-dasharray="4 3"')
     marks = [
         f'<text x="{LEFT - 6}" y="15" text-anchor="end">{most:.0f} m</text>',
-        f'<text x="{LEFT}" y="{HIGH - 8}">{clock(times[0])}</text>',
-        f'<text x="{WIDE - 10}" y="{HIGH - 8}" text-anchor="end">{clock(times[-1])}</text>',
+        f'<text x="{LEFT}" y="{HIGH - 8}">{time_of_day(times[0])}</text>',
+        f'<text x="{WIDE - 10}" y="{HIGH - 8}" text-anchor="end">{time_of_day(times[-1])}</text>',
         f'<line x1="{LEFT}" x2="{WIDE - 10}" y1="{HIGH - 25}" y2="{HIGH - 25}" stroke="#666"/>',
         f'<text x="{WIDE / 2:.0f}" y="{HIGH - 8}" text-anchor="middle">queue before the works: mean of the runs, '
         "and broken the greatest</text>",
@@ -160,19 +161,20 @@ def queues_picture(seen: Seen) -> str:
 
 def other_ways(plans: Sequence[Runs], shown: tuple[int, int]) -> str:
     """A table, as HTML, of the edges that win or lose 20 vehicles an hour or more with the second of two plans, for
-    sure or, with one seed, at all; where they are more than twelve, the six that win and the six that lose most. A
-    sentence where there are none. Fault where edges.csv cannot be read."""
-    names, found = plans[1].names, []
-    for edge, change in flow_changes(plans, shown).items():
-        if abs(change.change) >= LEAST and (change.is_sure() or change.half is None):
-            found.append((change.change, edge, change))
-    if not found:
+    sure or, with one seed, at all, those that win most first; where they are more than twelve, the first and the last
+    six, these in the other order. A sentence where there are none."""
+    names, found = plans[1].names, flow_changes(plans, shown)
+    ranked = sorted(
+        (one.change, edge)
+        for edge, one in found.items()
+        if abs(one.change) >= LEAST and (one.is_sure() or one.half is None)
+    )[::-1]
+    if not ranked:
         return "<p>No street has 20 vehicles an hour more or fewer for sure.</p>"
-    ranked = sorted(found, key=lambda one: (one[0], one[1]))
-    told = [*ranked[::-1][:MOST], *ranked[:MOST]] if len(ranked) > 2 * MOST else ranked[::-1]
+    told = [*ranked[:MOST], *ranked[-MOST:][::-1]] if len(ranked) > 2 * MOST else ranked
     rows = [
         [escape(names.approach(edge)), escape(edge), f"{one.before:.0f}", f"{one.after:.0f}", change_told(one)]
-        for _, edge, one in told
+        for edge, one in ((edge, found[edge]) for _, edge in told)
     ]
     head = ["streets with more and fewer vehicles", "edge", "vehicles/h before", "after", "change"]
     return table(head, rows, names=2)
@@ -180,8 +182,7 @@ def other_ways(plans: Sequence[Runs], shown: tuple[int, int]) -> str:
 
 def flow_changes(plans: Sequence[Runs], shown: tuple[int, int]) -> dict[str, Difference]:
     """By edge the change of vehicles an hour from the first of two plans to the second, in the interval (begin, end)
-    that is shown, paired by seed; edges that one plan has no counts of are left out. Fault where edges.csv cannot be
-    read."""
+    that is shown, paired by seed; edges that one plan has no counts of are left out."""
     sides = []
     for runs in plans:
         flows: defaultdict[str, dict[int, float]] = defaultdict(dict)
@@ -189,5 +190,5 @@ def flow_changes(plans: Sequence[Runs], shown: tuple[int, int]) -> dict[str, Dif
             for edge, one in traffic_of(folder.edges(), *shown).items():
                 flows[edge][seed] = one.flow
         sides.append(flows)
-    both = {edge: paired(sides[0][edge], own) for edge, own in sides[1].items() if edge in sides[0]}
+    both = {edge: difference_of(sides[0][edge], own) for edge, own in sides[1].items() if edge in sides[0]}
     return {edge: change for edge, change in both.items() if change}

@@ -4,8 +4,8 @@ from bisect import bisect_right
 from collections.abc import Iterable, Iterator, Mapping, Sequence
 from statistics import fmean
 
-from streetsim.base.files import attribute, elements, seconds
-from streetsim.base.report import some
+from streetsim.base.files import attribute, elements, number, optional, seconds
+from streetsim.base.report import first_few
 from streetsim.model.folder import Folder
 
 Trip = tuple[float, float]  # wished departure and arrival
@@ -14,41 +14,41 @@ EdgeKey = tuple[float, float, str]  # begin and end of a period, and an edge
 
 def read_tripinfo(path: str) -> dict[str, Trip]:
     """The trips of a file of SUMO's tripinfo, {vehicle: (wished departure, arrival)} in seconds; those that did not
-    arrive are left out. Fault where it is not there, is no tripinfo or lacks an attribute."""
+    arrive are left out. Fault where it is not there, is no tripinfo, or an attribute is absent or wrong."""
     trips = {}
     for element in elements(path, ["tripinfos"]):
         if element.tag == "tripinfo" and (arrival := attribute(path, element, "arrival", seconds)) >= 0:
-            delay = attribute(path, element, "departDelay", seconds) if element.get("departDelay") else 0.0
+            delay = optional(path, element, "departDelay", seconds, 0.0)
             trips[attribute(path, element, "id")] = (attribute(path, element, "depart", seconds) - delay, arrival)
     return trips
 
 
 def read_edges(path: str) -> dict[EdgeKey, tuple[int, float]]:
     """A file of SUMO's edgeData, {(begin, end, edge): (vehicles, seconds)}: the vehicles that left the edge or arrived
-    on it, and the seconds that all vehicles together were on it. Fault where it is not there, is no edgeData or lacks
-    an attribute; ValueError for a count that is no number."""
+    on it, and the seconds that all vehicles together were on it. Fault where it is not there, is no edgeData, or lacks
+    an attribute or has one that is no number."""
     edges = {}
     for interval in elements(path, ["meandata"]):
         period = attribute(path, interval, "begin", seconds), attribute(path, interval, "end", seconds)
         for edge in interval.iter("edge"):
-            vehicles = int(edge.get("left", 0)) + int(edge.get("arrived", 0))
-            edges[*period, attribute(path, edge, "id")] = vehicles, float(edge.get("sampledSeconds", 0))
+            vehicles = optional(path, edge, "left", int, 0) + optional(path, edge, "arrived", int, 0)
+            there = optional(path, edge, "sampledSeconds", number, 0.0)
+            edges[*period, attribute(path, edge, "id")] = vehicles, there
     return edges
 
 
 def read_edgedata(path: str) -> dict[EdgeKey, int]:
-    """A file of SUMO's edgeData, {(begin, end, edge): vehicles that left the edge or arrived on it}; faults as of
-    `read_edges`."""
+    """As `read_edges`, {(begin, end, edge): vehicles that left the edge or arrived on it}."""
     return {key: vehicles for key, (vehicles, _) in read_edges(path).items()}
 
 
-def trips_of(folder: Folder) -> dict[str, Trip]:
+def trip_times_of(folder: Folder) -> dict[str, Trip]:
     """A run's trips in the form of `read_tripinfo`, {vehicle: (wished departure, arrival)} in seconds; those that did
     not arrive are left out. Fault where trips.csv cannot be read."""
     return {row["id"]: (float(row["depart"]), float(row["arrival"])) for row in folder.trips() if row["arrival"]}
 
 
-def edges_of(folder: Folder) -> dict[EdgeKey, tuple[int, float | None]]:
+def edge_values_of(folder: Folder) -> dict[EdgeKey, tuple[int, float | None]]:
     """A run's edges in the form of `read_edges`, {(begin, end, edge): (vehicles that left it or arrived on it, seconds
     of all vehicles on it)}: those of which all lanes have counts, in whole periods. The seconds are none where the
     density is not known. Fault where edges.csv cannot be read."""
@@ -61,10 +61,9 @@ def edges_of(folder: Folder) -> dict[EdgeKey, tuple[int, float | None]]:
     return edges
 
 
-def counts_of(folder: Folder) -> dict[EdgeKey, int]:
-    """A run's edges in the form of `read_edgedata`: {(begin, end, edge): vehicles that left the
-    edge or arrived on it}."""
-    return {key: vehicles for key, (vehicles, _) in edges_of(folder).items()}
+def edge_counts_of(folder: Folder) -> dict[EdgeKey, int]:
+    """A run's edges in the form of `read_edgedata`: {(begin, end, edge): vehicles that left it or arrived on it}."""
+    return {key: vehicles for key, (vehicles, _) in edge_values_of(folder).items()}
 
 
 def geh(here: float, there: float) -> float:
@@ -78,19 +77,16 @@ def correlation(first: Sequence[float], second: Sequence[float]) -> float | None
     spread = [sum((value - mean) ** 2 for value in values) for values, mean in zip((first, second), means, strict=True)]
     if not all(spread):
         return None
-    return (
-        sum((one - means[0]) * (other - means[1]) for one, other in zip(first, second, strict=True))
-        / (spread[0] * spread[1]) ** 0.5
-    )
+    together = sum((one - means[0]) * (other - means[1]) for one, other in zip(first, second, strict=True))
+    return together / (spread[0] * spread[1]) ** 0.5
 
 
 def greatest_gap(here: Iterable[float], there: Iterable[float], vehicles: int) -> float:
     """The greatest distance between two curves of arrivals, given as clocks in any order, as a share (0 to 1) of so
     many vehicles (less than 1 counts as 1); 0 where nobody arrives."""
     here, there = sorted(here), sorted(there)
-    return max(
-        (abs(bisect_right(here, time) - bisect_right(there, time)) for time in {*here, *there}), default=0
-    ) / max(1, vehicles)
+    gaps = (abs(bisect_right(here, time) - bisect_right(there, time)) for time in {*here, *there})
+    return max(gaps, default=0) / max(1, vehicles)
 
 
 def compare_trips(here: Mapping[str, Trip], there: Mapping[str, Trip], names: Sequence[str]) -> Iterator[str]:
@@ -100,7 +96,7 @@ def compare_trips(here: Mapping[str, Trip], there: Mapping[str, Trip], names: Se
     skipped = [name for name in there if name not in known]
     there = {name: trip for name, trip in there.items() if name in known}
     if skipped:
-        yield f"left out: {len(skipped):,} vehicles of SUMO that the run does not have ({some(skipped, 3)})"
+        yield f"left out: {len(skipped):,} vehicles of SUMO that the run does not have ({first_few(skipped, 3)})"
     both = sorted(here.keys() & there.keys())
     yield f"arrived: {len(here):,} here, {len(there):,} in SUMO, {len(both):,} in both"
     if both:
@@ -110,9 +106,8 @@ def compare_trips(here: Mapping[str, Trip], there: Mapping[str, Trip], names: Se
         yield f"mean trip of these: {means[0]:.1f} s here, {means[1]:.1f} s in SUMO ({more:+.1f} %)"
         r = correlation(*durations)
         yield "trip by trip: " + (f"r = {r:.2f}" if r is not None else "no r, as one side does not vary")
-        gap = greatest_gap(
-            [arrival for _, arrival in here.values()], [arrival for _, arrival in there.values()], vehicles
-        )
+        arrivals = [[arrival for _, arrival in trips.values()] for trips in (here, there)]
+        gap = greatest_gap(arrivals[0], arrivals[1], vehicles)
         yield f"arrival curves: greatest gap {gap * 100:.1f} % of {vehicles:,} vehicles"
 
 
@@ -123,22 +118,21 @@ def compare_edges(
     network: int,
 ) -> Iterator[str]:
     """Lines on how close counts and times on edges are, for the edges and periods that both have; here: of the run,
-    {(begin, end, edge): (vehicles, seconds on it by all, None: not known)}; there: the same of SUMO, whose edgeData
-    leaves out an edge with nobody on it. period: seconds; network: how many edges the run's network has."""
+    {(begin, end, edge): (vehicles, seconds on it by all, None: not known)}; there: the same of SUMO, where an edge that
+    a period leaves out had nobody on it. period: seconds; network: how many edges the run's network has."""
     periods = {key[:2] for key in here} & {key[:2] for key in there}
     edges = {key[2] for key in there} & {key[2] for key in here}
-    if not periods or not edges:
+    keys = [key for key in here if key[:2] in periods and key[2] in edges]
+    if not keys:
         yield f"counts: no period of {period} s and edge in common"
         return
-    keys = [key for key in here if key[:2] in periods and key[2] in edges]
     pairs = [(here[key][0], there.get(key, (0, 0))[0]) for key in keys]
     hourly = 3600 / period
     good = sum(geh(one * hourly, other * hourly) < 5 for one, other in pairs)
     r = correlation(*zip(*pairs, strict=True))
     yield f"edges: {len(edges):,} of {network:,} judged, in {len(periods):,} periods of {period} s"
-    yield f"counts: GEH below 5 for {good / len(pairs) * 100:.1f} % of {len(pairs):,} counts of {period} s" + (
-        f", r = {r:.3f}" if r is not None else ""
-    )
+    told = f"counts: GEH below 5 for {good / len(pairs) * 100:.1f} % of {len(pairs):,} counts of {period} s"
+    yield told + (f", r = {r:.3f}" if r is not None else "")
     times = [(here[key][1], there.get(key, (0, 0))[1]) for key in keys if here[key][1] is not None]
     if times:
         hours = [sum(values) / 3600 for values in zip(*times, strict=True)]

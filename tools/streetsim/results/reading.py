@@ -7,7 +7,7 @@ from statistics import fmean
 from typing import Any
 
 from streetsim.base.files import Fault
-from streetsim.base.report import some
+from streetsim.base.report import first_few
 from streetsim.model.folder import NAME, Folder, read_folder, seeds_in
 from streetsim.model.names import Names
 from streetsim.model.service import level
@@ -23,8 +23,7 @@ MEASURES = (
 
 @dataclass(slots=True)
 class Row:
-    """A movement, approach or junction in an interval of the junction tables: means over seeds, and each seed's
-    values."""
+    """A movement, approach or junction in an interval of the tables: means over seeds, and each seed's values."""
 
     key: tuple[str, ...]
     control: str
@@ -47,7 +46,7 @@ Rows = dict[tuple[str, ...], Row]  # by their key
 
 @dataclass(slots=True)
 class Runs:
-    """The runs of one plan, one for each seed."""
+    """The runs of one folder, one for each seed."""
 
     name: str
     folders: dict[int, Folder]
@@ -64,14 +63,12 @@ class Runs:
         return Names(self.first.mapping)
 
     def mean_trips(self) -> dict[int, float]:
-        """{seed: mean trip in seconds of those who arrived}; seeds in which nobody did are left out. Fault where
-        trips.csv cannot be read."""
-        found = {}
-        for seed, folder in self.folders.items():
-            durations = [float(row["duration"]) for row in folder.trips() if row["duration"]]
-            if durations:
-                found[seed] = fmean(durations)
-        return found
+        """{seed: mean trip in seconds of those who arrived}; seeds in which nobody did are left out."""
+        found = {
+            seed: [float(row["duration"]) for row in folder.trips() if row["duration"]]
+            for seed, folder in self.folders.items()
+        }
+        return {seed: fmean(durations) for seed, durations in found.items() if durations}
 
     def intervals(self) -> list[tuple[int, int]]:
         """The (begin, end) of the junction tables, in seconds, rising; empty where they were not read."""
@@ -92,47 +89,45 @@ def read_folders(path: str) -> Runs:
     where it is none, or has what another run left there."""
     if not os.path.isdir(path):
         raise Fault(f"{path}: no folder that streetsim-run wrote")
-    seeds = seeds_in(path)
-    if not seeds:
-        folder = read_folder(path)
-        folders = {folder.made.get("seed", 1): folder}
-    else:
+    if seeds := seeds_in(path):
         refuse_old(path, seeds)
         folders = {seed: read_folder(f"{path}/seed-{seed}") for seed in seeds}
+    else:
+        folder = read_folder(path)
+        folders = {folder.made.get("seed", 1): folder}
     return Runs(os.path.basename(os.path.normpath(path)), folders)
 
 
 def refuse_old(path: str, seeds: Collection[int]) -> None:
-    """Fault where a folder of several seeds also has what another run left there, which would be in the means; seeds:
-    those that have folders."""
+    """Fault where a folder of several seeds, those with folders, also has what another run left there."""
     advice = "remove what is old, or give each run a folder of its own"
     if os.path.exists(f"{path}/{NAME}"):
         raise Fault(f"{path}: a run without --seeds is there beside seeds of another one: {advice}")
     if os.path.exists(table := f"{path}/seeds.csv"):
         known = {int(row["seed"]) for row in read_table(table, SEEDS)}
         if old := [f"seed-{seed}" for seed in seeds if seed not in known]:
-            raise Fault(f"{path}: {some(old)}: not of the run that wrote seeds.csv: {advice}")
+            raise Fault(f"{path}: {first_few(old)}: not of the run that wrote seeds.csv: {advice}")
 
 
 def read_runs(path: str) -> Runs:
     """The runs of a folder that streetsim-run wrote, one or one for each seed, with their junction tables; Fault as of
     read_folders, and where a run lacks a table or none has rows."""
-    made = read_folders(path)
+    runs = read_folders(path)
     for table in TABLES:
-        read_rows(made, table)
-    if not made.rows:
+        add_rows(runs, table)
+    if not runs.rows:
         raise Fault(f"{path}: the junction tables have no rows")
-    return made
+    return runs
 
 
-def read_any(path: str) -> Runs:
+def read_with_any_tables(path: str) -> Runs:
     """The runs of a folder that streetsim-run wrote, one or one for each seed; with their junction tables where the
     first of them has these, and then Fault as of read_runs, else as of read_folders."""
     runs = read_folders(path)
     return read_runs(path) if os.path.exists(f"{runs.first.path}/junctions.csv") else runs
 
 
-def read_rows(runs: Runs, table: str) -> None:
+def add_rows(runs: Runs, table: str) -> None:
     """Adds the rows of a junction table, by its key in TABLES, of all seeds to `runs`; Fault where a folder lacks it.
     Measures that are empty in the table are left out."""
     # By (begin, end): {(key, control, movement): {seed: measures}}.
@@ -147,13 +142,13 @@ def read_rows(runs: Runs, table: str) -> None:
             found[int(row["begin"]), int(row["end"])].setdefault(key, {})[seed] = numbers
     for (begin, end), rows in found.items():
         runs.rows[table, begin, end] = {
-            key: Row(key, control, movement, over_seeds(own), own) for (key, control, movement), own in rows.items()
+            key: Row(key, control, movement, means_over_seeds(by_seed), by_seed)
+            for (key, control, movement), by_seed in rows.items()
         }
 
 
-def over_seeds(seeds: Mapping[int, Mapping[str, float]]) -> dict[str, float]:
-    """{measure: its mean over the seeds that have it}, of the greatest queue the greatest; seeds: {seed: {measure:
-    value}}."""
+def means_over_seeds(seeds: Mapping[int, Mapping[str, float]]) -> dict[str, float]:
+    """{measure: its mean over the seeds that have it}, of the greatest queue the greatest."""
     names = {name for values in seeds.values() for name in values}
     found = {name: fmean(values[name] for values in seeds.values() if name in values) for name in names}
     if "queue_max_m" in found:

@@ -1,9 +1,10 @@
 """The numbers behind the pictures, from what streetsim-run wrote; nothing here draws. Functions of a path, which is
-edges in the order of driving (a list or tuple, as it is read more than once), raise Fault where the map has no such
-edge, and all where a table or the polls that they read are missing."""
+edges in the order of driving, raise Fault where the map has no such edge, and all where a table or the polls that they
+read are missing."""
 from bisect import bisect_right
 from collections import Counter, defaultdict
 from collections.abc import Iterable, Iterator, Sequence
+from itertools import pairwise
 from math import floor, inf, log10
 
 from streetsim.base import limits
@@ -12,30 +13,28 @@ from streetsim.model import tables
 from streetsim.model.folder import Folder
 from streetsim.model.names import Names
 from streetsim.model.runs import Command
+from streetsim.model.timing import spans_of
 
 Spot = tuple[float, float]  # second and metres
 Piece = tuple[Spot, Spot, int, float]  # begin and end, speed in cells a step, metres of the vehicle's cells
 
 
-def stretches(folder: Folder, edges: Iterable[str]) -> tuple[dict[int, tuple[float, float, int]], float]:
-    """Where the links of a path of edges lie, as {link: (metres from the path's begin, metres, cells)}, and the path's
-    length in metres. Fault where the map has no such edge."""
+def links_and_length(folder: Folder, edges: Sequence[str]) -> tuple[dict[int, tuple[float, float, int]], float]:
+    """({link: (metres from the path's begin, metres, cells)} of the links of a path, its length in metres)."""
     placed: dict[int, tuple[float, float, int]] = {}
     begin = 0.0
-    for links in folder.links_along(edges):
-        placed.update(
-            {link: (begin, folder.mapping.links[link].metres, folder.mapping.links[link].cells) for link in links}
-        )
-        begin += folder.mapping.links[links[0]].metres
+    for numbers in folder.links_along(edges):
+        links = [folder.mapping.links[number] for number in numbers]
+        placed |= {number: (begin, link.metres, link.cells) for number, link in zip(numbers, links, strict=True)}
+        begin += links[0].metres
     return placed, begin
 
 
-def trajectories(folder: Folder, edges: Iterable[str], first: int, last: int) -> list[Piece]:
-    """Pieces of the ways of vehicles' fronts along a path of edges, each from one poll to the next, from a first to a
-    last second (included), in metres from the path's begin, with the speed at the later poll; a vehicle that went back,
-    or that one of both polls does not have on a cell of the path, is left out for that piece. Fault where the map has
-    no such edge, or the folder no polls."""
-    placed, _ = stretches(folder, edges)
+def trajectories(folder: Folder, edges: Sequence[str], first: int, last: int) -> list[Piece]:
+    """Pieces of the ways of vehicles' fronts along a path, each from one poll to the next, from a first to a last
+    second (included), in metres from the path's begin, with the speed at the later poll; a vehicle that went back, or
+    that one of both polls does not have on a cell of the path, is left out for that piece."""
+    placed, _ = links_and_length(folder, edges)
     pieces: list[Piece] = []
     before: dict[int, tuple[int, float, int, float]] = {}
     for poll in folder.polls():
@@ -55,28 +54,23 @@ def trajectories(folder: Folder, edges: Iterable[str], first: int, last: int) ->
     return pieces
 
 
-def bands(pieces: Iterable[Piece]) -> Iterator[tuple[Spot, Spot, Spot, Spot]]:
-    """The areas that long vehicles cover over time, from their fronts to their rears, as four corners each, (second,
-    metres); those whose cells have no more than 1.5 times CELL_METRES together are left out."""
+def long_vehicle_strips(pieces: Iterable[Piece]) -> Iterator[tuple[Spot, Spot, Spot, Spot]]:
+    """The strips that long vehicles cover in time and metres, from front to rear: four corners (second, metres) for
+    each piece. Vehicles whose cells have no more than 1.5 times CELL_METRES together are left out."""
     for (second, place), (later, other), _, long in pieces:
         if long > 1.5 * limits.CELL_METRES:
             yield (second, place), (later, other), (later, other - long), (second, place - long)
 
 
-def reds(folder: Folder, edges: Iterable[str], first: int, last: int) -> list[tuple[float, int, int]]:
-    """When the signals along a path of edges are red for going on along it, from a first second to before a last:
-    (metres from the path's begin, second in which it begins, second at which it has ended) of each red, which is cut at
-    both bounds. Before its first command a signal has none. Fault where the map has no such edge."""
-    placed, _ = stretches(folder, edges)
-    links = folder.links_along(edges)
+def red_times(folder: Folder, edges: Sequence[str], first: int, last: int) -> list[tuple[float, int, int]]:
+    """When the signals along a path are red for going on along it, from a first second to before a last: (metres from
+    the path's begin, second in which it begins, second at which it has ended) of each red, which is cut at both bounds.
+    Before its first command a signal has none."""
+    placed, _ = links_and_length(folder, edges)
     found = []
-    for here, following in zip(links, links[1:]):
-        place = placed[here[0]][0] + placed[here[0]][1]
-        plans = [
-            (clock, command)
-            for clock, command in folder.signals
-            if command["node"] == folder.mapping.links[here[0]].end
-        ]
+    for here, following in pairwise(folder.links_along(edges)):
+        place, node = sum(placed[here[0]][:2]), folder.mapping.links[here[0]].end
+        plans = [(clock, command) for clock, command in folder.signals if command["node"] == node]
         begin = None
         for second in range(first, last + 1):
             sent = [command for clock, command in plans if clock <= second]
@@ -90,8 +84,7 @@ def reds(folder: Folder, edges: Iterable[str], first: int, last: int) -> list[tu
 
 
 def shows_green(command: Command, second: int, links: Sequence[int], following: Sequence[int]) -> bool:
-    """Whether a signal command shows green in a second (the clock at its begin) from any of some links to any of
-    others."""
+    """Whether a signal command shows green in a second (its begin) from any of some links to any of others."""
     place = (second + command["offset"]) % sum(duration for duration, _ in command["phases"])
     for duration, greens in command["phases"]:
         if place < duration:
@@ -108,7 +101,7 @@ def way_back(folder: Folder, edges: Sequence[str]) -> list[str]:
     for edge, links in mapping.links_of.items():
         found.setdefault((mapping.links[links[0]].begin, mapping.links[links[0]].end), edge)
     back = []
-    for (link, *_), edge in reversed(list(zip(folder.links_along(edges), edges, strict=True))):
+    for (link, *_), edge in zip(reversed(folder.links_along(edges)), reversed(edges), strict=True):
         ends = mapping.links[link].end, mapping.links[link].begin
         if ends not in found:
             raise Fault(f"--both: no edge leads back along {edge!r}")
@@ -117,19 +110,20 @@ def way_back(folder: Folder, edges: Sequence[str]) -> list[str]:
 
 
 def junctions_along(folder: Folder, edges: Sequence[str]) -> list[tuple[float, str]]:
-    """(metres from the path's begin, name) of each junction within a path of edges; of a path of one edge the junction
-    at its end. Fault where the map has no such edge."""
-    placed, _ = stretches(folder, edges)
+    """(metres from the path's begin, name) of each junction within a path, or else of the one at its end."""
+    placed, _ = links_and_length(folder, edges)
     firsts = [links[0] for links in folder.links_along(edges)]
     names = Names(folder.mapping)
     nodes = [folder.mapping.nodes[folder.mapping.links[link].end][0] for link in firsts]
-    ends = [(sum(placed[link][:2]), crossed(names, node, edges)) for link, node in zip(firsts, nodes, strict=True)]
+    ends = [
+        (sum(placed[link][:2]), junction_name_on_path(names, node, edges))
+        for link, node in zip(firsts, nodes, strict=True)
+    ]
     return ends[:-1] or ends
 
 
-def crossed(names: Names, junction: str, edges: Iterable[str]) -> str:
-    """What a junction on a path is called: its own name, else the streets that it has beside the path's, else its
-    id."""
+def junction_name_on_path(names: Names, junction: str, edges: Iterable[str]) -> str:
+    """What a junction on a path is called: its name, else the streets that it has beside the path's, else its id."""
     if junction in names.junctions:
         return names.junctions[junction]
     own = {names.street(edge) for edge in edges}
@@ -139,33 +133,27 @@ def crossed(names: Names, junction: str, edges: Iterable[str]) -> str:
 def green_band(folder: Folder, edges: Sequence[str], first: int) -> tuple[int, int] | None:
     """(width of the green band, cycle) in seconds: the width is how many seconds of a cycle in a row let a vehicle that
     passes the first signal pass all others too at its free speed. Plans are those at the clock `first`; none where
-    there is no signal or no common cycle. Fault where the map has no such edge."""
-    lines = stop_lines(folder, edges)
-    plans = {node: command for clock, command in folder.signals if clock <= first for node in [command["node"]]}
-    stops = [(after, plans[node], here, following) for after, node, here, following in lines if node in plans]
+    there is no signal or no common cycle."""
+    ends = edge_ends_along(folder, edges)
+    plans = {command["node"]: command for clock, command in folder.signals if clock <= first}
+    stops = [(after, plans[node], here, following) for after, node, here, following in ends if node in plans]
     cycles = {sum(duration for duration, _ in command["phases"]) for _, command, *_ in stops}
     if len(cycles) != 1:
         return None
     cycle, start = cycles.pop(), stops[0][0]
-    is_free = [
-        all(
-            shows_green(command, second + round(after - start), here, following)
-            for after, command, here, following in stops
-        )
-        for second in range(cycle)
+    shown = [
+        [shows_green(command, second + round(after - start), here, following) for second in range(cycle)]
+        for after, command, here, following in stops
     ]
-    longest = run = 0
-    for free in is_free * 2:
-        run = run + 1 if free else 0
-        longest = max(longest, run)
-    return min(longest, cycle), cycle
+    signs = "".join("01"[all(greens)] for greens in zip(*shown, strict=True))
+    return max((seconds for _, seconds in spans_of(signs, "1")), default=0), cycle
 
 
-def stop_lines(folder: Folder, edges: Sequence[str]) -> list[tuple[float, int, list[int], list[int]]]:
+def edge_ends_along(folder: Folder, edges: Sequence[str]) -> list[tuple[float, int, list[int], list[int]]]:
     """(seconds at free speed from the path's begin, node, links, next links) of each end of an edge within a path, with
-    a signal or without, in its order. Fault where the map has no such edge."""
-    links, after, found = folder.links_along(edges), 0.0, []
-    for here, following in zip(links, links[1:]):
+    a signal or without, in its order."""
+    after, found = 0.0, []
+    for here, following in pairwise(folder.links_along(edges)):
         link = folder.mapping.links[here[0]]
         after += link.cells / max(0.001, link.limit - folder.dawdle / 1000)
         found.append((after, link.end, here, following))
@@ -175,7 +163,7 @@ def stop_lines(folder: Folder, edges: Sequence[str]) -> list[tuple[float, int, l
 
 def densities(folder: Folder) -> list[float]:
     """Mean vehicles a kilometre and lane of each link over all polls, by its number, of those on its cells (not in the
-    junction behind); Fault where nothing was polled."""
+    junction behind); 0 where its lanes were not polled, Fault where none were."""
     standing: Counter[int] = Counter()
     polls = 0
     for poll in folder.polls():
@@ -192,21 +180,20 @@ def densities(folder: Folder) -> list[float]:
 
 def longest_queues(folder: Folder, most: int) -> tuple[list[tuple[str, dict[int, float]]], int]:
     """The lanes with the longest queues at stop lines, the longest first and `most` of them at most: (lane's id after
-    its street's name, {clock: metres}); and how many lanes have queues at all. Fault where queues.csv cannot be
-    read."""
+    its street's name, {clock: metres}); and how many lanes have queues at all."""
     by_lane: defaultdict[str, dict[int, float]] = defaultdict(dict)
     names = Names(folder.mapping)
-    for row in (row for row in folder.queues() if row["before"] == tables.STOP_LINE):
-        by_lane[f"{row['edge']}_{row['lane']}"][int(row["time"])] = float(row["metres"])
+    for row in folder.queues():
+        if row["before"] == tables.STOP_LINE:
+            by_lane[f"{row['edge']}_{row['lane']}"][int(row["time"])] = float(row["metres"])
     ranked = sorted(by_lane.items(), key=lambda item: (-max(item[1].values()), item[0]))
     called = ((f"{names.street(name.rpartition('_')[0])} {name}".lstrip(), queue) for name, queue in ranked[:most])
     return list(called), len(ranked)
 
 
-def flows(folder: Folder, edges: Sequence[str]) -> list[tuple[float, float]]:
+def counted_densities_and_flows(folder: Folder, edges: Sequence[str]) -> list[tuple[float, float]]:
     """(vehicles a kilometre and lane, vehicles an hour and lane) of each row of counts.csv over a whole period with
-    traffic; the first from the occupancy, as if each cell had 7.5 m. edges: those wanted, all where it is empty. Fault
-    where counts.csv is missing."""
+    traffic; the first from the occupancy, as if each cell had 7.5 m. edges: those wanted, all where it is empty."""
     return [
         (float(row["occupancy_percent"]) / 100 / limits.CELL_METRES * 1000, float(row["vehicles_per_hour"]))
         for row in folder.counts()
@@ -216,7 +203,7 @@ def flows(folder: Folder, edges: Sequence[str]) -> list[tuple[float, float]]:
     ]
 
 
-def middle_flows(folder: Folder, edges: Sequence[str]) -> list[tuple[float, float]]:
+def middle_densities_and_flows(folder: Folder, edges: Sequence[str]) -> list[tuple[float, float]]:
     """(vehicles a kilometre, vehicles an hour) of the middle third of each lane by itself, of each whole period with
     traffic there: means over its polls of the vehicles there and of their speeds, added up, over its length as if each
     cell had 7.5 m (Edie's definitions). edges: those wanted, all where it is empty; Fault where nothing was polled."""
@@ -229,7 +216,7 @@ def middle_flows(folder: Folder, edges: Sequence[str]) -> list[tuple[float, floa
         period = (poll["clock"] - 1 - start) // folder.period
         polls[period] += 1
         for link, lane, cells, *_ in poll["lanes"]:
-            first, last = middle(links[link].cells)
+            first, last = middle_third(links[link].cells)
             there = [entry[2] for entry in cells if first <= entry[1] < last] if link in wanted else []
             if there:
                 sums = seen[period, link, lane]
@@ -240,27 +227,26 @@ def middle_flows(folder: Folder, edges: Sequence[str]) -> list[tuple[float, floa
     whole, found = (folder.made.get("until", poll["clock"]) - start) // folder.period, []
     for (period, link, _), (vehicles, speeds) in sorted(seen.items()):
         if period < whole:
-            first, last = middle(links[link].cells)
+            first, last = middle_third(links[link].cells)
             looks = polls[period] * (last - first)
             found.append((vehicles / looks / limits.CELL_METRES * 1000, speeds / looks * 3600))
     return found
 
 
-def middle(cells: int) -> tuple[int, int]:
+def middle_third(cells: int) -> tuple[int, int]:
     """(first cell of a link's middle third, cell behind its last); cells: of the link."""
     first = cells // 3
     return first, max(first + 1, cells - first)
 
 
 def arrival_curves(folder: Folder) -> tuple[list[int], list[int]]:
-    """(clocks of wished departures up to the run's end, that second included, clocks of arrivals), each sorted. Fault
-    where trips.csv cannot be read."""
+    """(clocks of wished departures up to the run's end, that second included, clocks of arrivals), each sorted."""
     trips, end = folder.trips(), folder.made.get("until", inf)
     departs = sorted(depart for row in trips if (depart := int(row["depart"])) <= end)
     return departs, sorted(int(row["arrival"]) for row in trips if row["arrival"])
 
 
-def difference(first: Sequence[float], second: Sequence[float]) -> tuple[list[float], list[int]]:
+def curve_difference(first: Sequence[float], second: Sequence[float]) -> tuple[list[float], list[int]]:
     """(clocks at which one of two curves rises, by how many vehicles the first is then above the second); first,
     second: sorted clocks, one for each vehicle."""
     times = sorted({*first, *second})
@@ -268,7 +254,6 @@ def difference(first: Sequence[float], second: Sequence[float]) -> tuple[list[fl
 
 
 def round_length(metres: float) -> float:
-    """The greatest length that is at most `metres` and 1, 2 or 5 times a power of ten, for a map's scale; metres: above
-    0."""
+    """The greatest length, for a map's scale, up to `metres` (above 0) that is 1, 2 or 5 times a power of ten."""
     power = 10 ** floor(log10(metres))
     return next(times * power for times in (5, 2, 1) if times * power <= metres)

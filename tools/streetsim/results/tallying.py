@@ -3,19 +3,20 @@ import csv
 import gzip
 import json
 import os
-import zlib
 from collections.abc import Iterator
 from dataclasses import dataclass
+from itertools import zip_longest
 from pathlib import Path
 from typing import Any
 
-from streetsim.base.files import Fault
+from streetsim.base.files import Fault, Json, open_text, read_json, reading
 from streetsim.model.folder import LIGHTS, NAME
 
 PATHS = ("made.json", LIGHTS)  # what is of the files of a study or an import, which are not made again
 # What a setting says of how the run was made, which is not a number of it: another program, words of works that the
 # kept lines have.
 UNTOLD = ("program", "words")
+Difference = tuple[str, str, str]  # the file and the place in it, what is said there, and what was found
 
 
 @dataclass(slots=True)
@@ -33,87 +34,79 @@ def files_in(folder: str) -> list[str]:
     )
 
 
-def compared(said: str, found: str, counts: Compared) -> Iterator[tuple[str, str, str]]:
+def folder_differences(said: str, found: str, counts: Compared) -> Iterator[Difference]:
     """Where the files of the folder `said` differ from those of `found`, made anew: (file and place in it, said,
     found). Files that only `said` has, and made.json and lights.json right in the folder (not below), are passed over.
-    Adds to `counts`. Fault where a setting.json holds no setting, a packed file cannot be unpacked, or a table cannot
-    be read."""
+    Adds to `counts`. Fault where a file cannot be read."""
     for name in (one for one in files_in(found) if one not in PATHS):
         counts.files += 1
         if not os.path.exists(f"{said}/{name}"):
             yield name, "no file", "a file"
         elif os.path.basename(name) == NAME:
-            yield from of_values(name, settings(f"{said}/{name}"), settings(f"{found}/{name}"), counts)
+            yield from value_differences(name, settings(f"{said}/{name}"), settings(f"{found}/{name}"), counts)
         elif name.endswith(".csv"):
-            yield from of_tables(name, f"{said}/{name}", f"{found}/{name}", counts)
+            yield from table_differences(name, f"{said}/{name}", f"{found}/{name}", counts)
         else:
-            first, second = (lines_of(f"{folder}/{name}") for folder in (said, found))
-            yield from of_lines(name, first, second, counts)
+            first, second = (file_lines(f"{folder}/{name}") for folder in (said, found))
+            yield from line_differences(name, first, second, counts)
 
 
-def settings(path: str) -> Any:
-    """The parsed value of a run's setting, without what may differ between two makings of it (UNTOLD of made); Fault
-    where the file holds none. path: of the file setting.json, which must be there."""
-    try:
-        value = json.loads(Path(path).read_text(encoding="utf-8"))
-        for name in UNTOLD:
-            value.get("made", {}).pop(name, None)
-        return value
-    except (ValueError, KeyError, AttributeError) as fault:
-        raise Fault(f"{path}: no setting of a run: {fault}") from None
+def settings(path: str) -> Json:
+    """A file's setting of a run, without what may differ when that is made again (UNTOLD); Fault where it has none."""
+    value = read_json(path, ())
+    if not isinstance(made := value.get("made", {}), dict):
+        raise Fault(f"{path}: no setting of a run")
+    return value | {"made": {name: one for name, one in made.items() if name not in UNTOLD}}
 
 
-def lines_of(path: str) -> list[bytes]:
-    """The lines of a file, as bytes, unpacked where its name ends in .gz; Fault where that is no gzip file or a cut
-    one, OSError where the file is not there."""
-    content = Path(path).read_bytes()
-    try:
+def file_lines(path: str) -> list[bytes]:
+    """The lines of a file, as bytes, unpacked where its name ends in .gz; Fault where it cannot be read."""
+    with reading(path):
+        content = Path(path).read_bytes()
         return (gzip.decompress(content) if path.endswith(".gz") else content).split(b"\n")
-    except (OSError, EOFError, zlib.error) as fault:
-        raise Fault(f"{path}: {fault}") from None
 
 
-def of_lines(name: str, first: list[bytes], second: list[bytes], counts: Compared) -> Iterator[tuple[str, str, str]]:
-    """The lines of two files that differ, as `compared` gives them; name: the file; first: said, second: found. Adds to
-    `counts` the numbers of the second, of digits alone between commas or brackets."""
-    for number in range(max(len(first), len(second))):
-        said, found = (side[number].decode(errors="replace") if number < len(side) else "" for side in (first, second))
+def line_differences(name: str, first: list[bytes], second: list[bytes], counts: Compared) -> Iterator[Difference]:
+    """The lines of two files that differ as UTF-8, absent ones as empty; name: the file; first: said, second: found.
+    Adds to `counts` the numbers of the second, of digits alone between commas or brackets."""
+    for number, sides in enumerate(zip_longest(first, second, fillvalue=b""), 1):
+        said, found = (side.decode(errors="replace") for side in sides)
         counts.numbers += sum(part.isdecimal() for part in found.replace("]", ",").replace("[", ",").split(","))
         if said != found:
-            yield f"{name}, line {number + 1}", said, found
+            yield f"{name}, line {number}", said, found
 
 
-def of_tables(name: str, first: str, second: str, counts: Compared) -> Iterator[tuple[str, str, str]]:
-    """The cells of two CSV files that differ, as `compared` gives them; name: the file; first: path of the one that was
-    said, second: of the one found. Where all cells are equal and the bytes are not, one difference says so. A cell that
-    is absent counts as an empty one. Adds to `counts`. Fault, which names the first, where one of both is no table."""
-    with open(first, encoding="utf-8", newline="") as one, open(second, encoding="utf-8", newline="") as other:
-        try:
-            rows = [list(csv.reader(file)) for file in (one, other)]
-        except (UnicodeDecodeError, csv.Error) as fault:
-            raise Fault(f"{first}: cannot be read: {fault}") from None
+def table_differences(name: str, first: str, second: str, counts: Compared) -> Iterator[Difference]:
+    """The cells of two CSV files that differ, absent ones as empty; name: the file; first, second: paths of what is
+    said and what was found. Of equal cells in other bytes one difference says so. Adds to `counts`."""
+    rows = csv_rows(first), csv_rows(second)
     head = rows[1][0] if rows[1] else []
-    for number in range(max(map(len, rows))):
-        said, found = (side[number] if number < len(side) else [] for side in rows)
-        counts.numbers += sum(cell[:1].isdecimal() or cell[:1] == "-" for cell in found)
-        for place in range(max(len(said), len(found))):
-            cells = [side[place] if place < len(side) else "" for side in (said, found)]
-            if cells[0] != cells[1]:
+    no_cells: list[str] = []
+    for number, sides in enumerate(zip_longest(*rows, fillvalue=no_cells), 1):
+        counts.numbers += sum(cell[:1].isdecimal() or cell[:1] == "-" for cell in sides[1])
+        for place, (said, found) in enumerate(zip_longest(*sides, fillvalue="")):
+            if said != found:
                 column = head[place] if place < len(head) else f"column {place + 1}"
-                yield f"{name}, line {number + 1}, {column}", cells[0], cells[1]
-    if Path(first).read_bytes() != Path(second).read_bytes() and rows[0] == rows[1]:
+                yield f"{name}, line {number}, {column}", said, found
+    if rows[0] == rows[1] and Path(first).read_bytes() != Path(second).read_bytes():
         yield name, "other signs between the cells", "none"
 
 
-def of_values(name: str, said: Any, found: Any, counts: Compared) -> Iterator[tuple[str, str, str]]:
-    """The values of two settings that differ, as `compared` gives them, JSON of 80 letters at most; name: the file and
-    the keys so far. A key that is absent counts as null. Adds to `counts`."""
+def csv_rows(path: str) -> list[list[str]]:
+    """The rows of a CSV file, with the head; Fault where it is none."""
+    with reading(path), open_text(path) as file:
+        return list(csv.reader(file))
+
+
+def value_differences(name: str, said: Any, found: Any, counts: Compared) -> Iterator[Difference]:
+    """The values of two settings that differ, JSON of 80 letters at most; name: the file and the keys so far. A key
+    that is absent counts as null. Adds to `counts`."""
     if isinstance(said, dict) and isinstance(found, dict):
         for key in {**said, **found}:
-            yield from of_values(f"{name}, {key}", said.get(key), found.get(key), counts)
+            yield from value_differences(f"{name}, {key}", said.get(key), found.get(key), counts)
     elif isinstance(said, list) and isinstance(found, list) and len(said) == len(found):
         for place, (one, other) in enumerate(zip(said, found, strict=True)):
-            yield from of_values(f"{name}[{place}]" if place else name, one, other, counts)
+            yield from value_differences(f"{name}[{place}]" if place else name, one, other, counts)
     else:
         counts.numbers += isinstance(found, (int, float))
         if said != found:

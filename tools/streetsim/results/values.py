@@ -25,8 +25,7 @@ class Values:
 
 
 def intervals_of(runs: Runs) -> list[tuple[int, int]]:
-    """The (begin, end) of the junction tables, in seconds, rising; of the rows of edges.csv where there are none. Fault
-    where that cannot be read."""
+    """The (begin, end) of the junction tables, in seconds, rising; of the first seed's edges.csv without them."""
     return runs.intervals() or sorted({(int(row["begin"]), int(row["end"])) for row in runs.first.edges()})
 
 
@@ -39,13 +38,12 @@ def traffic_of(rows: Iterable[dict], begin: int, end: int) -> dict[str, Traffic]
         seconds = min(end, last) - max(begin, first)
         if seconds > 0:
             found[row["edge"]].append((row, seconds, seconds / (last - first)))
-    return {edge: traffic(those) for edge, those in found.items()}
+    return {edge: traffic_of_parts(those) for edge, those in found.items()}
 
 
-def traffic(parts: Sequence[tuple[dict, float, float]]) -> Traffic:
+def traffic_of_parts(parts: Sequence[tuple[dict, float, float]]) -> Traffic:
     """The traffic of an edge in an interval; parts, one at least: (row of edges.csv, its seconds in the interval, these
-    as a share of the row's period). Density and speed are means of the rows that have them, by seconds and by vehicles
-    there."""
+    as a share of its period). Density is a mean by seconds, speed by vehicles, of the rows that have them."""
     left = sum(int(row["left"]) * share for row, _, share in parts)
     seconds = sum(those for _, those, _ in parts)
     seen = [
@@ -58,16 +56,13 @@ def traffic(parts: Sequence[tuple[dict, float, float]]) -> Traffic:
     return Traffic(left * 3600 / seconds, density, speed)
 
 
-def mean_of(several: list[Traffic]) -> Traffic:
+def mean_traffic(several: list[Traffic]) -> Traffic:
     """The mean traffic of an edge over seeds, one at least; speeds are weighted by how many vehicles were seen."""
     dense = [one.density for one in several if one.density is not None]
     moved = [(one.density, one.speed) for one in several if one.density and one.speed is not None]
     weight = sum(density for density, _ in moved)
-    return Traffic(
-        sum(one.flow for one in several) / len(several),
-        sum(dense) / len(dense) if dense else None,
-        sum(density * speed for density, speed in moved) / weight if weight else None,
-    )
+    speed = sum(density * speed for density, speed in moved) / weight if weight else None
+    return Traffic(sum(one.flow for one in several) / len(several), sum(dense) / len(dense) if dense else None, speed)
 
 
 def values_of(runs: Runs, begin: int, end: int) -> dict[str, Values]:
@@ -79,6 +74,6 @@ def values_of(runs: Runs, begin: int, end: int) -> dict[str, Values]:
             seen[edge].append(one)
     rows = {key[1]: row for key, row in runs.rows.get(("approaches", begin, end), {}).items()}
     return {
-        edge: Values(mean_of(seen[edge]) if edge in seen else None, rows.get(edge))
+        edge: Values(mean_traffic(seen[edge]) if edge in seen else None, rows.get(edge))
         for edge in runs.first.mapping.links_of
     }

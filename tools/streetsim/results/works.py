@@ -12,9 +12,8 @@ LEAST = 150.0  # metres shown at least
 
 
 @dataclass(slots=True, frozen=True)
-class Stretch:
-    """A link on the way to works: metres from the works back to its end (near; less than 0: works lie on it) and to its
-    begin (far)."""
+class LinkOnWay:
+    """A link, whole, on the way to works: metres from them back to its end (below 0: they lie on it) and its begin."""
 
     link: int
     near: float
@@ -22,7 +21,7 @@ class Stretch:
 
 
 @dataclass(slots=True)
-class Place:
+class WorksPlace:
     """Works at one place. lengths: metres of the queue before them, by clock, without clocks at which nobody queued;
     standing: (clock, metres before the works) of each vehicle that stands at a poll."""
 
@@ -33,7 +32,7 @@ class Place:
     end: int  # clock
     vehicles: int  # that passed
     capacity: str  # vehicles an hour in the worst quarter hour with a queue; empty where there is none
-    way: list[Stretch]
+    way: list[LinkOnWay]
     lengths: dict[int, float]
     standing: list[tuple[int, float]]
 
@@ -43,7 +42,7 @@ class Place:
         return min(self.way[-1].far, max(LEAST, ROOM + max(self.lengths.values(), default=0.0)))
 
 
-def places_of(folder: Folder) -> list[Place]:
+def works_places_of(folder: Folder) -> list[WorksPlace]:
     """The works of a run, in the order of its table works.csv; Fault where it had none, or ended before them."""
     seen = Counter(link for poll in folder.polls() for link, _, cells, *_ in poll["lanes"] for _ in cells)
     grouped: dict[tuple[str, ...], list[dict[str, str]]] = {}
@@ -51,14 +50,14 @@ def places_of(folder: Folder) -> list[Place]:
         grouped.setdefault((row["edge"], row["lane"], row["from_m"], row["to_m"]), []).append(row)
     if not grouped:
         raise Fault(f"{folder.path}: the run ended before its works")
-    found = [place_of(folder, rows, seen) for rows in grouped.values()]
-    note_polls(folder, found)
+    found = [works_place_of(folder, rows, seen) for rows in grouped.values()]
+    note_standing(folder, found)
     return found
 
 
-def place_of(folder: Folder, rows: Sequence[dict[str, str]], seen: Counter[int]) -> Place:
+def works_place_of(folder: Folder, rows: Sequence[dict[str, str]], seen: Counter[int]) -> WorksPlace:
     """The works of one place, of its rows of works.csv, without who stands there. seen: how many vehicles polls saw, by
-    link. Fault where queues.csv cannot be read."""
+    link. Fault where queues.csv cannot be read, or the map does not have the lane."""
     edge, lane = rows[0]["edge"], rows[0]["lane"]
     begin, end = float(rows[0]["from_m"]), float(rows[0]["to_m"])
     lengths = {
@@ -67,34 +66,27 @@ def place_of(folder: Folder, rows: Sequence[dict[str, str]], seen: Counter[int])
         if row["before"] == tables.BEFORE_WORKS and (row["edge"], row["lane"]) == (edge, lane)
     }
     capacity = min((row["capacity_per_hour"] for row in rows if row["capacity_per_hour"]), key=float, default="")
-    way = way_to(folder, link_of(folder, edge, int(lane)), begin, seen)
+    if (place := folder.mapping.place_of(f"{edge}_{lane}")) is None:
+        raise Fault(f"{folder.path}/{tables.WORKS_FILE}: the map has no lane {edge}_{lane}")
+    way = way_to(folder, place[0], begin, seen)
     vehicles = sum(int(row["vehicles"]) for row in rows)
     times = int(rows[0]["begin"]), int(rows[-1]["end"])
-    return Place(edge, lane, (begin, end), *times, vehicles, capacity, way, lengths, [])
+    return WorksPlace(edge, lane, (begin, end), *times, vehicles, capacity, way, lengths, [])
 
 
-def link_of(folder: Folder, edge: str, lane: int) -> int:
-    """The link that has a lane of an edge, by SUMO's index of the lane; StopIteration where the edge has no such lane,
-    KeyError where the map has no such edge."""
-    links = folder.mapping.links
-    return next(link for link in folder.mapping.links_of[edge] if lane in links[link].lanes)
-
-
-def way_to(folder: Folder, link: int, begin: float, seen: Counter[int]) -> list[Stretch]:
+def way_to(folder: Folder, link: int, begin: float, seen: Counter[int]) -> list[LinkOnWay]:
     """The way to works, from them on against the traffic: the link on which they lie, `begin` metres from its begin,
     and of the links before each the one on which most vehicles were seen, until no further one leads there."""
-    links, way = folder.mapping.links, [Stretch(link, begin - folder.mapping.links[link].metres, begin)]
+    links, way = folder.mapping.links, [LinkOnWay(link, begin - folder.mapping.links[link].metres, begin)]
     known = {link}
-    while True:
-        feeders = {turn.link for turn in folder.mapping.turns if turn.next == way[-1].link} - known
-        if not feeders:
-            return way
+    while feeders := {turn.link for turn in folder.mapping.turns if turn.next == way[-1].link} - known:
         best = max(sorted(feeders), key=lambda one: seen[one])
         known.add(best)
-        way.append(Stretch(best, way[-1].far, way[-1].far + links[best].metres))
+        way.append(LinkOnWay(best, way[-1].far, way[-1].far + links[best].metres))
+    return way
 
 
-def note_polls(folder: Folder, places: Sequence[Place]) -> None:
+def note_standing(folder: Folder, places: Sequence[WorksPlace]) -> None:
     """Adds to each place who stands on a cell before its works while they last (both clocks included), at each poll, on
     all lanes of the way to it. Fault where the polls cannot be read."""
     links = folder.mapping.links

@@ -11,9 +11,8 @@ from streetsim.ways.graph import Graph
 from streetsim.ways.router import FAR, Path, Router, Shut
 from streetsim.ways.trips import Trip
 from streetsim.works.asked import Works, sites_of
-from streetsim.works.movements import closed_ends, closures_at, lost_ways
+from streetsim.works.movements import closures_at, in_common, lost_times
 from streetsim.works.sites import shut_links
-
 
 Times = tuple[float, float]  # from the first second to before the last
 
@@ -42,16 +41,14 @@ class Closing:
 
 def shut_edges(
     works: Iterable[Works], graph: Graph, mapping: Map, dawdle: float
-) -> dict[int, list[tuple[float, float]]]:
+) -> dict[int, list[Times]]:
     """{number of an edge in the graph: the (first, last) seconds, from first to before last, in which it is not to be
     entered}: while all its lanes are closed, and so shortly before that one would not come past the works; edges that
     keep an open lane are left out. dawdle: the chance, 0 to 1, to go on by a cell less."""
     driving, links = FreeFlow(mapping, dawdle).driving, shut_links(sites_of(works, mapping), mapping)
-    found = {}
+    found: dict[int, list[Times]] = {}
     for edge in dict.fromkeys(mapping.links[link].edge for link in links):
-        times: list[Times] = [(0, float("inf"))]
-        for link in mapping.links_of[edge]:
-            times = common(times, links.get(link, []))
+        times = list(in_common(links.get(link, []) for link in mapping.links_of[edge]))
         before = max(driving[link] for link in mapping.links_of[edge])
         if times:
             found[graph.number[edge]] = [(first - before, last) for first, last in times]
@@ -60,19 +57,12 @@ def shut_edges(
 
 def barred_ways(works: Iterable[Works], graph: Graph, mapping: Map) -> dict[tuple[int, int], list[Times]]:
     """{(edge, next edge), by numbers in the graph: the (first, last) seconds, from first to before last, in which works
-    have closed the only lanes of this movement}; edges that are closed on all lanes are left out."""
-    lost = lost_ways(closed_ends(closures_at(sites_of(works, mapping)), mapping), mapping)
+    have closed the only lanes of this movement}; edges of which works close the end of every lane are left out."""
+    lost = lost_times(closures_at(sites_of(works, mapping)), mapping)
     return {(graph.number[edge], graph.number[after]): list(times) for (edge, after), times in lost.items()}
 
 
-def common(one: Iterable[Times], other: Collection[Times]) -> list[Times]:
-    """The (first, last) seconds, from first to before last, that are in both lists; an empty list where they share
-    nothing."""
-    both = [(max(first, begin), min(last, end)) for first, last in one for begin, end in other]
-    return [(first, last) for first, last in both if first < last]
-
-
-def knows(name: str, share: float, seed: int) -> bool:
+def knows_of_works(name: str, share: float, seed: int) -> bool:
     """Whether the driver of a trip knows of the works, where a share (0 to 1) of all drivers do. The same seed and name
     give the same answer, and a driver who knows of them at a share does at each greater one."""
     return random.Random(f"knowing {seed} {name}").random() < share
@@ -80,54 +70,56 @@ def knows(name: str, share: float, seed: int) -> bool:
 
 def turn_off(trips: Iterable[Trip], closing: Closing, graph: Graph, costs: Costs, strict: bool) -> int:
     """Gives other ways to trips that would come to something shut: they turn off before it and go on by the way that is
-    shortest without traffic. Gives how many trips have other ways now. costs: by which it is reckoned when a trip comes
-    where; strict: Fault where a trip has no such way; without it the trip keeps its way and waits."""
-    router, without, turned = Router(graph, costs, closing.shut), flat_costs(graph, closing.free), 0
+    quickest without traffic. Gives how many trips have other ways now. costs: by which it is reckoned when a trip comes
+    where; strict: Fault where a trip has no such way, and all trips keep theirs; without it that trip alone keeps its
+    way and waits."""
+    router, without, turned = Router(graph, costs, closing.shut), flat_costs(graph, closing.free), []
     free = {what: Router(graph, without, {**closing.shut, what: [(-FAR, FAR)]}) for what in closing.shut}
     for trip in trips:
-        place = router.met(trip.path, trip.entry)
-        if place is None:
+        index = router.first_shut(trip.path, trip.entry)
+        if index is None:
             continue
-        edge, way = trip.path[place], (trip.path[place - 1], trip.path[place])
-        path = way_round(trip, place, closing.signs, router, free[edge if edge in free else way])
+        edge, way = trip.path[index], (trip.path[index - 1], trip.path[index])
+        path = way_round(trip, index, closing.signs, router, free[edge if edge in free else way])
         if not path and strict:
-            why = (why_not if edge in free else no_other)(trip.path, place, graph)
+            why = (why_edge_stops if edge in free else why_turn_stops)(trip.path, index, graph)
             raise Fault(f"trip {trip.name!r} {why}")
-        turned += bool(path) and path != trip.path
-        trip.path = path or trip.path
-    return turned
+        if path and path != trip.path:
+            turned.append((trip, path))
+    for trip, path in turned:
+        trip.path = path
+    return len(turned)
 
 
-def way_round(trip: Trip, shut: int, signs: Collection[int], router: Router, free: Router) -> Path:
+def way_round(trip: Trip, index: int, signs: Collection[int], router: Router, free: Router) -> Path:
     """The way of a trip that turns off on its first edge with a sign, or else at the last crossing before what is shut:
-    the edge at place shut of its path, or the movement to it. From where none leads on that keeps off the edges driven
-    so far, the next sign, and then the crossing before, is tried. Empty where there is no way, and where its first edge
-    is shut. router: gives the clocks at which it drives; free: a router for which this is shut at all times, since who
-    takes a detour may come to it later than planned."""
-    clocks = router.clocks(trip.path[:shut], trip.entry)
-    signed = (at for at in range(shut) if trip.path[at] in signs)
-    for at in (*signed, *reversed(range(shut))):
+    the edge at index of its path, or the movement to it. From where none leads on that keeps off the edges driven
+    so far, the next sign, and then the crossing before, is tried. Empty where there is no way. router: gives the clocks
+    at which it drives; free: one for which this is shut at all times, as who takes a detour may come to it later."""
+    clocks = router.clocks(trip.path[:index], trip.entry)
+    signed = (at for at in range(index) if trip.path[at] in signs)
+    for at in (*signed, *reversed(range(index))):
         rest, _ = free.search(trip.path[at], trip.target, clocks[at])
         if rest and not set(rest[1:]) & set(trip.path[:at]):
             return trip.path[:at] + rest
     return ()
 
 
-def why_not(path: Path, place: int, graph: Graph) -> str:
-    """Why a trip cannot drive whose path has a shut edge at a place: the end of a sentence."""
-    edge = graph.edges[path[place]]
-    if place == 0 or place == len(path) - 1:
+def why_edge_stops(path: Path, index: int, graph: Graph) -> str:
+    """Why a trip cannot drive whose path has a shut edge at an index: the end of a sentence."""
+    edge = graph.edges[path[index]]
+    if index == 0 or index == len(path) - 1:
         return (
-            f"{'ends' if place else 'begins'} on edge {edge!r} while it is closed: take it out, "
+            f"{'ends' if index else 'begins'} on edge {edge!r} while it is closed: take it out, "
             "or change the times of the works"
         )
     return f"has no way round edge {edge!r} while it is closed"
 
 
-def no_other(path: Path, place: int, graph: Graph) -> str:
-    """Why a trip cannot drive that has no way but over a barred movement, to the edge at a place of its path: the end
+def why_turn_stops(path: Path, index: int, graph: Graph) -> str:
+    """Why a trip cannot drive that has no way but over a barred movement, to the edge at an index of its path: the end
     of a sentence."""
-    edge, after = (graph.edges[path[at]] for at in (place - 1, place))
+    edge, after = (graph.edges[path[at]] for at in (index - 1, index))
     return (
         f"has no way but to turn from edge {edge!r} to {after!r}, whose lane is closed: take it out, or have --lost "
         "lead or wait"

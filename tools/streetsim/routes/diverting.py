@@ -9,15 +9,15 @@ from itertools import pairwise
 from statistics import fmean
 
 from streetsim.base.files import Fault
-from streetsim.base.seeds import interval
+from streetsim.base.seeds import mean_and_half_width
 from streetsim.model import trust
-from streetsim.routes.closing import Closing, Shutting, Times, barred_ways, knows, shut_edges, why_not
+from streetsim.routes.closing import Closing, Shutting, Times, barred_ways, knows_of_works, shut_edges, why_edge_stops
 from streetsim.routes.loading import Town
 from streetsim.routes.search import Asked, Iteration, Judged, Search
-from streetsim.sessions.prepared import all_gone
+from streetsim.sessions.prepared import when_all_arrived
 from streetsim.ways.empty import map_without_routes
 from streetsim.ways.graph import Graph
-from streetsim.ways.router import Way
+from streetsim.ways.router import EdgePair
 from streetsim.ways.trips import Trip, Trips
 from streetsim.works.closures import closures_of
 from streetsim.works.crowding import beyond_joint
@@ -25,11 +25,8 @@ from streetsim.works.watched import in_runs
 from streetsim.works.asked import works_of
 
 SHARES = (
-    *(
-        "knowing", "trips_that_know", "mean_trip_s", "difference_s", "half_width_95_s", "relative_gap", "arrived",
-        "rescues",
-    ),
-    "trips_that_change",
+    *("knowing", "trips_that_know", "mean_trip_s", "difference_s", "half_width_95_s", "relative_gap", "arrived"),
+    *("rescues", "trips_that_change"),
 )
 
 
@@ -48,7 +45,7 @@ class Diverted:
         """Its name in tables and lines: "before" without works, else "knowing" and its share."""
         return "before" if self.share is None else f"knowing {self.share:g}"
 
-    def means(self) -> list[float]:
+    def mean_trips(self) -> list[float]:
         """The mean trips of its check runs, seconds, by seed."""
         return [one.mean for one in self.judged.outcomes]
 
@@ -61,24 +58,26 @@ class Diverted:
             yield f"{count - arrived:,} of {count:,} trips have not arrived at {until:,} s (--until)"
         if rescues > trust.MOST_RESCUES * count:
             yield f"{rescues:,} rescues of {count:,} trips, so the network locks in part, and the gap says little"
-        yield from trust.of_waiting({"": [one.waiting for one in outcomes]}, count)
-        yield from trust.of_lengths(until, run, mapping)
-        yield from trust.of_actuated(until, run, mapping, self.search.ground.lights(run, mapping).going_by(mapping))
+        yield from trust.waiting_doubts({"": [one.most_waiting for one in outcomes]}, count)
+        yield from trust.length_doubts(until, run, mapping)
+        yield from trust.actuated_doubts(
+            until, run, mapping, self.search.ground.lights(run, mapping).listed_lights(mapping)
+        )
         works = [works_of(text, mapping) for text in self.search.town.works]
         yield from in_runs([one.at_works for one in outcomes])
         yield from beyond_joint(run, mapping, closures_of(run, until))
         if works:
-            ends = [(until, all_gone(one.ends, run.start())) for one in outcomes]
-            yield from trust.of_works([(one.lane, one.first) for one in works], ends)
+            ends = [(until, when_all_arrived(one.arrivals, run.start())) for one in outcomes]
+            yield from trust.works_doubts([(one.lane, one.begin) for one in works], ends)
 
     def named_doubts(self) -> list[str]:
         """The texts of doubts, each after the label where these runs have works; those of "before" stand alone."""
         return [f"{self.label}: {text}" if self.search.town.works else text for text in self.doubts()]
 
 
-def placed(path: str, share: float | None, many: bool) -> str:
-    """The path of an output for a share: where there are many shares, "-SHARE" stands before the first dot of its name;
-    else the path as it is. share: None only where there are not many."""
+def path_for_share(path: str, share: float | None, many: bool) -> str:
+    """The path of an output for a share: where there are many shares, with "-SHARE" before the first dot of its name,
+    or at its end; else the path as it is. share: None only where there are not many."""
     if not many:
         return path
     folder, name = os.path.split(path)
@@ -86,10 +85,9 @@ def placed(path: str, share: float | None, many: bool) -> str:
     return os.path.join(folder, f"{stem}-{share:g}{dot}{ending}")
 
 
-def give_ways(trips: Sequence[Trip], before: Trips, graph: Graph, where: str) -> None:
+def give_ways_of_file(trips: Sequence[Trip], before: Trips, graph: Graph, where: str) -> None:
     """Gives each trip the path of the trip of the same name in before, which was read from the file where. Fault where
-    before has no path of this name, the path begins or ends on another edge than the trip, or two of its edges have no
-    connection."""
+    there is none, it begins or ends on another edge than the trip, or two edges in a row have no connection."""
     ways = {trip.name: trip for trip in before.all}
     for trip in trips:
         found = ways.get(trip.name)
@@ -98,38 +96,36 @@ def give_ways(trips: Sequence[Trip], before: Trips, graph: Graph, where: str) ->
         if (found.path[0], found.path[-1]) != (trip.origin, trip.target):
             raise Fault(f"{where}: the route of {trip.name!r} does not go from where it begins to where it ends")
         if not all(way in graph.movement_of for way in pairwise(found.path)):
-            raise Fault(
-                f"{where}: the route of {trip.name!r} has two edges that follow each other and have no connection"
-            )
+            told = "has two edges that follow each other and have no connection"
+            raise Fault(f"{where}: the route of {trip.name!r} {told}")
         trip.path = found.path
 
 
 def check_works(texts: Sequence[str], signs: Sequence[str], trips: Sequence[Trip], town: Town, until: int) -> None:
     """Refuses by a Fault, before anything runs, works (texts, as --close takes them) that have another form or name no
     lane or metres of the network, end by the start or begin at until (a clock in seconds) or later, signs on unknown
-    edges, and trips that begin on an edge while it is closed, or so shortly before that they would not come past the
-    works (shut_edges). Which trips end on a closed edge is known only after the runs without works."""
+    edges, and trips that begin on an edge while it is shut (shut_edges). Which trips end there is known only after the
+    runs without works."""
     mapping = map_without_routes(town.net, town.options)
     works = [works_of(text, mapping) for text in texts]
-    if over := [one.text for one in works if one.last <= town.options.begin]:
+    if over := [one.text for one in works if one.end <= town.options.begin]:
         raise Fault(f"--close {over[0]!r}: ends at the start, {town.options.begin:,} s, or earlier")
-    if late := [one.text for one in works if one.first >= until]:
+    if late := [one.text for one in works if one.begin >= until]:
         raise Fault(f"--close {late[0]!r}: begins after the end of the runs, {until:,} s")
     if unknown := [name for name in signs if name not in town.graph.number]:
         raise Fault(f"--sign: the network has no edge {unknown[0]!r}")
     shut = shut_edges(works, town.graph, mapping, town.dawdle)
     for trip in trips:
         if any(begin <= trip.depart < end for begin, end in shut.get(trip.origin, ())):
-            raise Fault(f"trip {trip.name!r} {why_not((trip.origin,), 0, town.graph)}")
+            raise Fault(f"trip {trip.name!r} {why_edge_stops((trip.origin,), 0, town.graph)}")
 
 
 def closing_of(asked: Shutting, graph: Graph, before: Search, judged: Judged) -> Closing:
     """Works as a router sees them; before and judged are the search and the runs without works, from which free times
-    come; signs must be on edges of the graph. Fault where works have another form, or the map has no such lane or
-    metres."""
+    come. Fault where the map has no such works; KeyError where the graph has no edge of a sign."""
     mapping = judged.loaded.mapping
     works = [works_of(text, mapping) for text in asked.close]
-    shut: dict[int | Way, Sequence[Times]] = {}
+    shut: dict[int | EdgePair, Sequence[Times]] = {}
     shut.update(shut_edges(works, graph, mapping, before.town.dawdle).items())
     if asked.lost == "bar":
         shut.update(barred_ways(works, graph, mapping).items())
@@ -143,14 +139,10 @@ def town_with_works(town: Town, asked: Shutting) -> Town:
     return made
 
 
-def diverted(
-    before: Diverted,
-    closing: Closing,
-    asked: Asked,
-    check: range,
-    shares: Sequence[float],
+def search_by_share(
+    before: Diverted, closing: Closing, asked: Asked, check: range, shares: Sequence[float],
     told: Callable[[str, Iteration], bool],
-) -> Iterator[Diverted]:
+) -> Iterator[Diverted]:  # fmt: skip
     """For each share (0 to 1) of drivers who know of the works, what a search of its own gives; each begins with the
     ways before and is judged by the check seeds. told: gets a label and an iteration, and gives whether the user asks
     for an end. The trips are copies of those before. Fault where a trip has no way round the works, or a run fails."""
@@ -158,21 +150,20 @@ def diverted(
     town = town_with_works(first.town, closing.asked)
     for share in shares:
         trips = [
-            dataclasses.replace(trip, changes=trip.changes and knows(trip.name, share, asked.seeds[0]))
+            dataclasses.replace(trip, changes=trip.changes and knows_of_works(trip.name, share, asked.seeds[0]))
             for trip in first.trips
         ]
-        label = f"knowing {share:g}, "
-        search = Search(town, first.ground, trips, first.team, partial(told, label), closing)
-        search.turn_off(before.judged.observed, strict=True)
+        search = Search(town, first.ground, trips, first.team, partial(told, f"knowing {share:g}, "), closing)
+        search.turn_off(before.judged.costs, strict=True)
         search.improve(asked)
         yield Diverted(share, trips, search, search.judged(check))
 
 
-def within_gap(one: Diverted, before: Diverted) -> str | None:
+def why_within_gap(one: Diverted, before: Diverted) -> str | None:
     """A warning where the works change the mean trip, up or down, by less than what all could gain by other ways,
     without the works or with them, whichever is more; None otherwise."""
-    apart = fmean(one.means()) - fmean(before.means())
-    seconds = {where: each.judged.gap * fmean(each.means()) for where, each in (("without", before), ("with", one))}
+    apart, cases = fmean(one.mean_trips()) - fmean(before.mean_trips()), (("without", before), ("with", one))
+    seconds = {where: each.judged.gap * fmean(each.mean_trips()) for where, each in cases}
     where = max(seconds, key=lambda where: seconds[where])
     if abs(apart) >= seconds[where]:
         return None
@@ -185,22 +176,14 @@ def within_gap(one: Diverted, before: Diverted) -> str | None:
 def share_rows(all_: Sequence[Diverted]) -> Iterator[tuple]:
     """The rows of knowing.csv, as SHARES has the columns: the ways without works first, then each share, with its mean
     difference (s) to the first by equal seeds and half the width of its 95 % interval. Those that know are counted of
-    the trips that may change alone."""
+    the trips that may change alone; arrived is of the run with the fewest, rescues are of all runs."""
     before = all_[0]
     for one in all_:
-        apart = [there - here for here, there in zip(before.means(), one.means(), strict=True)]
-        difference, half = (None, None) if one is before else interval(apart)
+        apart = [there - here for here, there in zip(before.mean_trips(), one.mean_trips(), strict=True)]
+        difference, half = (None, None) if one is before else mean_and_half_width(apart)
         changed = sum(own.path != other.path for own, other in zip(one.trips, before.trips, strict=True))
-        yield (
-            *(
-                "" if one.share is None else f"{one.share:g}",
-                sum(trip.changes for trip in one.trips) if one is not before else "",
-            ),
-            *(f"{fmean(one.means()):.3f}", *("" if value is None else f"{value:.3f}" for value in (difference, half))),
-            *(
-                f"{one.judged.gap:.5f}",
-                min(run.arrived for run in one.judged.outcomes),
-                sum(run.rescues for run in one.judged.outcomes),
-            ),
-            changed,
-        )
+        knowing = ("", "") if one is before else (f"{one.share:g}", sum(trip.changes for trip in one.trips))
+        seconds = ("" if value is None else f"{value:.3f}" for value in (fmean(one.mean_trips()), difference, half))
+        runs = one.judged.outcomes
+        ended = min(run.arrived for run in runs), sum(run.rescues for run in runs)
+        yield (*knowing, *seconds, f"{one.judged.gap:.5f}", *ended, changed)

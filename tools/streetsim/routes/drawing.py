@@ -4,7 +4,7 @@ from collections.abc import Sequence
 from typing import Any, NamedTuple
 
 from streetsim.model.mapping import MapLink
-from streetsim.pictures.drawing import Axes, Figure, Lines, Pyplot, drawing_if_there, save
+from streetsim.pictures.drawing import Axes, Figure, Lines, Pyplot, pyplot_if_installed, save_picture
 from streetsim.routes.diverting import Diverted
 
 STYLES = ("-", "--", ":", "-.")
@@ -17,63 +17,57 @@ ROOM = 1.3  # of the height of lines, so that names stand above them
 NEAR = 250.0  # metres around what differs, at least
 
 
-def draw(folder: str, before: Diverted, one: Diverted) -> None:
+def draw_search(folder: str, before: Diverted, one: Diverted) -> None:
     """Draws gap.png, and with works flows.png, into a folder; where matplotlib is not installed it draws nothing and
     says so. Fault where one cannot be written. one: the search with works, or before itself."""
-    pyplot = drawing_if_there()
+    pyplot = pyplot_if_installed()
     if pyplot is None:
         return
-    save(gaps(pyplot, [before] if one is before else [before, one]), f"{folder}/gap.png")
+    save_picture(gap_figure(pyplot, [before] if one is before else [before, one]), f"{folder}/gap.png")
     if one is not before:
-        save(flows(pyplot, before, one), f"{folder}/flows.png")
+        save_picture(flow_figure(pyplot, before, one), f"{folder}/flows.png")
 
 
-def gaps(pyplot: Pyplot, searches: Sequence[Diverted]) -> Figure:
+def gap_figure(pyplot: Pyplot, searches: Sequence[Diverted]) -> Figure:
     """The picture of the relative gap (%) over iterations, a line for each search, four at most, with a dot for the
-    routes kept."""
+    routes kept, at their gap by the check seeds."""
     figure, axes = pyplot.subplots(figsize=(6.5, 3.5))
     for style, one in zip(STYLES, searches):
         numbers = [iteration.number for iteration in one.search.iterations]
-        axes.plot(
-            numbers,
-            [100 * iteration.gap for iteration in one.search.iterations],
-            style,
-            color="#225588",
-            label=one.label,
-        )
+        percents = [100 * iteration.gap for iteration in one.search.iterations]
+        axes.plot(numbers, percents, style, color="#225588", label=one.label)
         axes.plot([one.search.best.number], [100 * one.judged.gap], "o", color="black", markersize=5)
     axes.plot([], [], "o", color="black", label="the routes kept, by seeds that the search did not see")
-    axes.set(
-        xlabel="iteration", ylabel="relative gap (%)", title="What all could gain by other ways, of their shortest ways"
-    )
+    title = "What all could gain by other ways, of their shortest ways"
+    axes.set(xlabel="iteration", ylabel="relative gap (%)", title=title)
     axes.set_ylim(0, ROOM * axes.get_ylim()[1])
     axes.legend(frameon=False, fontsize=8, loc="upper right")
     return figure
 
 
-def flows(pyplot: Pyplot, before: Diverted, one: Diverted) -> Figure:
-    """The picture of how many trips have each edge on their way: before, with the works, and the difference, zoomed to
-    where there is one."""
+def flow_figure(pyplot: Pyplot, before: Diverted, one: Diverted) -> Figure:
+    """The picture of how many trips have each edge on their way: before, with the works, and the difference, which is
+    zoomed to where there is one; the last two with a cross on each closed edge."""
     links, graph = before.judged.loaded.mapping.links, before.search.town.graph
     there, here = (Counter(edge for trip in case.trips for edge in set(trip.path)) for case in (before, one))
     number = [graph.number[link.edge] for link in links]
     closed = {what for what in one.search.closing.shut if isinstance(what, int)} if one.search.closing else set()
-    works = [middle(link.shape) for link, edge in zip(links, number, strict=True) if edge in closed]
+    works = [middle_point(link.shape) for link, edge in zip(links, number, strict=True) if edge in closed]
     values = [[counts[edge] for edge in number] for counts in (there, here)]
     figure, axes = pyplot.subplots(1, 3, figsize=(13, 4.4), layout="constrained")
-    scale = shades(max(1, *values[0], *values[1]))
-    for place, title, counts in zip(axes, ("before", one.label), values):
-        lines = draw_flows(place, links, counts, scale, title)
+    scale = scale_of_counts(max(1, *values[0], *values[1]))
+    for panel, title, counts in zip(axes, ("before", one.label), values):
+        lines = draw_flows(panel, links, counts, scale, title)
     figure.colorbar(lines, ax=axes[:2], label="trips", location="bottom", shrink=0.6)
     apart = [after - first for first, after in zip(*values, strict=True)]
-    lines = draw_flows(axes[2], links, apart, differences(max(1, *(abs(value) for value in apart))), "difference")
-    figure.colorbar(
-        lines, ax=axes[2], label="trips fewer (broken lines) or more than before", location="bottom", shrink=0.9
-    )
-    zoom(axes[2], links, apart)
+    scale = scale_of_differences(max(1, *(abs(value) for value in apart)))
+    lines = draw_flows(axes[2], links, apart, scale, "difference")
+    label = "trips fewer (broken lines) or more than before"
+    figure.colorbar(lines, ax=axes[2], label=label, location="bottom", shrink=0.9)
+    zoom_to_differences(axes[2], links, apart)
     if works:
-        for place in axes[1:]:
-            place.plot(*zip(*works), "x", color="black", markersize=9, markeredgewidth=2, label="closed")
+        for panel in axes[1:]:
+            panel.plot(*zip(*works), "x", color="black", markersize=9, markeredgewidth=2, label="closed")
         axes[2].legend(frameon=False, fontsize=8)
     return figure
 
@@ -87,7 +81,7 @@ class Scale(NamedTuple):
     most: float
 
 
-def shades(most: int) -> Scale:
+def scale_of_counts(most: int) -> Scale:
     """Colours for counts from 0 to the most, in at most CLASSES classes, darker for more."""
     from matplotlib import colormaps
     from matplotlib.colors import BoundaryNorm, ListedColormap
@@ -95,16 +89,13 @@ def shades(most: int) -> Scale:
 
     steps = MaxNLocator(CLASSES, integer=True).tick_values(0, most)
     count = len(steps) - 1
-    return Scale(
-        ListedColormap([colormaps["viridis_r"](0.15 + 0.85 * at / max(1, count - 1)) for at in range(count)]),
-        BoundaryNorm(steps, count),
-        most,
-    )
+    colours = [colormaps["viridis_r"](0.15 + 0.85 * at / max(1, count - 1)) for at in range(count)]
+    return Scale(ListedColormap(colours), BoundaryNorm(steps, count), most)
 
 
-def differences(most: int) -> Scale:
+def scale_of_differences(most: int) -> Scale:
     """Colours for differences from -most to most: orange for more and blue for fewer, grey for less than SMALL of the
-    most."""
+    most; the limits of classes are whole numbers."""
     from matplotlib.colors import BoundaryNorm, ListedColormap
 
     steps: list[float] = [round(most * share) for share in (-1.0, -0.6, -0.3, -0.1, 0.1, 0.3, 0.6, 1.0)]
@@ -113,27 +104,25 @@ def differences(most: int) -> Scale:
 
 
 def draw_flows(axes: Axes, links: Sequence[MapLink], values: Sequence[int], scale: Scale, title: str) -> Lines:
-    """Draws all links on a map in grey, and those whose value is not 0 in colour, wider for more; values has one for
-    each link, and those below 0 are broken lines. Gives the coloured lines, for a colour bar."""
+    """Draws all links on a map in grey, and those whose value is not 0 in colour, wider the farther from 0; values has
+    one for each link, and those below 0 are broken lines. Gives the coloured lines, for a colour bar."""
     from matplotlib.collections import LineCollection
 
     axes.add_collection(LineCollection([link.shape for link in links], colors="#d8d8d8", linewidths=0.8))
     order = sorted((at for at, value in enumerate(values) if value), key=lambda at: abs(values[at]))
     lines = LineCollection(
         [links[at].shape for at in order],
-        array=[values[at] for at in order],
-        cmap=scale.colours,
-        norm=scale.norm,
+        array=[values[at] for at in order], cmap=scale.colours, norm=scale.norm,
         linewidths=[0.8 + WIDEST * abs(values[at]) / scale.most for at in order],
         linestyles=["-" if values[at] > 0 else (0, (2, 0.6)) for at in order],
-    )
+    )  # fmt: skip
     axes.add_collection(lines)
     axes.autoscale_view()
     axes.set(aspect="equal", title=title, xlabel="x (m)", ylabel="y (m)")
     return lines
 
 
-def zoom(axes: Axes, links: Sequence[MapLink], values: Sequence[int]) -> None:
+def zoom_to_differences(axes: Axes, links: Sequence[MapLink], values: Sequence[int]) -> None:
     """Narrows the map to a square around the links whose value, without its sign, is above SMALL of the greatest: from
     its middle at least NEAR metres to each side. The whole map stays where no link has such a value. values: of the
     links, one at least."""
@@ -141,13 +130,13 @@ def zoom(axes: Axes, links: Sequence[MapLink], values: Sequence[int]) -> None:
     points = [point for link, value in zip(links, values, strict=True) if abs(value) > least for point in link.shape]
     if not points:
         return
-    spans = [(min(place), max(place)) for place in zip(*points)]
+    spans = [(min(axis), max(axis)) for axis in zip(*points)]
     half = max(NEAR, *(0.6 * (last - first) for first, last in spans))
     for (first, last), set_limits in zip(spans, (axes.set_xlim, axes.set_ylim)):
         set_limits((first + last) / 2 - half, (first + last) / 2 + half)
 
 
-def middle(shape: Sequence[Sequence[float]]) -> tuple[float, float]:
+def middle_point(shape: Sequence[Sequence[float]]) -> tuple[float, float]:
     """A point (x, y) in metres at a street: the middle corner of its shape, or halfway between the two in the
     middle."""
     (x, y), (next_x, next_y) = shape[(len(shape) - 1) // 2], shape[len(shape) // 2]

@@ -10,7 +10,7 @@ from streetsim.run.gaps import gap_lines
 Passed = dict[tuple[str, int], list[tuple[float, str, float]]]
 
 
-def named(found: Mapping[tuple[int, int], Sequence[tuple[float, int, float]]], mapping: Map) -> Passed:
+def passed_by_name(found: Mapping[tuple[int, int], Sequence[tuple[float, int, float]]], mapping: Map) -> Passed:
     """When vehicles passed which stop line, with names in place of the map's numbers, as another import may number
     links otherwise. found: as Passings found it."""
     links = mapping.links
@@ -22,14 +22,13 @@ def named(found: Mapping[tuple[int, int], Sequence[tuple[float, int, float]]], m
 
 def waiting_lines(passed: Passed, mapping: Map, start: int) -> list[tuple[int, Line]]:
     """The signal lines, (clock, line), by which vehicles without a light wait for those who go first, as these passed
-    in another run. Passings on ways that this map does not have are left out; where a lane has not the way, they count
-    on another lane that has it. start: the run's first clock."""
-    places = {
-        (mapping.links[link].edge, mapping.links[link].lanes[lane]): (link, lane) for link, lane in mapping.lanes()
-    }
+    in another run. Passings by movements that this map does not have are left out; where their lane does not have the
+    movement, they count on another one that has. start: the run's first clock."""
+    links = mapping.links
+    places = {(links[link].edge, links[link].lanes[lane]): (link, lane) for link, lane in mapping.lanes()}
     turns: defaultdict[tuple[str, str], list[tuple[int, int, int]]] = defaultdict(list)
     for turn in mapping.turns:
-        turns[mapping.links[turn.link].edge, mapping.links[turn.next].edge].append((turn.link, turn.lane, turn.next))
+        turns[links[turn.link].edge, links[turn.next].edge].append((turn.link, turn.lane, turn.next))
     found: defaultdict[tuple[int, int], list[tuple[float, int, float]]] = defaultdict(list)
     for (edge, lane), each in passed.items():
         chosen = {}

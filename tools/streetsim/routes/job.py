@@ -1,22 +1,22 @@
 """A search of routes from its words to its files."""
-import json
 import os
 import sys
 from collections.abc import Sequence
 from dataclasses import asdict, dataclass
+from functools import partial
 from statistics import fmean
 
-from streetsim.base.files import whole_file, whole_folder
+from streetsim.base.files import Json, whole_folder
 from streetsim.base.progress import Stopping
 from streetsim.model.tables import write_table
 from streetsim.routes.closing import Shutting
 from streetsim.routes.diverting import (
-    SHARES, Diverted, closing_of, diverted, placed, share_rows, town_with_works, within_gap,
+    SHARES, Diverted, closing_of, path_for_share, search_by_share, share_rows, town_with_works, why_within_gap,
 )
-from streetsim.routes.drawing import draw
+from streetsim.routes.drawing import draw_search
 from streetsim.routes.loading import Town, write_loaded
-from streetsim.routes.results import FLOWS, NAME, figures, flow_rows, write_results
-from streetsim.routes.search import Asked, Iteration, Search, is_still
+from streetsim.routes.results import FLOWS, NAME, check_figures, flow_rows, write_results, write_setting
+from streetsim.routes.search import Asked, Iteration, Search, has_stalled
 from streetsim.routes.team import Team
 from streetsim.routes.watching import Ground
 from streetsim.ways.trips import Trips, write_routes
@@ -34,8 +34,8 @@ class Closed(Shutting):
     """Road works as they are asked for, with the shares (0 to 1) of drivers who know of them, one search each. before:
     the path of a file of ways without the works; None: they are searched."""
 
-    knowing: Sequence[float] = (1.0,)  # shares of drivers who do
-    before: str | None = None  # a file of ways without the works
+    knowing: Sequence[float] = (1.0,)
+    before: str | None = None
 
 
 @dataclass(frozen=True, slots=True)
@@ -64,11 +64,11 @@ class Job:
     words: dict[str, object]  # of the command, as its setting keeps them
 
 
-def found_routes(job: Job, workers: Team, stopping: Stopping) -> list[Diverted]:
+def search_routes(job: Job, workers: Team, stopping: Stopping) -> list[Diverted]:
     """Searches, and judges what was found by the check seeds; gives the ways without works, and after them one result
-    for each share of drivers who know of the works. Without works there is the first alone. The trips of the job get
-    the ways without works; with works, and where all have ways, these stay and are not improved. Iterations and
-    warnings are printed on standard error. Fault where a trip has no way, or none round the works, or a run fails."""
+    for each share of drivers who know of the works, if there are any. The trips of the job get the ways without works;
+    with works, and where all have ways, these stay and are not improved. Iterations and warnings are printed on
+    standard error. Fault where a trip has no way, or none round the works, or a run fails."""
     works, count = job.works, len(job.trips.all)
 
     def told(label: str, iteration: Iteration) -> bool:
@@ -77,12 +77,11 @@ def found_routes(job: Job, workers: Team, stopping: Stopping) -> list[Diverted]:
         print(f"{label}{iteration.line(count)}", file=sys.stderr, flush=True)
         return stopping.asked
 
-    search = Search(
-        job.town, job.ground, job.trips.all, workers, lambda one: told("before, " if works.close else "", one)
-    )
+    label = "before, " if works.close else ""
+    search = Search(job.town, job.ground, job.trips.all, workers, partial(told, label))
     given = works.close and all(trip.path for trip in job.trips.all)
     if not given:
-        search.start(job.asked.seeds[0])
+        search.give_first_ways(job.asked.seeds[0])
         search.improve(job.asked)
     judged = search.judged(job.check)
     before = Diverted(None, job.trips.all, search, judged)
@@ -91,61 +90,60 @@ def found_routes(job: Job, workers: Team, stopping: Stopping) -> list[Diverted]:
     for text in town_with_works(job.town, works).told_of_lost(job.trips.all):
         print(f"warning: {text}", file=sys.stderr)
     closing = closing_of(works, job.town.graph, search, judged)
-    return [before, *diverted(before, closing, job.asked, job.check, works.knowing, told)]
+    return [before, *search_by_share(before, closing, job.asked, job.check, works.knowing, told)]
 
 
-def write(job: Job, all_: Sequence[Diverted]) -> None:
+def write_found(job: Job, all_: Sequence[Diverted]) -> None:
     """Writes the routes, the run with its map where they are asked for, and the folder of tables and pictures, one
-    after the other, each whole or not at all (Fault); where there are many shares, routes, runs and tables of each.
-    all_: as found_routes gives it."""
-    target, many = job.target, len(all_) > 2
-    for one in all_[len(all_) > 1 :]:
-        write_routes(placed(target.routes, one.share, many), Trips(list(one.trips), job.trips.types), job.town.graph)
+    after the other, each whole or not at all (Fault); several shares have routes, runs, tables and pictures
+    each. all_: as search_routes gives it."""
+    target, many, found = job.target, len(all_) > 2, all_[1:] or all_
+    for one in found:
+        trips = Trips(list(one.trips), job.trips.types)
+        write_routes(path_for_share(target.routes, one.share, many), trips, job.town.graph)
         if target.run and target.map:
-            paths = (placed(path, one.share, many) for path in (target.run, target.map))
+            paths = (path_for_share(path, one.share, many) for path in (target.run, target.map))
             write_loaded(one.search.town.loaded(one.trips), *paths)
     with whole_folder(target.folder, NAME, AT_WISH) as folder:
-        for one in all_[len(all_) > 1 :]:
-            place = f"{folder}/{one.label.replace(' ', '-')}" if many else folder
-            os.makedirs(place, exist_ok=True)
-            write_results(place, job.town, one.trips, one.search.iterations, one.judged, setting_of(job, one, all_[0]))
-            draw(place, all_[0], one)
+        for one in found:
+            own = f"{folder}/{one.label.replace(' ', '-')}" if many else folder
+            os.makedirs(own, exist_ok=True)
+            write_results(own, one, setting_of(job, one, all_[0]))
+            draw_search(own, all_[0], one)
         if job.works.close:
             write_routes(f"{folder}/before.rou.xml", job.trips, job.town.graph)
             write_table(f"{folder}/knowing.csv", SHARES, share_rows(all_))
             write_table(f"{folder}/flows.csv", FLOWS, flow_rows(job.town.graph, all_))
         if many:
-            with whole_file(f"{folder}/{NAME}") as file:
-                json.dump({**setting_of(job, all_[0], all_[0]), "knowing": job.works.knowing}, file, indent=1)
-                file.write("\n")
+            write_setting(folder, setting_of(job, all_[0], all_[0]) | {"knowing": job.works.knowing})
 
 
-def setting_of(job: Job, one: Diverted, before: Diverted) -> dict:
-    """What setting.json has beside `figures` of the check runs: what was asked for, what the search came to, and why it
-    is not to be trusted. before: the result without works."""
+def setting_of(job: Job, one: Diverted, before: Diverted) -> Json:
+    """What setting.json has beside `check_figures` of the check runs: what was asked for, what the search came to, and
+    why it is not to be trusted. before: the result without works."""
     works, setting = job.works, job.words | {"import": asdict(job.town.options)}
     setting |= {"until": job.ground.until, "iteration": one.search.best.number, "not_trusted": list(one.doubts())}
     if works.close:
         setting |= {"close": works.close, "knowing": one.share, "sign": works.sign, "before": works.before}
-        setting["lost"] = works.lost
-        setting |= {"without_works": figures(before.judged)}
+        setting |= {"lost": works.lost, "without_works": check_figures(before.judged)}
     return setting
 
 
-def tell(job: Job, one: Diverted, before: Diverted) -> int:
+def tell_found(job: Job, one: Diverted, before: Diverted) -> int:
     """Prints what was found, and warnings to standard error; gives the exit status: 0 where the gap that was asked for
     is reached, by the search without works too, else 1. before: the result without works, or one itself."""
     label = f"{one.label}: " * (one.share is not None)
-    if is_still(one.search) and one.judged.gap > job.asked.gap:
+    if has_stalled(one.search) and one.judged.gap > job.asked.gap:
         print(
-            f"warning: {label}the gap does not fall any more: the least was seen in iteration {one.search.best.number}",
+            f"warning: {label}the ways get no better any more: the best were those of iteration "
+            f"{one.search.best.number}",
             file=sys.stderr,
         )
-    if one is not before and (why := within_gap(one, before)):
+    if one is not before and (why := why_within_gap(one, before)):
         print(f"warning: {label}{why}", file=sys.stderr)
-    mean, runs, missed = fmean(one.means()), len(one.judged.outcomes), missing(job, one, before)
+    mean, runs, missed = fmean(one.mean_trips()), len(one.judged.outcomes), gap_missed(job, one, before)
     print(
-        f"{label}mean trip {mean:.1f} s{f' ({mean - fmean(before.means()):+.1f} s by the works)' * bool(label)}, "
+        f"{label}mean trip {mean:.1f} s{f' ({mean - fmean(before.mean_trips()):+.1f} s by the works)' * bool(label)}, "
         f"gap {100 * one.judged.gap:.2f} % by {runs} seed{'s' * (runs > 1)} that the search did not see"
         f"{f': the gap of {100 * job.asked.gap:g} % is not reached{missed}' if missed is not None else ''}; "
         f"routes of iteration {one.search.best.number}"
@@ -153,7 +151,7 @@ def tell(job: Job, one: Diverted, before: Diverted) -> int:
     return 0 if missed is None else 1
 
 
-def missing(job: Job, one: Diverted, before: Diverted) -> str | None:
+def gap_missed(job: Job, one: Diverted, before: Diverted) -> str | None:
     """The words that say where the gap that was asked for is not reached: empty where only one itself misses it. None
     where it is reached. Ways without works that were given in a file are not judged."""
     without = before.judged.gap if before.search.iterations and one is not before else 0.0

@@ -1,5 +1,4 @@
-"""The run and map of trips with the ways that they have at present, made as streetsim-import makes them of a file of
-routes."""
+"""The run and map of trips with their present ways, as streetsim-import makes them of a file of routes."""
 import json
 from array import array
 from collections.abc import Sequence
@@ -17,9 +16,9 @@ from streetsim.sumo.types import Types
 from streetsim.ways.graph import Graph, graph_of_net
 from streetsim.ways.minor import Minor
 from streetsim.ways.seconds import free_seconds
-from streetsim.ways.trips import Trip, vehicles_of
+from streetsim.ways.trips import Trip, vehicles_from_trips
 from streetsim.works.asked import works_of
-from streetsim.works.sites import closed, lanes_to_join, lanes_to_lead
+from streetsim.works.sites import lanes_to_join, lanes_to_lead, with_closures
 
 
 @dataclass(slots=True)
@@ -50,8 +49,7 @@ class Town:
 
     def loaded(self, trips: Sequence[Trip]) -> Loaded:
         """The run of trips that have ways, with the town's works. Permissive greens and the choice of lanes follow the
-        routes, so it is imported anew each time; Fault where a trip cannot drive, or a limit of the program is
-        passed."""
+        routes, so it is imported anew. Fault as of with_works."""
         run, mapping = self.imported(trips, ())
         if self.works:
             run, mapping, _ = self.with_works(trips, run, mapping)
@@ -59,31 +57,29 @@ class Town:
         return Loaded(run, mapping, free)
 
     def imported(self, trips: Sequence[Trip], joint: Sequence[str], led: Sequence[str] = ()) -> tuple[Run, Map]:
-        """(run, its map) without works. joint, led: names of lanes, beside those of the options: joint lanes end in one
-        queue, and the turns of led lanes are given to the links beside. Fault where a trip is skipped, or a limit of
-        the program is passed."""
+        """(run, its map) without works. joint, led: names of lanes, beside those of the options: a joint lane is of one
+        link with a lane beside it, and the links beside led lanes get their turns. Fault where the network has no such
+        lane, a trip is skipped, or a limit of the program is passed."""
         report = Report()
         options = replace(self.options, joint=(*self.options.joint, *joint), led=(*self.options.led, *led))
-        network, lights, commands, names = converted(
-            self.net, self.types, vehicles_of(trips, self.graph), options, report
-        )
+        vehicles = vehicles_from_trips(trips, self.graph)
+        network, lights, commands, names = converted(self.net, self.types, vehicles, options, report)
         if report.skipped:
-            raise Fault(
-                f"skipped: {', '.join(f'{count} vehicles: {why}' for why, count in sorted(report.skipped.items()))}"
-            )
-        lines = lines_of(commands)
+            skipped = ", ".join(f"{count} vehicles: {why}" for why, count in sorted(report.skipped.items()))
+            raise Fault(f"skipped: {skipped}")
+        lines = [Line(0, json.dumps(command, separators=(",", ":")), command) for command in commands]
         refuse_over_limits(network, lines[0].text, names)
         return run_of("the routes", lines), map_of(network, lights, names, report)
 
     def with_works(self, trips: Sequence[Trip], run: Run, mapping: Map) -> tuple[Run, Map, list[str]]:
         """(run, its map, texts on those who lose their only lane) with the town's works, imported anew where lanes must
-        be joint or led from beside. Fault where works have another form or the map has no such lane, and where
-        `imported` raises one."""
+        be joint or led from beside. Fault where the map has no such works, and as of `imported`."""
         works = [works_of(text, mapping) for text in self.works]
         led = lanes_to_lead(works, mapping) if self.lost == "lead" else []
         if (names := lanes_to_join(works, mapping)) or led:
             run, mapping = self.imported(trips, names, led)
-        return closed(run, mapping, works, self.lost, searched=True)
+        run, told = with_closures(run, mapping, works, self.lost, searched=True)
+        return run, mapping, told
 
     def told_of_lost(self, trips: Sequence[Trip]) -> list[str]:
         """The texts on those of some trips who lose their only lane by the town's works; empty where nobody does. Fault
@@ -92,9 +88,8 @@ class Town:
 
 
 def read_town(net_path: str, additional: Sequence[str], options: Options, report: Report) -> Town:
-    """The network of a file, with the signal programs and vehicle types of additional files. Fault where a file cannot
-    be read, and where the options cut edges in parts (--slow), since ways are searched on whole edges. report: gets
-    what is to be told of the files."""
+    """The town of a network's file, with what additional files add to it and to the vehicle types. Fault where one
+    cannot be read, and where the options cut edges in parts (--slow). report: gets what is to be told of the files."""
     if options.slow:
         raise Fault("ways are searched on whole edges: import the run without --slow")
     net, types = read_net(net_path, options.classes, report), Types(options.seed, report)
@@ -104,16 +99,11 @@ def read_town(net_path: str, additional: Sequence[str], options: Options, report
 
 
 def write_loaded(loaded: Loaded, run_path: str, map_path: str) -> None:
-    """Writes a run and its map to files, as streetsim-import makes them, with the lines of its works; Fault where one
-    cannot be written."""
+    """Writes a run, with the lines of its works, and its map to files in the form of streetsim-import's; the map names
+    no files of an import. Fault where one cannot be written."""
     run = loaded.run
     timed = [json.dumps({"at": clock, **line.command}, separators=(",", ":")) for clock, line in run.timed]
     texts = [run.load.text, *(line.text for line in run.first), *timed, *(line.text for line in run.enters)]
     with whole_file(run_path) as file, whole_file(map_path) as mapped:
         file.writelines(f"{text}\n" for text in texts)
         json.dump(loaded.mapping.written(), mapped, separators=(",", ":"))
-
-
-def lines_of(commands: Sequence[dict]) -> list[Line]:
-    """Commands as lines of a run that stand in no file; their number is 0."""
-    return [Line(0, json.dumps(command, separators=(",", ":")), command) for command in commands]

@@ -1,5 +1,4 @@
-"""The search for routes from which nobody gains much by leaving them: router and runs in turn, iteration after
-iteration."""
+"""The search for routes from which nobody gains much by leaving them: router and runs in turn."""
 from collections.abc import Callable, Sequence
 from dataclasses import dataclass, field, replace
 from statistics import fmean
@@ -11,8 +10,8 @@ from streetsim.routes.giving import Passed
 from streetsim.routes.loading import Loaded, Town
 from streetsim.routes.team import Team
 from streetsim.routes.watching import Ground, Outcome
-from streetsim.ways.costs import Costs, costs_of, flat_costs, mean_of
-from streetsim.ways.empty import times_without_routes
+from streetsim.ways.costs import Costs, costs_of, flat_costs, mean_observed
+from streetsim.ways.empty import times_and_capacities_without_routes
 from streetsim.ways.router import FAR, Found, Path, Wish
 from streetsim.ways.start import first_ways
 from streetsim.ways.trips import Trip
@@ -27,9 +26,9 @@ STILL = 5  # iterations since the best one, of which is warned
 
 @dataclass(frozen=True, slots=True)
 class Asked:
-    """How a search goes. iterations: at most; gap: the relative gap at which it may end, a share of the seconds on
-    shortest ways; share: of the trips that may change, at most so many (0 to 1) change in the first iteration; seeds:
-    of its runs."""
+    """How a search goes. iterations: at most, after that of the first ways; gap: the relative gap that is wanted, a
+    share of the seconds on shortest ways; share: of the trips that may change, at most so many (0 to 1), but one at
+    least, change after the first iteration; seeds: of its runs."""
 
     iterations: int
     gap: float
@@ -67,7 +66,6 @@ class Iteration:
     changed: int
     taken_back: bool
     calls: int
-    processor: float  # seconds, of the simulator
 
     def line(self, trips: int) -> str:
         """The line that tells of this iteration; trips: how many there are in all."""
@@ -96,21 +94,22 @@ class Best:
 
 
 @dataclass(frozen=True, slots=True)
-class Step:
-    """The trips that change by a part, 1, a half, .., of the share of an iteration."""
+class Trial:
+    """The trips that change by a fraction, 1, a half, .., of the share of an iteration."""
 
-    part: float
+    fraction: float
     trips: list[Found]
 
 
 @dataclass(frozen=True, slots=True)
 class Judged:
-    """Routes, and the runs by which they are judged, with seeds that no search saw."""
+    """Routes, and the runs by which they are judged, with seeds that no search saw. costs: those that the runs
+    showed."""
 
     loaded: Loaded
     seeds: Sequence[int]
     outcomes: list[Outcome]
-    observed: Costs
+    costs: Costs
     found: list[Found]
     gap: float
 
@@ -120,14 +119,9 @@ class Search:
     gives whether the user asks for an end."""
 
     def __init__(
-        self,
-        town: Town,
-        ground: Ground,
-        trips: Sequence[Trip],
-        team: Team,
-        told: Callable[[Iteration], bool],
+        self, town: Town, ground: Ground, trips: Sequence[Trip], team: Team, told: Callable[[Iteration], bool],
         closing: Closing | None = None,
-    ) -> None:
+    ) -> None:  # fmt: skip
         """trips: in order of departure, one at least; closing: the works of the town; None where it has none."""
         self.town, self.ground, self.trips = town, ground, trips
         self.team, self.told, self.closing = team, told, closing
@@ -136,11 +130,11 @@ class Search:
         self.expected: Costs | None = None
         self.passed: list[Passed] = []  # by seed, when those passed who go first, in the last run
 
-    def start(self, seed: int) -> None:
-        """Gives first ways to the trips that have none; Fault where there is no way for one. seed: of the choices among
-        them."""
+    def give_first_ways(self, seed: int) -> None:
+        """Gives first ways to the trips that have none; Fault where there is no way for one. seed: of the order in
+        which trips choose."""
         if any(not trip.path for trip in self.trips):
-            free, capacity = times_without_routes(self.town.net, self.town.graph, self.town.options)
+            free, capacity = times_and_capacities_without_routes(self.town.net, self.town.graph, self.town.options)
             if lost := first_ways(self.town.graph, self.trips, free, capacity, seed, self.team.search):
                 trip, edges = lost[0], self.town.graph.edges
                 raise Fault(f"trip {trip.name!r}: no way from {edges[trip.origin]} to {edges[trip.target]}")
@@ -148,78 +142,81 @@ class Search:
     def improve(self, asked: Asked) -> None:
         """Searches until asked.iterations are done, the gap is well below asked.gap (OWN_SEED of it) or told gives
         True; keeps each iteration, and the best one, whose ways the trips then have. Iteration 0 comes before those
-        asked for and shows the first ways: there the gap is enough only where nobody gains more than LEAST_GAIN. It is
-        not where some who may not change were turned off before the works. Fault where a run fails."""
+        asked for and shows the first ways: there the gap is enough only where nobody gains more than LEAST_GAIN. In
+        no iteration after which some who may not change turn off before works is it enough. Fault where a run fails."""
         share = asked.share
-        steps: list[Step] = [Step(1.0, [])]
+        trials: list[Trial] = [Trial(1.0, [])]
         for number in range(asked.iterations + 1):
-            seen, part = self.best_of(asked.seeds, steps)
-            found, share = seen.found, share * part
+            seen, fraction = self.run_best_trial(asked.seeds, trials)
+            found, share = seen.found, share * fraction
             back = self.best.is_below(seen.lacking, seen.gap, TRUST)
             if not self.best.is_below(seen.lacking, seen.gap):
                 self.best = Best(seen.lacking, seen.gap, number, seen.ways, seen.passed)
-            near = seen.gap <= OWN_SEED * asked.gap and (number or not any(gain(one) > LEAST_GAIN for one in found))
+            worth = any(seconds_gained(one) > LEAST_GAIN for one in found)
+            near = seen.gap <= OWN_SEED * asked.gap and (number or not worth)
             last = number == asked.iterations or near
             if back and not last:
-                give(self.trips, self.best.ways)
+                give_ways(self.trips, self.best.ways)
                 self.passed = self.best.passed
-                found = self.searched(seen.costs)
+                found = self.best_ways(seen.costs)
             if number < asked.iterations and self.turn_off(seen.costs):
                 last = False
             share = max(LEAST_SHARE, share / 2 if back else share)
-            steps = [] if last else steps_of(found, share, asked.tried)
+            trials = [] if last else trials_of(found, share, asked.tried)
             share = share if back else share * SLOWER
-            iteration = iteration_of(number, seen.outcomes, found, seen.gap, len(steps[0].trips) if steps else 0, back)
+            iteration = iteration_of(number, seen, found, len(trials[0].trips) if trials else 0, back)
             self.iterations.append(iteration)
             if self.told(iteration) or last:
                 break
-        give(self.trips, self.best.ways)
+        give_ways(self.trips, self.best.ways)
 
-    def best_of(self, seeds: Sequence[int], steps: Sequence[Step]) -> tuple[Seen, float]:
-        """Runs the present ways with each of some steps, side by side; gives (what the best step showed, its part of
-        the share). The trips then have its ways, and its costs and passings are kept for the next. Who gives way
-        without a light waits for those who passed in the iteration before; in the first iteration for those who passed
+    def run_best_trial(self, seeds: Sequence[int], trials: Sequence[Trial]) -> tuple[Seen, float]:
+        """Runs the present ways with each of some trials, side by side; gives (what the best trial showed, its fraction
+        of the share). The trips then have its ways and entries, and its costs and passings are kept for the next. Who
+        gives way without a light waits for those whose passings are kept; in the first iteration for those who passed
         in a run in which nobody waits."""
-        ways = [paths_after(self.trips, step.trips) for step in steps]
+        ways = [paths_after(self.trips, trial.trips) for trial in trials]
         loads = [self.loaded(paths) for paths in ways]
         expected = self.expected or flat_costs(self.town.graph, loads[0].free)
         if self.ground.rounds and loads[0].mapping.yields and not self.passed:
-            self.passed = [one.passed for one in self.team.runs(loads[:1], expected, seeds, [None] * len(seeds))[0]]
+            [first] = self.team.run_cases(loads[:1], expected, seeds, [None] * len(seeds))
+            self.passed = [one.passed for one in first]
         passed: list[Passed | None] = [*self.passed] or [None] * len(seeds)
-        runs = self.team.runs(loads, expected, seeds, passed)
-        all_ = [self.seen(*case) for case in zip(ways, loads, runs, strict=True)]
-        place = min(range(len(all_)), key=lambda at: (all_[at].lacking, all_[at].gap))
-        seen = all_[place]
+        runs = self.team.run_cases(loads, expected, seeds, passed)
+        all_ = [self.give_and_see(*case) for case in zip(ways, loads, runs, strict=True)]
+        best = min(range(len(all_)), key=lambda at: (all_[at].lacking, all_[at].gap))
+        seen = all_[best]
         self.passed, self.expected = seen.passed if self.passed else [], seen.costs
-        give(self.trips, seen.ways)
-        return seen, steps[place].part
+        give_ways(self.trips, seen.ways)
+        return seen, trials[best].fraction
 
     def loaded(self, paths: Sequence[Path]) -> Loaded:
         """The run of the trips with some ways, one path for each trip."""
         return self.town.loaded([replace(trip, path=path) for trip, path in zip(self.trips, paths, strict=True)])
 
-    def seen(self, paths: Sequence[Path], loaded: Loaded, outcomes: list[Outcome]) -> Seen:
-        """What runs of some ways showed; the trips then have these ways. outcomes: of the runs, one for each seed."""
-        give(self.trips, [(path, trip.entry) for path, trip in zip(paths, self.trips, strict=True)])
-        costs = self.noted(loaded, outcomes)
-        found, lacking = self.searched(costs), len(self.trips) - min(one.arrived for one in outcomes)
+    def give_and_see(self, paths: Sequence[Path], loaded: Loaded, outcomes: list[Outcome]) -> Seen:
+        """What runs of some ways showed; the trips then have these ways and their mean entries. outcomes: by seed."""
+        give_ways(self.trips, [(path, trip.entry) for path, trip in zip(paths, self.trips, strict=True)])
+        self.note_entries(outcomes)
+        costs = self.costs_shown(loaded, outcomes)
+        found, lacking = self.best_ways(costs), len(self.trips) - min(one.arrived for one in outcomes)
         ways = [(trip.path, trip.entry) for trip in self.trips]
-        return Seen(ways, outcomes, costs, found, [one.passed for one in outcomes], gap_of(found), lacking)
+        return Seen(ways, outcomes, costs, found, [one.passed for one in outcomes], relative_gap(found), lacking)
 
-    def noted(self, loaded: Loaded, outcomes: Sequence[Outcome]) -> Costs:
-        """Notes for each trip its mean entry, a clock, in some runs of the trips, and gives the costs that these runs
-        showed."""
+    def note_entries(self, outcomes: Sequence[Outcome]) -> None:
+        """Notes for each trip its mean entry, a clock, in some runs of the trips."""
         for at, trip in enumerate(self.trips):
             trip.entry = fmean(one.entries[at] for one in outcomes)
-        observed = mean_of([one.observed for one in outcomes])
+
+    def costs_shown(self, loaded: Loaded, outcomes: Sequence[Outcome]) -> Costs:
+        """The costs that some runs of the trips showed."""
+        observed = mean_observed([one.observed for one in outcomes])
         return costs_of(self.town.graph, loaded.free, observed, self.ground.width, self.town.minor)
 
-    def searched(self, costs: Costs) -> list[Found]:
-        """The best ways of the trips that may change, by some costs; the trips keep theirs."""
+    def best_ways(self, costs: Costs) -> list[Found]:
+        """The best ways of the trips that may change, by some costs, round what is shut; the trips keep theirs."""
         wishes = [
-            Wish(at, trip.origin, trip.target, trip.entry, trip.path)
-            for at, trip in enumerate(self.trips)
-            if trip.changes
+            Wish(at, one.origin, one.target, one.entry, one.path) for at, one in enumerate(self.trips) if one.changes
         ]
         return self.team.search(wishes, costs, self.closing.shut if self.closing else None)
 
@@ -236,76 +233,67 @@ class Search:
         """What the present ways are worth, by runs with seeds that the search did not see; each run finds its own gaps
         for those who give way. The trips' mean entries are noted."""
         loaded = self.town.loaded(self.trips)
-        outcomes = self.team.checks(loaded, self.expected or flat_costs(self.town.graph, loaded.free), seeds)
-        costs = self.noted(loaded, outcomes)
-        found = self.searched(costs)
-        return Judged(loaded, seeds, outcomes, costs, found, gap_of(found))
+        outcomes = self.team.run_checks(loaded, self.expected or flat_costs(self.town.graph, loaded.free), seeds)
+        self.note_entries(outcomes)
+        costs = self.costs_shown(loaded, outcomes)
+        found = self.best_ways(costs)
+        return Judged(loaded, seeds, outcomes, costs, found, relative_gap(found))
 
 
-def is_still(search: Search) -> bool:
+def has_stalled(search: Search) -> bool:
     """Whether the best iteration is STILL or more before the last one. The best is not by the gap alone: more trips
     arrive in it, or as many with a smaller gap (Best); of equal ones it is the last. False before any iteration."""
     return bool(search.iterations) and search.iterations[-1].number - search.best.number >= STILL
 
 
-def give(trips: Sequence[Trip], ways: Sequence[tuple[Path, float]]) -> None:
+def give_ways(trips: Sequence[Trip], ways: Sequence[tuple[Path, float]]) -> None:
     """Gives each trip its way and entry, of ways in the order of the trips."""
     for trip, (path, entry) in zip(trips, ways, strict=True):
         trip.path, trip.entry = path, entry
 
 
-def paths_after(trips: Sequence[Trip], step: Sequence[Found]) -> list[Path]:
-    """The ways of all trips once those of a step have changed to the ways found; the trips themselves stay."""
+def paths_after(trips: Sequence[Trip], changed: Sequence[Found]) -> list[Path]:
+    """The ways of all trips once some have changed to the ways found for them; the trips themselves stay."""
     paths = [trip.path for trip in trips]
-    for one in step:
+    for one in changed:
         paths[one.trip] = one.path
     return paths
 
 
-def gain(found: Found) -> float:
+def seconds_gained(found: Found) -> float:
     """The seconds that a trip would gain by its best way; 0 where no way was found."""
     return max(0.0, found.own - found.least) if found.path else 0.0
 
 
-def gap_of(found: Sequence[Found]) -> float:
+def relative_gap(found: Sequence[Found]) -> float:
     """The relative gap: what all could gain together, over the seconds of their shortest ways. 0 where nobody may
     change, or no way was found for any."""
     least = sum(one.least for one in found if one.path)
-    return sum(map(gain, found)) / least if least else 0.0
+    return sum(map(seconds_gained, found)) / least if least else 0.0
 
 
-def changes(found: Sequence[Found], share: float) -> list[Found]:
+def those_who_change(found: Sequence[Found], share: float) -> list[Found]:
     """The trips that change, in order of trips: of those who gain more than LEAST_GAIN seconds the ones with the
     greatest relative loss, at most a share (0 to 1) of all found, but at least one. Empty where nobody gains so
     much."""
-    worth = sorted(
-        (one for one in found if gain(one) > LEAST_GAIN), key=lambda one: (-gain(one) / max(1.0, one.least), one.trip)
-    )
+    worth = [one for one in found if seconds_gained(one) > LEAST_GAIN]
+    worth.sort(key=lambda one: (-seconds_gained(one) / max(1.0, one.least), one.trip))
     return sorted(worth[: max(1, int(len(found) * share))], key=lambda one: one.trip)
 
 
-def steps_of(found: Sequence[Found], share: float, tried: int) -> list[Step]:
-    """Steps of trips that change: by the share (part 1), by half of it (part 0.5), and so on, tried of them; one with
-    no fewer trips than the one before it is left out."""
-    steps = [Step(1 / 2**at, changes(found, share / 2**at)) for at in range(tried)]
-    return [step for at, step in enumerate(steps) if at == 0 or len(step.trips) < len(steps[at - 1].trips)]
+def trials_of(found: Sequence[Found], share: float, tried: int) -> list[Trial]:
+    """Trials of trips that change: by the share (fraction 1), by half of it (fraction 0.5), and so on, tried of them;
+    one with no fewer trips than the one before it is left out."""
+    trials = [Trial(1 / 2**at, those_who_change(found, share / 2**at)) for at in range(tried)]
+    return [trial for at, trial in enumerate(trials) if at == 0 or len(trial.trips) < len(trials[at - 1].trips)]
 
 
-def iteration_of(
-    number: int, outcomes: Sequence[Outcome], found: Sequence[Found], gap: float, changed: int, back: bool
-) -> Iteration:
-    """What is kept of an iteration: of its runs, of its searches, of its relative gap, and how many trips change next
-    (changed); back: whether its routes were taken back."""
+def iteration_of(number: int, seen: Seen, found: Sequence[Found], changed: int, back: bool) -> Iteration:
+    """What is kept of an iteration: of what its runs showed, of its searches, and how many trips change next (changed);
+    back: whether its routes were taken back."""
     return Iteration(
-        number=number,
-        mean=fmean(one.mean for one in outcomes),
-        arrived=min(one.arrived for one in outcomes),
-        rescues=sum(one.rescues for one in outcomes),
-        gap=gap,
-        cost=fmean(one.own for one in found) if found else 0.0,
-        may_change=len(found),
-        changed=changed,
-        taken_back=back,
-        calls=max(one.calls for one in outcomes),
-        processor=sum(one.processor for one in outcomes),
-    )
+        number=number, mean=fmean(one.mean for one in seen.outcomes),
+        arrived=min(one.arrived for one in seen.outcomes), rescues=sum(one.rescues for one in seen.outcomes),
+        gap=seen.gap, cost=fmean(one.own for one in found) if found else 0.0, may_change=len(found), changed=changed,
+        taken_back=back, calls=max(one.calls for one in seen.outcomes),
+    )  # fmt: skip

@@ -7,15 +7,15 @@ from streetsim.base.jobs import CORES
 from streetsim.base.report import Report
 from streetsim.model.mapping import Map
 from streetsim.model.runs import Run
-from streetsim.model.sources import digest_of, sources_of
+from streetsim.model.sources import program_digest, sources_of
 from streetsim.routes.closing import Shutting
-from streetsim.routes.diverting import Diverted, closing_of, diverted
+from streetsim.routes.diverting import Diverted, closing_of, search_by_share
 from streetsim.routes.loading import read_town
 from streetsim.routes.search import Asked, Iteration, Search
 from streetsim.routes.team import team
 from streetsim.routes.watching import Ground
 from streetsim.sumo.converting import options_again
-from streetsim.ways.trips import connected, read_trips
+from streetsim.ways.trips import connected_trips, read_trips
 
 ASKED = Asked(iterations=10, gap=0.02, share=0.2, seeds=range(1, 2))
 CHECK = range(101, 104)
@@ -26,8 +26,8 @@ SLICE = 300
 class Wished:
     """What a variant of a study asks of the ways of its vehicles, and how its runs are made."""
 
-    close: Sequence[str]  # works, which a share of drivers know of
-    knowing: float
+    close: Sequence[str]  # works, as streetsim-run --close takes them
+    knowing: float  # share of drivers who know of them, 0 to 1
     joint: Iterable[str]  # further lanes that are joint, as in the variants to compare with
     program: str
     until: int
@@ -37,19 +37,18 @@ class Wished:
     lost: str = "lead"  # what those do who lose their only lane, of works.movements.LOST
 
 
-def routed(run: Run, mapping: Map, map_path: str, wished: Wished, where: str) -> tuple[Run, Map, list[str]]:
-    """The run and its map with ways that a search of ten iterations, printed on standard error, finds for the vehicles
-    of its import, round the works of the variant where it has any; and the texts that speak against these ways.
+def run_on_found_ways(run: Run, mapping: Map, map_path: str, wished: Wished, where: str) -> tuple[Run, Map, list[str]]:
+    """The run, with the works of the variant if it has any, and its map, with ways that a search of ten iterations,
+    printed on standard error, finds for the vehicles of its import; and the texts that speak against these ways.
     map_path: of the map's file; where: the variant, named in what is told. Fault where a file of the import is gone or
     has changed, a trip has no way, or a run fails."""
     sources = sources_of(mapping.sources, map_path, run.path)
     options = options_again(mapping, joint=wished.joint)
     town = read_town(sources.net, sources.additional, options, Report())
     trips = read_trips([*sources.routes, *sources.trips], town.net, town.graph, town.types, options, Report())
-    trips.all = connected(trips.all, town.net, town.graph, options.ignore_route_errors, Report())
-    ground = Ground(
-        wished.program, digest_of(wished.program), town.graph, SLICE, wished.until, wished.rounds, wished.driven
-    )
+    trips.all = connected_trips(trips.all, town.net, town.graph, options.ignore_route_errors, Report())
+    program, until = wished.program, wished.until
+    ground = Ground(program, program_digest(program), town.graph, SLICE, until, wished.rounds, wished.driven)
 
     def told(label: str, one: Iteration) -> bool:
         """Prints an iteration on standard error; gives False, as nobody ends this search."""
@@ -58,12 +57,12 @@ def routed(run: Run, mapping: Map, map_path: str, wished: Wished, where: str) ->
 
     with team(ground, CORES, None) as workers:
         search = Search(town, ground, trips.all, workers, lambda one: told("", one))
-        search.start(ASKED.seeds[0])
+        search.give_first_ways(ASKED.seeds[0])
         if wished.close:
             before = Diverted(None, trips.all, search, search.judged(CHECK))
             asked = Shutting(wished.close, (), wished.lost)
             closing = closing_of(asked, town.graph, search, before.judged)
-            search = next(diverted(before, closing, ASKED, CHECK, [wished.knowing], told)).search
+            search = next(search_by_share(before, closing, ASKED, CHECK, [wished.knowing], told)).search
         else:
             search.improve(ASKED)
     loaded = search.town.loaded(search.trips)

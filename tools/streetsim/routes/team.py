@@ -4,10 +4,10 @@ from collections.abc import Iterator, Sequence
 
 from streetsim.routes.giving import Passed
 from streetsim.routes.loading import Loaded
-from streetsim.routes.watching import Ground, Outcome, checked, watched
+from streetsim.routes.watching import Ground, Outcome, check_outcome, trial_outcome
 from streetsim.sessions.machines import Machines, machines
 from streetsim.ways.costs import Costs
-from streetsim.ways.router import Found, Router, Shut, Wish, parts_of
+from streetsim.ways.router import Found, Router, Shut, Wish, wish_parts
 
 CLUSTER_PARTS = 16  # of a search
 
@@ -22,31 +22,29 @@ class Team:
     def search(self, wishes: Sequence[Wish], costs: Costs, shut: Shut | None = None) -> list[Found]:
         """What the router finds for wishes, in the order of trips; shut: (first, last) seconds, from first to before
         last, by edge or movement, None: nothing is shut. Fault where a worker is lost."""
-        parts = parts_of(wishes, self.parts)
+        parts = wish_parts(wishes, self.parts)
         tasks = [(f"part {at} of a search", search_part, 0, part, costs, shut) for at, part in enumerate(parts, 1)]
         return sorted((found for part in self.workers.ordered(tasks) for found in part), key=lambda found: found.trip)
 
-    def runs(
+    def run_cases(
         self, cases: Sequence[Loaded], expected: Costs, seeds: Sequence[int], passed: Sequence[Passed | None]
     ) -> list[list[Outcome]]:
-        """What runs of some cases with each seed show, by case and then by seed. expected: as of watched; passed: for
-        each seed, when those who go first passed in the run before; None where nobody waits for them. Fault where a run
-        fails or a worker is lost."""
+        """What runs of some cases with each seed show, by case and then by seed. expected: as of trial_outcome;
+        passed: for each seed, when those who go first passed in the run before; None where nobody waits for them. Fault
+        where a run fails or a worker is lost."""
         pairs = list(zip(seeds, passed, strict=True))
         tasks = [
-            (f"the run with seed {seed}", watched, 0, loaded.run, loaded.mapping, expected, seed, before)
+            (f"the run with seed {seed}", trial_outcome, 0, loaded.run, loaded.mapping, expected, seed, before)
             for loaded in cases for seed, before in pairs
         ]  # fmt: skip
         outcomes = self.workers.ordered(tasks)
         return [[next(outcomes) for _ in seeds] for _ in cases]
 
-    def checks(self, loaded: Loaded, expected: Costs, seeds: Sequence[int]) -> list[Outcome]:
+    def run_checks(self, loaded: Loaded, expected: Costs, seeds: Sequence[int]) -> list[Outcome]:
         """The outcomes of runs with each seed, each of which first finds its own gaps for those who give way without a
-        light. expected: as of watched. Fault where a run fails or a worker is lost."""
-        tasks = [
-            (f"the run with seed {seed}", checked, 0, loaded.run, loaded.mapping, expected, seed) for seed in seeds
-        ]
-        return list(self.workers.ordered(tasks))
+        light. expected: as of trial_outcome. Fault where a run fails or a worker is lost."""
+        case = check_outcome, 0, loaded.run, loaded.mapping, expected
+        return list(self.workers.ordered([(f"the run with seed {seed}", *case, seed) for seed in seeds]))
 
 
 @contextlib.contextmanager

@@ -10,7 +10,7 @@ from streetsim.model.runs import Run
 from streetsim.run.settings import Settings
 
 MINUTE = 60
-EVERY = 10  # seconds between polls, where none are asked for
+EVERY = 10  # seconds between polls, where no others are asked for
 SAMPLES = 30  # polls of a lane in a period are enough for its mean speed and density
 RICH = 10  # so many polls of all lanes in a period do as well
 # Seconds of a processor: of a look at a lane, of a second of a vehicle on its way, and of a vehicle's lines.
@@ -25,7 +25,7 @@ class Asking:
 
     every: int  # seconds between polls of the lanes; 0: none
     measured: list[Place]  # (link, lane) with a detector, at which speeds and densities are sampled
-    samples: int  # polls of those a period; 0: the polls of all lanes do
+    samples: int  # polls of those a period; 0: none but the polls of all lanes
     # Lists of the other lanes, each for a further run that repeats this one.
     further: list[list[Place]] = field(default_factory=list)
 
@@ -33,36 +33,27 @@ class Asking:
 def asking_of(
     run: Run, settings: Settings, places: Sequence[Place], polled: Collection[Place], detectors: int
 ) -> Asking:
-    """What a run asks. places: all (link, lane) of the map; polled: those of them that are looked at at each poll;
-    detectors: how many detectors of SUMO's the run places. A run has 1,024 detectors: what these and the lights do not
-    take is for lanes, the most used first; those that get none are in `further`, where the settings want all
-    counted."""
+    """What a run asks. places: all (link, lane) of the map; polled: those of them that are polled; detectors: how many
+    of SUMO's the run places. What these and the lights leave of a run's 1,024 detectors is for lanes, the most used
+    first; those that get none are in `further`, where the settings want all counted."""
     every = EVERY if settings.every is None else settings.every
-    here = limits.METERS - detectors - settings.lights.meters
+    here = limits.METERS - detectors - settings.lights.detector_count
     use = Counter(link for line in run.enters for link in line.command["plan"])
     lanes = sorted(places, key=lambda place: -use[place[0]]) if len(places) > here else list(places)
     rich = every and settings.period >= RICH * every and len(polled) == len(places)
-    further = range(here, len(lanes), limits.METERS) if settings.all_counted else ()
-    return Asking(
-        every, lanes[:here], 0 if rich else samples_of(settings), [lanes[at : at + limits.METERS] for at in further]
-    )
-
-
-def repeated(settings: Settings, lanes: Sequence[Place]) -> Asking:
-    """What a further run asks, which repeats one with detectors on other lanes: only these are polled, at the samples
-    of a period, and never all lanes. lanes: those to measure, (link, lane)."""
-    return Asking(0, list(lanes), samples_of(settings))
+    starts = range(here, len(lanes), limits.METERS) if settings.all_counted else ()
+    further = [lanes[at : at + limits.METERS] for at in starts]
+    return Asking(every, lanes[:here], 0 if rich else samples_of(settings), further)
 
 
 def samples_of(settings: Settings) -> int:
-    """How many times in a period lanes are sampled; SAMPLES, or for a short one every other second; 0 where a period is
-    a second."""
+    """How often lanes are sampled in a period: SAMPLES times, or in a short one every other second; 0 in one of 1 s."""
     return min(SAMPLES, settings.period // 2)
 
 
 def told_of_polls(run: Run, mapping: Map, settings: Settings) -> str:
-    """What is told before a run whose polls of lanes take longer than the run itself (and than LONG seconds), with a
-    longer interval to ask for; empty for other runs."""
+    """What is told before a run whose polls of lanes, as reckoned, take longer than the run itself (and than LONG
+    seconds), with an interval to ask for or 0 for no polls; empty for other runs."""
     places, steps = mapping.lanes(), settings.until - run.start()
     every = EVERY if settings.every is None else settings.every
     polled = [place for place in places if not settings.edges or mapping.links[place[0]].edge in settings.edges]

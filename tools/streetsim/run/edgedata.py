@@ -1,9 +1,8 @@
 """Speeds and densities of edges by period, as SUMO's edgeData, from detectors at stop lines and polls of lanes."""
-from __future__ import annotations
-
 from collections import Counter, defaultdict
 from collections.abc import Iterable, Iterator, Mapping, Sequence
 from math import floor
+from typing import Self
 
 from streetsim.base.client import Row
 from streetsim.model.detectors import Cells
@@ -22,24 +21,21 @@ class Samples:
         """start: the run's first clock; period: seconds; count: samples in a period, 0: none ever."""
         self.start, self.period, self.count = start, period, count
 
-    def after(self, clock: int) -> int | None:
+    def next_clock(self, clock: int) -> int | None:
         """The first clock after this one at which lanes are sampled; None where they never are."""
-        if not self.count:
-            return None
         at = (clock - self.start) // self.period
-        return min(time for part in (at, at + 1) for time in self.within(part) if time > clock)
+        return min((time for part in (at, at + 1) for time in self.clocks_in(part) if time > clock), default=None)
 
-    def within(self, at: int) -> list[int]:
-        """The clocks of the samples in a period, by its number from 0; they rise, and lie after its begin. Not for a
-        count of 0."""
-        size = self.period / self.count
+    def clocks_in(self, at: int) -> list[int]:
+        """The clocks of the samples in a period, by its number from 0; they rise, and lie after its begin."""
+        size = self.period / max(1, self.count)
         shares = ((place + at * self.count) * GOLDEN % 1 for place in range(self.count))
         return [self.start + at * self.period + 1 + floor((place + share) * size) for place, share in enumerate(shares)]
 
 
 class Edgedata:
-    """What was seen on links in each period, numbered from 0: sums over samples until finish is called, then means, to
-    which those of other lanes can be added."""
+    """What was seen on links in each period, numbered from 0: sums over samples until turn_into_means is called, then
+    means, to which those of other lanes can be added."""
 
     def __init__(self, start: int, period: int) -> None:
         """start: the run's first clock; period: seconds."""
@@ -52,7 +48,7 @@ class Edgedata:
         self.taken: Counter[tuple[int, int]] = Counter()  # by (period, link): vehicles taken out
         self.known: dict[Place, frozenset[int]] = {}  # by (link, lane): the periods in which it was sampled
 
-    def sample(self, clock: int, seen: Seen) -> None:
+    def note_sample(self, clock: int, seen: Seen) -> None:
         """Notes the vehicles of a sample and their speeds, in cells a step; seen: (link, cells of a lane's reply)."""
         period = (clock - 1 - self.start) // self.period
         self.samples[period] += 1
@@ -60,29 +56,26 @@ class Edgedata:
             self.vehicles[period, link] += len(cells)
             self.speeds[period, link] += sum(entry[2] for entry in cells)
 
-    def end(self, clock: int, seen: Seen) -> None:
-        """Notes how many vehicles are on the cells of links at the clock at which a period ends; seen: (link, cells of
-        a lane's reply)."""
+    def note_period_end(self, clock: int, seen: Seen) -> None:
+        """Notes how many vehicles are on cells of links as a period or the run ends; seen: (link, cells of a lane)."""
         at_end = self.standing[clock]
         for link, cells in seen:
             at_end[link] += len(cells)
 
-    def take(self, clock: int, link: int) -> None:
+    def note_taken_out(self, clock: int, link: int) -> None:
         """Notes that a vehicle is taken out of the cells of a link, from this clock on."""
         self.taken[(clock - self.start) // self.period, link] += 1
 
-    def finish(self, places: Iterable[Place]) -> Edgedata:
-        """Turns the sums into means of a sample, which is to be done once; places: the (link, lane) that were sampled.
-        Gives itself."""
+    def turn_into_means(self, places: Iterable[Place]) -> None:
+        """Turns the sums of samples into means, to be done once; places: the (link, lane) that were sampled."""
         for sums in (self.vehicles, self.speeds):
             for period, link in sums:
                 # The stubs have whole counts alone.
                 sums[period, link] /= self.samples[period]  # type: ignore[assignment]
         self.known = dict.fromkeys(places, frozenset(self.samples))
-        return self
 
-    def add(self, other: Edgedata) -> None:
-        """Adds what a run that repeats this one saw on other lanes; both must be finished."""
+    def add_lanes(self, other: Self) -> None:
+        """Adds the means of other lanes from a run that repeats this one; both have means. Who was taken out stays."""
         self.vehicles.update(other.vehicles)
         self.speeds.update(other.speeds)
         self.known.update(other.known)
@@ -94,10 +87,7 @@ def edge_rows(counts: Mapping[Place, Mapping[int, Row]], data: Edgedata, mapping
     """The rows of edges.csv, (begin, end, edge, entered, left, vehicles a kilometre, km/h, travel time in seconds), of
     each period and edge; edges of which a lane has no count are left out, and None stands for what is not known."""
     periods = sorted({(row.start, row.steps) for rows in counts.values() for row in rows.values()})
-    lanes = {
-        edge: [(link, lane) for link in links for lane in range(len(mapping.links[link].lanes))]
-        for edge, links in mapping.links_of.items()
-    }
+    lanes = {edge: mapping.lanes(links) for edge, links in mapping.links_of.items()}
     for begin, steps in periods:
         for edge, places in lanes.items():
             if all(begin in counts.get(place, ()) for place in places):

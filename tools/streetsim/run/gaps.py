@@ -8,12 +8,12 @@ from itertools import accumulate, groupby
 from streetsim.base import limits
 from streetsim.model.mapping import Map, Place
 from streetsim.model.runs import Line
-from streetsim.model.waiting import Foe, Pace, TurnKey, Waiting
+from streetsim.model.waiting import Foe, GivingWay, Pace, TurnKey
 
 State = tuple[int, ...]  # for each group whether it is red
 Group = tuple[Sequence[TurnKey], Sequence[int]]  # turns that give way, and for each second whether they are red
 # {(link, lane): [(second, next link, the second at which it would have come to the line were nobody in its way)]}
-Passed = Mapping[Place, Sequence[tuple[float, int, float]]]
+StopLinePassings = Mapping[Place, Sequence[tuple[float, int, float]]]
 Times = Mapping[TurnKey, Sequence[float]]  # when vehicles pass, by turn
 Stands = Mapping[tuple[TurnKey, float], float]  # {(turn, second): how long the one that passes then stood at the line}
 AROUND = 300  # seconds before and after, in which those that go first are counted
@@ -27,15 +27,15 @@ FOLLOWING = 2.0  # seconds behind another, after which one is the first of its l
 UNSEEN, MOST_SEEN = 3.0, 30.0
 
 
-def gap_lines(mapping: Map, passed: Passed, start: int) -> list[tuple[int, Line]]:
-    """The signal lines, (clock, line), for nodes without a light where vehicles give way: green in the gaps between
-    those who go first. passed: when vehicles passed in a run; start: the run's first clock."""
-    return lines_of(mapping, reds_of(mapping, passed, start), start)
+def gap_lines(mapping: Map, passed: StopLinePassings, start: int) -> list[tuple[int, Line]]:
+    """The signal lines, (clock, line), rising, for nodes without a light where vehicles give way: green in the
+    gaps between those who go first. passed: when vehicles passed in a run; start: the run's first clock."""
+    return signal_lines(mapping, reds_of(mapping, passed, start), start)
 
 
-def reds_of(mapping: Map, passed: Passed, start: int) -> list[tuple[Waiting, bytearray]]:
-    """(one who gives way, a byte for each second from start, 1: red) for each Waiting of a map; those before whom
-    nobody comes, and that have no pace, are left out. Arguments: as of gap_lines."""
+def reds_of(mapping: Map, passed: StopLinePassings, start: int) -> list[tuple[GivingWay, bytearray]]:
+    """(one who gives way, a byte for each second from start to TAIL after the last passing, 1: red) for each GivingWay
+    of a map; those before whom nobody comes, and that have no pace, are left out. Arguments: as of gap_lines."""
     end = int(max((second for each in passed.values() for second, *_ in each), default=start)) + TAIL
     times = by_turn(passed)
     stands = stands_of(passed, {turn for one in mapping.yields for turn in one.turns})
@@ -43,7 +43,7 @@ def reds_of(mapping: Map, passed: Passed, start: int) -> list[tuple[Waiting, byt
     return [(one, red) for one, red in reds if red is not None]
 
 
-def lines_of(mapping: Map, reds: Iterable[tuple[Waiting, Sequence[int]]], start: int) -> list[tuple[int, Line]]:
+def signal_lines(mapping: Map, reds: Iterable[tuple[GivingWay, Sequence[int]]], start: int) -> list[tuple[int, Line]]:
     """The signal lines, (clock, line), of what reds_of gave, by rising clocks; start: the run's first clock."""
     turns_at: defaultdict[int, list[TurnKey]] = defaultdict(list)
     groups_at: defaultdict[int, list[Group]] = defaultdict(list)
@@ -55,8 +55,8 @@ def lines_of(mapping: Map, reds: Iterable[tuple[Waiting, Sequence[int]]], start:
     return sorted(found, key=lambda pair: (pair[0], pair[1].command["node"]))
 
 
-def by_turn(passed: Passed) -> dict[TurnKey, list[float]]:
-    """When vehicles passed, by turn in place of lane, {(link, lane, next link): [second]}."""
+def by_turn(passed: StopLinePassings) -> dict[TurnKey, list[float]]:
+    """When vehicles passed, by turn and not by lane, {(link, lane, next link): [second]}."""
     times: defaultdict[TurnKey, list[float]] = defaultdict(list)
     for (link, lane), each in passed.items():
         for second, following, _ in each:
@@ -64,10 +64,10 @@ def by_turn(passed: Passed) -> dict[TurnKey, list[float]]:
     return times
 
 
-def stands_of(passed: Passed, waits: Collection[TurnKey]) -> Stands:
+def stands_of(passed: StopLinePassings, waits: Collection[TurnKey]) -> Stands:
     """For how many seconds those who give way stood at their line in the way of others, by turn and second: those
     beyond UNSEEN, MOST_SEEN at most; who stood for UNSEEN or less is left out. waits: the turns that give way."""
-    stood = ((place, *one) for place, each in passed.items() for one in standing(each))
+    stood = ((place, *one) for place, each in passed.items() for one in standing_seconds(each))
     return {
         ((*place, following), second): min(MOST_SEEN, seconds - UNSEEN)
         for place, second, following, seconds in stood
@@ -75,10 +75,10 @@ def stands_of(passed: Passed, waits: Collection[TurnKey]) -> Stands:
     }
 
 
-def standing(passing: Iterable[tuple[float, int, float]]) -> Iterator[tuple[float, int, float]]:
+def standing_seconds(passing: Iterable[tuple[float, int, float]]) -> Iterator[tuple[float, int, float]]:
     """(second, next link, how many seconds it stood) of each vehicle that passes the line of a lane, by rising seconds:
     from when it came there, or the one before it was FOLLOWING seconds gone; below 0 where it passes sooner than that.
-    passing: as the values of Passed."""
+    passing: as the values of StopLinePassings."""
     free = -math.inf
     for second, following, due in sorted(passing):
         yield second, following, second - max(due, free)
@@ -87,7 +87,7 @@ def standing(passing: Iterable[tuple[float, int, float]]) -> Iterator[tuple[floa
 
 def node_lines(node: int, turns: Sequence[TurnKey], groups: Sequence[Group], start: int) -> Iterator[tuple[int, Line]]:
     """The signal lines of a node, (clock, line), from the clock start on. turns: all of the node; groups: turns that
-    give way, with a byte for each second, 1: red. Other turns are always green, and after the last second all are."""
+    give way, with a byte for each second, 1: red. Other turns are always green, and all for PHASE_STEPS at the end."""
     waits = {turn for each, _ in groups for turn in each}
     always = [turn for turn in turns if turn not in waits]
 
@@ -97,7 +97,7 @@ def node_lines(node: int, turns: Sequence[TurnKey], groups: Sequence[Group], sta
         turns = sorted([*always, *shown])
         return turns, ",".join(f"[{link},{lane},{following}]" for link, lane, following in turns)
 
-    phases = [*phases_of([red for _, red in groups]), (limits.PHASE_STEPS, (0,) * len(groups))]
+    phases = [*phases_of_reds([red for _, red in groups]), (limits.PHASE_STEPS, (0,) * len(groups))]
     shown = {state: green(state) for state in {state for _, state in phases}}
     begins = list(accumulate((length for length, _ in phases), initial=start))
     for first in range(0, len(phases), limits.PHASES):
@@ -109,7 +109,7 @@ def node_lines(node: int, turns: Sequence[TurnKey], groups: Sequence[Group], sta
         yield clock, Line(0, text, {"cmd": "signal", "node": node, "offset": offset, "phases": told})
 
 
-def phases_of(reds: Sequence[Sequence[int]]) -> list[tuple[int, State]]:
+def phases_of_reds(reds: Sequence[Sequence[int]]) -> list[tuple[int, State]]:
     """The phases of a node, (seconds, (red or not by group)): each is a stretch of seconds in which no group changes,
     of PHASE_STEPS at most. reds: for each group a byte for each second, 1: red."""
     made = []
@@ -121,13 +121,10 @@ def phases_of(reds: Sequence[Sequence[int]]) -> list[tuple[int, State]]:
     return made
 
 
-def red_seconds(
-    waiting: Waiting, times: Times, start: int, end: int, stands: Stands | None = None
-) -> bytearray | None:
-    """For the turns of one Waiting a byte for each second from start to end (that one left out), 1 where they are red
-    as somebody comes who goes first, so that they use a gap slowly, or to keep their pace; None where nobody comes and
-    they have no pace. times: when vehicles pass, by turn; stands: how long those stood at the line who give way too,
-    and so were in the way before they passed, None: nobody did."""
+def red_seconds(waiting: GivingWay, times: Times, start: int, end: int, stands: Stands = {}) -> bytearray | None:
+    """For the turns of one GivingWay a byte for each second from start to before end, 1: red, as somebody comes
+    who goes first, so that they use a gap slowly, or to keep their pace; be_patient makes some green. None where nobody
+    comes and they have no pace. times: when vehicles pass, by turn; stands: as stands_of gives them."""
     comes = [(second, foe) for foe in waiting.foes for second in times.get((foe.link, foe.lane, foe.next), ())]
     comes.sort(key=lambda one: one[0])
     if not comes and waiting.pace is None:
@@ -136,11 +133,11 @@ def red_seconds(
     for second, foe in comes:
         if not foe.gap.seconds:  # all stop, and go in turn
             continue
-        stood = stands.get(((foe.link, foe.lane, foe.next), second), 0.0) if stands else 0.0
-        length = foe.gap.before(*counts.around(second, foe)) + stood + foe.gap.after + owed
+        stood = stands.get(((foe.link, foe.lane, foe.next), second), 0.0)
+        length = foe.gap.before(*counts.flows_around(second, foe)) + stood + foe.gap.after + owed
         owed = length % 1
         last = round(second + foe.gap.after) - start
-        close(red, last - int(length), last)
+        mark(red, last - int(length), last)
     if any(foe.slow for _, foe in comes):
         for sooner, later in followings(sorted(second for turn in waiting.turns for second in times.get(turn, ()))):
             slow_down(red, int(sooner) - start, int(later) - start)
@@ -150,14 +147,14 @@ def red_seconds(
     return red
 
 
-def near_passings(waiting: Waiting, times: Times, start: int, length: int) -> bytearray:
+def near_passings(waiting: GivingWay, times: Times, start: int, length: int) -> bytearray:
     """A byte for each of length seconds from the start, 1 where somebody passes then, or up to CLOSE seconds before or
-    after, on a lane of turns that give way. All of a lane count, wherever they turn, as they wait for one another."""
+    after, on a lane of its turns. All of a lane count, wherever they turn, as they wait for one another."""
     lanes = {(link, lane) for link, lane, _ in waiting.turns}
     near = bytearray(length)
     for (link, lane, _), seconds in times.items():
         for second in seconds if (link, lane) in lanes else ():
-            close(near, int(second) - CLOSE - start, int(second) + CLOSE - start)
+            mark(near, int(second) - CLOSE - start, int(second) + CLOSE - start)
     return near
 
 
@@ -190,7 +187,7 @@ class Counts:
         """(on the lane of a foe, on its street, on all): the seconds at which vehicles come."""
         return self.by_lane[foe.link, foe.lane], self.by_street[foe.street], self.every
 
-    def around(self, second: float, foe: Foe) -> tuple[float, ...]:
+    def flows_around(self, second: float, foe: Foe) -> tuple[float, ...]:
         """(on the lane of a foe, on its street, on all): vehicles an hour around a second."""
         return tuple(hourly_around(times, second) for times in self.lists_of(foe))
 
@@ -201,11 +198,10 @@ def hourly_around(times: Sequence[float], second: float) -> float:
     return count * 3600 / (2 * AROUND)
 
 
-def close(red: bytearray, first: int, last: int) -> None:
-    """Makes the bytes of red (one a second, from its begin) from first to before last 1, which is red; those outside of
-    it are passed over. last: 0 at least."""
-    first, last = max(0, first), min(len(red), last)
-    red[first:last] = b"\1" * (last - first)
+def mark(seconds: bytearray, first: int, last: int) -> None:
+    """Makes the bytes from first to before last 1, as far as there are any."""
+    first, last = max(0, first), max(0, min(len(seconds), last))
+    seconds[first:last] = b"\1" * (last - first)
 
 
 def followings(seconds: Sequence[float]) -> Iterator[tuple[float, float]]:
@@ -224,17 +220,10 @@ def slow_down(red: bytearray, first: int, last: int) -> None:
     SHOWN, so that no more vehicles use the gap than can. Those of a gap that goes on may lie after last."""
     at = red.find(0, max(0, first), max(0, last))
     while at >= 0:
-        close(red, at + SHOWN, at + SHOWN + HIDDEN)
+        mark(red, at + SHOWN, at + SHOWN + HIDDEN)
         at = red.find(0, at + SHOWN + HIDDEN, last)
 
 
 def be_patient(red: bytearray) -> None:
     """Makes the last one of each PATIENCE seconds that are red without a break green, so that one vehicle goes."""
-    at = red.find(1)
-    while at >= 0:
-        end = red.find(0, at)
-        if (len(red) if end < 0 else end) - at < PATIENCE:
-            at = red.find(1, end) if end >= 0 else -1
-        else:
-            red[at + PATIENCE - 1] = 0
-            at = red.find(1, at + PATIENCE)
+    red[:] = red.replace(b"\1" * PATIENCE, b"\1" * (PATIENCE - 1) + b"\0")

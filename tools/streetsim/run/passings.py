@@ -7,14 +7,14 @@ from streetsim.model.mapping import Map, Place
 from streetsim.model.runs import Line
 
 
-Passed = tuple[int, int, float]  # a stop line: place in the vehicle's plan, lane, second
+Crossed = tuple[int, int, float]  # a stop line: the index of its link in the vehicle's plan, lane, second
 
 
 @dataclass(slots=True)
 class Sight:
-    """Where a vehicle was seen last: the lane and cell of the link at a place of its plan."""
+    """Where a vehicle was seen last: the lane and cell of the link at an index of its plan."""
 
-    place: int  # in its plan
+    index: int  # of the plan
     clock: int
     lane: int
     cell: int
@@ -37,64 +37,57 @@ class Passings:
         self.came = [float(line.command["depart"]) for line in enters]  # when each came to the link that it is on
         self.found: defaultdict[Place, list[tuple[float, int, float]]] = defaultdict(list)
 
-    def note(self, car: int, clock: int, link: int, lane: int, cell: int, left: bool = False) -> None:
-        """Notes that a vehicle, by its number in the file, is seen in a cell of a lane at a clock. left: it is past the
-        stop line, in the buffer. A link that is not ahead on its plan is passed over."""
-        plan, before = self.plans[car], self.seen[car]
-        place = before.place
-        while place < len(plan) and plan[place] != link:
-            place += 1
-        if place == len(plan):
+    def note(self, vehicle: int, clock: int, link: int, lane: int, cell: int, left: bool = False) -> None:
+        """Notes that a vehicle (its number in the file) is seen in a cell of a lane at a clock; clocks rise. left: it
+        is past the stop line, in the buffer. A link that is not ahead on its plan is passed over."""
+        plan, before = self.plans[vehicle], self.seen[vehicle]
+        index = before.index
+        while index < len(plan) and plan[index] != link:
+            index += 1
+        if index == len(plan):
             return
-        now = self.seen[car] = Sight(place, clock, lane, cell, left)
-        if (place, left) != (before.place, before.left):
-            for at, lane, second in sorted(self.between(plan, before, now)):
-                self.add(car, at, lane, second)
+        now = self.seen[vehicle] = Sight(index, clock, lane, cell, left)
+        if (index, left) != (before.index, before.left):
+            for at, lane, second in self.lines_crossed(plan, before, now):
+                self.add(vehicle, at, lane, second)
 
-    def arrived(self, car: int, clock: int) -> None:
-        """Notes that a vehicle, by its number in the file, has come to the end of its plan at a clock."""
-        last = self.plans[car][-1]
-        self.note(car, clock, last, 0, self.links[last].cells)
+    def arrived(self, vehicle: int, clock: int) -> None:
+        """Notes that a vehicle (its number in the file) has come to the end of its plan at a clock."""
+        last = self.plans[vehicle][-1]
+        self.note(vehicle, clock, last, 0, self.links[last].cells)
 
-    def between(self, plan: Sequence[int], before: Sight, now: Sight) -> list[Passed]:
-        """The stop lines that a vehicle passed between two sights, the last one first: of the links from the first one
-        on, and that of the last link if it is past it."""
-        first, found = self.links[plan[before.place]], []
-        usual = before.clock + max(0, first.cells - before.cell) / self.speeds[plan[before.place]]
-        second = now.clock - (0 if now.left else now.cell / self.speeds[plan[now.place]])
-        if now.left:
-            line, second = self.left(plan, before, now, usual)
-            found.append(line)
-        for at in range(now.place - 1, before.place - 1, -1):
-            second -= self.stay(plan[at])
-            if at > before.place:
+    def lines_crossed(self, plan: Sequence[int], before: Sight, now: Sight) -> list[Crossed]:
+        """The stop lines that a vehicle passed from one sight to the next, in their order; on links after that of the
+        first sight it counts as on lane 0."""
+        first, last = self.links[plan[before.index]], self.links[plan[now.index]]
+        usual = before.clock + max(0, first.cells - before.cell) / self.speeds[plan[before.index]]
+        if now.left and now.index == before.index:
+            second = max(usual, now.clock - self.junction_steps(plan[now.index]))
+            return [(now.index, before.lane, min(now.clock, second))]
+        found: list[Crossed] = [(now.index, 0, now.clock)] if now.left else []
+        second = now.clock - (last.cells if now.left else now.cell) / self.speeds[plan[now.index]]
+        for at in range(now.index - 1, before.index - 1, -1):
+            second -= self.junction_steps(plan[at])
+            if at > before.index:
                 found.append((at, 0, max(second, before.clock)))
             elif not before.left:
                 found.append((at, before.lane, max(second, min(usual, now.clock))))
-            second -= self.driving(plan[at])
-        return found
+            second -= self.free_seconds(plan[at])
+        return found[::-1]
 
-    def left(self, plan: Sequence[int], before: Sight, now: Sight, usual: float) -> tuple[Passed, float]:
-        """(the stop line of the link in whose buffer a vehicle is now, the second at which it came to that link).
-        usual: the second at which it would have passed the first link's line at free speed."""
-        if now.place == before.place:
-            second = min(now.clock, max(usual, now.clock - self.stay(plan[now.place])))
-            return (now.place, before.lane, second), now.clock
-        return (now.place, 0, now.clock), now.clock - self.driving(plan[now.place])
-
-    def stay(self, link: int) -> int:
-        """Steps that a vehicle takes in the junction behind a link."""
+    def junction_steps(self, link: int) -> int:
+        """The least steps that a vehicle stays in the junction behind a link."""
         return self.stays[self.links[link].end]
 
-    def driving(self, link: int) -> float:
+    def free_seconds(self, link: int) -> float:
         """Seconds on a whole link at the speed of the free road."""
         return self.links[link].cells / self.speeds[link]
 
-    def add(self, car: int, place: int, lane: int, second: float) -> None:
-        """Adds that a vehicle, by its number in the file, passes the stop line of the link at a place of its plan on a
-        lane at a second; nothing for the last link, behind which no turn follows."""
-        plan = self.plans[car]
-        if place + 1 < len(plan):
-            due = self.came[car] + self.driving(plan[place])
-            self.found[plan[place], lane].append((second, plan[place + 1], due))
-        self.came[car] = second + self.stay(plan[place])
+    def add(self, vehicle: int, index: int, lane: int, second: float) -> None:
+        """Adds that a vehicle (its number in the file) passes the stop line of the link at an index of its plan on a
+        lane at a second, but for the last link, and notes when it comes to the next one."""
+        plan = self.plans[vehicle]
+        if index + 1 < len(plan):
+            due = self.came[vehicle] + self.free_seconds(plan[index])
+            self.found[plan[index], lane].append((second, plan[index + 1], due))
+        self.came[vehicle] = second + self.junction_steps(plan[index])

@@ -1,11 +1,10 @@
 """Runs a run file: sends its lines in time, polls, rescues, and keeps what the tables are made of."""
 import json
-from collections.abc import Callable, Iterable, Mapping, Sequence
-from dataclasses import replace
+from collections.abc import Iterable, Mapping, Sequence
 
 from streetsim.actuated.driver import Driver
 from streetsim.base import limits
-from streetsim.base.client import Client, Lane, Vehicle, line_of, read_reply
+from streetsim.base.client import Client, Lane, Vehicle
 from streetsim.base.files import Fault, TextFile
 from streetsim.buses.fleet import Fleet
 from streetsim.model.detectors import E2, Areas
@@ -13,12 +12,12 @@ from streetsim.model.freeflow import FreeFlow
 from streetsim.model.mapping import Map, Place
 from streetsim.model.runs import Command, Run
 from streetsim.model.tables import BEFORE_WORKS, STOP_LINE
-from streetsim.run.asking import MINUTE, Asking, asking_of
+from streetsim.run.asking import MINUTE, Asking, asking_of, samples_of
 from streetsim.run.desk import Desk
 from streetsim.run.ending import Ending
 from streetsim.run.records import Records, Tell
 from streetsim.run.settings import Settings
-from streetsim.run.worked import Works
+from streetsim.run.worked import WorksUnderWay
 from streetsim.works.closures import begun_here, closures_of
 
 
@@ -28,17 +27,11 @@ class Recorder(Desk):
     notes_works = True  # what is seen before them
 
     def __init__(
-        self,
-        sim: Client,
-        run: Run,
-        mapping: Map,
-        settings: Settings,
-        lanes_file: TextFile | None,
-        tell: Tell,
+        self, sim: Client, run: Run, mapping: Map, settings: Settings, lanes_file: TextFile | None, tell: Tell
     ) -> None:
         """lanes_file: where polls are written; None, for classes below that have no polls or note them otherwise:
         SUMO's detectors are left out too. tell: gets the clock and the last census (None: there was none) after each
-        look."""
+        advance."""
         detectors = mapping.detectors if lanes_file else ()
         super().__init__(sim, run, mapping, settings, detectors)
         self.lanes_file, self.tell = lanes_file, tell
@@ -48,36 +41,40 @@ class Recorder(Desk):
         self.cars: dict[int, int] = {}  # its last number
         # By (car, link): the clock since which it stands at that link's end.
         self.standing: dict[tuple[int, int], int] = {}
-        self.free_flow = FreeFlow(mapping, run.load.command.get("dawdle", 0) / 1000)
+        driving = FreeFlow(mapping, run.load.command.get("dawdle", 0) / 1000).driving
         self.ending = Ending(run)
         self.records.areas = Areas([one for one in detectors if one.kind == E2], self.start)
         self.areas = {(one.link, one.lane) for one in self.records.areas.detectors}
         until = limits.CLOCK if settings.open_end else settings.until
-        pace = [seconds / link.cells for seconds, link in zip(self.free_flow.driving, mapping.links, strict=True)]
+        pace = [seconds / link.cells for seconds, link in zip(driving, mapping.links, strict=True)]
         begun = begun_here(closures_of(run, until), mapping)
-        self.works = Works(begun, mapping, settings.merging, pace if self.notes_works else ())
+        self.works = WorksUnderWay(begun, mapping, settings.merging, pace if self.notes_works else ())
         self.records.works = self.works.watched
         lights = settings.lights
         self.driver = Driver(lights.driven, mapping, lights.idle, lights.switches)
         self.fleet = Fleet(settings.buses, run, mapping)
 
-    def record(self) -> Records:
-        """Makes the whole run; gives its records. Fault where a line or a detector is refused."""
-        asking = self.asking()
-        self.begin(asking)
-        clock = self.start
+    def drive(self) -> None:
+        """Makes the whole run, from its load to its end. Fault where a line or a detector is refused."""
+        self.begin_run(self.asking())
+        clock, every = self.start, self.records.asking.every
         while clock < self.settings.until:
             self.send_timed(clock)
-            steps = (MINUTE, asking.every) if asking.every else (MINUTE,)
-            clock = self.advance(clock, min((clock // step + 1) * step for step in steps))
-            self.look(clock)
+            clock = self.advance_towards(clock, min((clock // step + 1) * step for step in (MINUTE, every or MINUTE)))
+            self.do_all_due(clock)
             self.tell(clock, self.records.censuses[-1] if self.records.censuses else None)
-        self.records.ends = self.found_ends()
-        self.records.phases, self.records.stops = self.driver.rows(clock), self.fleet.all()
+        left = len(self.run.enters) - self.entered
+        self.records.ends = [*self.ask_vehicles(range(self.entered)), *[None] * left]
+
+    def record(self) -> Records:
+        """Makes the whole run; gives its records. Fault where a line or a detector is refused."""
+        self.drive()
+        asking = self.records.asking
+        self.records.phases, self.records.stops = self.driver.phase_rows(self.records.clock), self.fleet.stop_outcomes()
         self.records.unsent = self.unsent()
         self.records.uncounted = len(self.places) - len(asking.measured)
         known = asking.measured if asking.samples or asking.every else ()
-        self.records.edgedata.finish(known)
+        self.records.edgedata.turn_into_means(known)
         return self.records
 
     def unsent(self) -> int:
@@ -93,7 +90,7 @@ class Recorder(Desk):
         return asking_of(self.run, self.settings, self.places, self.polled, len(self.detectors))
 
     def enter(self, last: int) -> None:
-        """Sends the run's enter lines up to the place last, that one left out, and notes the car number of each
+        """Sends the run's enter lines up to index last of run.enters, as Desk does, and notes the car number of each
         vehicle. Fault where one is refused."""
         for owner in range(self.entered, last):
             self.cars[owner] = len(self.owners)
@@ -105,19 +102,19 @@ class Recorder(Desk):
         it, links that it has left among them."""
         return link in self.run.enters[self.owners[car]].command["plan"]
 
-    def look(self, clock: int) -> None:
+    def do_all_due(self, clock: int) -> None:
         """Does all that is due at a clock: polls, samples, a census, rescues, the reading of detectors; a run without a
-        last second ends here, or has its end put off. Fault where a detector cannot be read."""
+        last second has its end decided here. Fault where a command is refused."""
         asking, minute = self.records.asking, clock % MINUTE == 0
         if self.settings.open_end and (minute or clock == self.settings.until):
             self.take_census(clock)
-            self.ending.look(self, clock)  # which may set another end
+            self.ending.decide_end(self, clock)  # which may set another end
         settings, wanted = self.settings, bool(asking.every) and clock % asking.every == 0
         sampled, ended = self.wants_samples(clock)
         rescuing = bool(settings.rescue) and minute and clock < settings.until
         polled = {*(self.polled if wanted else ()), *(self.places if rescuing else ())}
         polled |= {*(self.measured if sampled or ended else ()), *(self.areas if sampled else ())}
-        lanes = self.lanes(place for place in self.places if place in polled) if polled else {}
+        lanes = self.poll_lanes(place for place in self.places if place in polled) if polled else {}
         if wanted:
             self.note_lanes(clock, lanes)
         self.measure(clock, lanes, sampled, ended)
@@ -127,25 +124,20 @@ class Recorder(Desk):
             self.rescue(clock, lanes)
         self.read_meters(clock)
 
-    def end_at(self, clock: int) -> None:
-        """Has the run end at another clock."""
-        self.settings = replace(self.settings, until=clock)
-
     def take_census(self, clock: int) -> None:
-        """Counts all vehicles, and adds that to the censuses of the records; nothing where the last one is of this
-        clock."""
+        """Adds a count of all vehicles to the records; nothing where the last census is of this clock."""
         if not self.records.censuses or self.records.censuses[-1].clock != clock:
             self.records.censuses.append(self.sim.count())
             self.records.calls += 1
 
     def note_lanes(self, clock: int, lanes: Mapping[Place, Lane]) -> None:
-        """Notes the queues that a poll of lanes shows at stop lines and before works, and writes the poll to the file
-        of polls."""
+        """Notes the queues that a poll of lanes shows at stop lines and before works, and writes the poll to its
+        file."""
         shown = []
         for place in self.polled:
             if place in lanes:
                 (link, lane), reply = place, lanes[place]
-                count, covered = standing(reply.cells, self.mapping.links[link].cells)
+                count, covered = standing_at_line(reply.cells, self.mapping.links[link].cells)
                 if count:
                     metres = covered * self.mapping.links[link].cell_metres
                     self.records.queues.append((clock, link, lane, count, metres, STOP_LINE))
@@ -157,32 +149,25 @@ class Recorder(Desk):
         self.lanes_file.write(json.dumps({"clock": clock, "lanes": shown}, separators=(",", ":")) + "\n")
 
     def note_works(self, clock: int, lanes: Mapping[Place, Lane]) -> None:
-        """Notes at a poll the queue before each of the works under way, in vehicles that stand and metres; nothing
-        where nobody queues."""
+        """Notes at a poll the queue before each of the works under way, in standing vehicles and metres; nothing
+        without a queue."""
         for one in self.works.watched:
             place = one.closure
-            if place.begin < clock <= place.end:
-                reach = one.reach(clock, lanes)
-                if reach.vehicles:
-                    row = clock, place.link, place.lane, reach.vehicles, reach.metres, BEFORE_WORKS
-                    self.records.queues.append(row)
+            if place.begin < clock <= place.end and (reach := one.reach(clock, lanes)).vehicles:
+                row = clock, place.link, place.lane, reach.vehicles, reach.metres, BEFORE_WORKS
+                self.records.queues.append(row)
 
-    def vehicles(self, owners: Iterable[int]) -> list[Vehicle]:
+    def ask_vehicles(self, owners: Iterable[int]) -> list[Vehicle]:
         """The replies on vehicles of the file, by their numbers there, whose enter lines were sent; of a vehicle that
         was rescued, on the car that it became. Fault where one is refused."""
-        replies = list(
-            map(read_reply, self.exchange(b'{"cmd":"vehicle","car":%d}\n' % self.cars[owner] for owner in owners))
-        )
-        refused = [reply for reply in replies if not isinstance(reply, Vehicle)]
-        if refused:
-            raise Fault(f"asking for a vehicle was refused: {refused[0]}")
-        return [reply for reply in replies if isinstance(reply, Vehicle)]
+        commands = (b'{"cmd":"vehicle","car":%d}\n' % self.cars[owner] for owner in owners)
+        return self.replies(commands, Vehicle, "asking for a vehicle")
 
     def rescue(self, clock: int, lanes: Mapping[Place, Lane]) -> None:
         """Takes out each vehicle that stands at a stop line, or is first in a buffer, for settings.rescue seconds, more
         than 0, and enters it anew on the rest of its plan; one on its last link stays. The seconds count, at a stop
         line, from the first of the calls in a row that showed it there; in a buffer from the clock from which it may go
-        on, those behind others among them. lanes: the replies of all lanes."""
+        on, though others were before it. lanes: the replies of all lanes."""
         standing_now: dict[tuple[int, int], int] = {}
         for (link, _), reply in lanes.items():
             if reply.buffer:
@@ -199,72 +184,56 @@ class Recorder(Desk):
         """Takes a car, by its number in the program, out and enters its vehicle anew on the next link of its plan, with
         another number, and notes that; nothing where it is on its last link."""
         vehicle = self.sim.vehicle(car)
-        rest = list(vehicle.plan[1:])
         self.records.calls += 1
+        rest = list(vehicle.plan[1:])
         if not rest:
             return
         if vehicle.state == "cell":
-            self.records.edgedata.take(clock, vehicle.place[0])
-        lane = self.departure_lane(vehicle.plan[1:])
+            self.records.edgedata.note_taken_out(clock, vehicle.place[0])
+        lane = next((turn.lane for turn in self.mapping.turns if [turn.link, turn.next] == rest[:2]), 0)
         command = {"cmd": "enter", "plan": rest, "lane": lane, "depart": clock}
         if vehicle.size > 1:
             command["size"] = vehicle.size
-        self.sim.takeout(car)
-        self.sim.enter(rest, lane, clock, vehicle.size)
-        self.records.calls += 2
+        self.reenter(car, command)
         self.records.rescued.append((clock, car, command))
+        self.works.rescue(car, len(self.owners))
         owner = self.owners[car]
         self.cars[owner] = len(self.owners)
         self.owners.append(owner)
         self.records.rescues[owner] += 1
 
-    def departure_lane(self, plan: Sequence[int]) -> int:
-        """The first lane (0 or 1) of a plan's first link that leads to its second link; 0 where no lane does. The plan
-        must be a tuple: of a list no lane is found."""
-        return next(
-            (turn.lane for turn in self.mapping.turns if len(plan) > 1 and (turn.link, turn.next) == plan[:2]), 0
-        )
-
-    def found_ends(self) -> list[Vehicle | None]:
-        """The last reply on each vehicle of the file; None for vehicles that the program was never told of. Fault where
-        one cannot be asked for."""
-        return [*self.vehicles(range(self.entered)), *[None] * (len(self.run.enters) - self.entered)]
-
 
 class Repeater(Desk):
     """Repeats a run with detectors on other lanes: detectors and questions change nothing."""
 
-    def record(self, first: Records, asking: Asking, tell: Callable[[int], object]) -> Records:
-        """Repeats a run; gives the records of the lanes that asking measures. first: the records of the run that is
-        repeated; tell: gets the clock. Fault where it comes to another last census, or a line is refused."""
-        self.begin(asking)
+    def record(self, first: Records, places: Sequence[Place]) -> Records:
+        """Repeats a run; gives the records of some (link, lane), which alone are sampled. first: the records of the run
+        that is repeated. Fault where it comes to another last census, or a line is refused."""
+        asking = Asking(0, list(places), samples_of(self.settings))
+        self.begin_run(asking)
         clock, rescued = self.start, list(reversed(first.rescued))
         while clock < self.settings.until:
             self.send_timed(clock)
-            clock = self.advance(clock, rescued[-1][0] if rescued else self.settings.until)
+            clock = self.advance_towards(clock, rescued[-1][0] if rescued else self.settings.until)
             sampled, ended = self.wants_samples(clock)
-            self.measure(clock, self.lanes(asking.measured) if sampled or ended else {}, sampled, ended)
+            self.measure(clock, self.poll_lanes(asking.measured) if sampled or ended else {}, sampled, ended)
             while rescued and rescued[-1][0] == clock:
                 self.repeat(*rescued.pop())
             self.read_meters(clock)
-            tell(clock)
         if self.sim.count() != first.censuses[-1]:
             raise Fault(f"{self.run.path}: a run that repeats another one came to other vehicles")
-        self.records.edgedata.finish(asking.measured if asking.samples else ())
+        self.records.edgedata.turn_into_means(asking.measured if asking.samples else ())
         return self.records
 
     def repeat(self, clock: int, car: int, command: Command) -> None:
-        """Takes a car, by its number in the program, out and enters its vehicle anew by a command, as the first run did
-        at this clock; Fault where that is refused."""
+        """Repeats a rescue of the first run at a clock; where it takes the car from cells, their link is noted."""
         vehicle = self.sim.vehicle(car)
         if vehicle.state == "cell":
-            self.records.edgedata.take(clock, vehicle.place[0])
-        for reply in map(read_reply, self.exchange([line_of({"cmd": "takeout", "car": car}), line_of(command)])):
-            if isinstance(reply, Exception):
-                raise Fault(f"{self.run.path}: a rescue that is repeated was refused: {reply}")
+            self.records.edgedata.note_taken_out(clock, vehicle.place[0])
+        self.reenter(car, command)
 
 
-def standing(cells: Iterable[Sequence[int]], length: int) -> tuple[int, int]:
+def standing_at_line(cells: Iterable[Sequence[int]], length: int) -> tuple[int, int]:
     """(how many vehicles stand without a gap from the stop line on, the cells that they cover); cells: of a lane's
     reply, the greatest cell first; length: the lane's cells."""
     count = covered = 0

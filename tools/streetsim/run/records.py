@@ -18,7 +18,7 @@ from streetsim.works.watched import Watched
 Tell = Callable[[int, Census | None], object]  # gets the clock and the last census
 Rescue = tuple[int, int, Command]  # clock, car, enter command
 QueueRow = tuple[int, int, int, int, float, str]  # clock, link, lane, vehicles that stand, metres, before what
-Serving = Callable[[], AbstractContextManager[Client]]  # begins the program of a run
+ProgramStart = Callable[[], AbstractContextManager[Client]]  # starts the program of a run
 
 
 @dataclass(slots=True)
@@ -29,12 +29,12 @@ class Records:
     loops: dict[str, dict[int, Row]] = field(default_factory=dict)  # e1: rows by their begin
     areas: Areas = field(default_factory=lambda: Areas([], 0))  # what e2 saw
     edgedata: Edgedata = field(default_factory=lambda: Edgedata(0, 1))
-    uncounted: int = 0  # lanes without a detector, as there are more than 1,024
+    uncounted: int = 0  # lanes without a detector, as a run has 1,024 at most
     queues: list[QueueRow] = field(default_factory=list)
     censuses: list[Census] = field(default_factory=list)
     # For each vehicle of the file its last reply; None where the program was never told of it.
     ends: list[Vehicle | None] = field(default_factory=list)
-    unsent: int = 0  # timed lines whose clock did not come
+    unsent: int = 0  # timed lines whose clock did not come, as Recorder.unsent counts
     rescues: Counter[int] = field(default_factory=Counter)  # by vehicle
     rescued: list[Rescue] = field(default_factory=list)  # in the order in which they were done
     asking: Asking = field(default_factory=lambda: Asking(0, [], 0))
@@ -56,6 +56,6 @@ class Recorded:
     mapping: Map
     settings: Settings
     records: Records
-    serving: Serving
+    start_program: ProgramStart
     folder: str  # for files that are there meanwhile
     jobs: int

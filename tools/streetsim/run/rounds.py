@@ -7,22 +7,21 @@ from dataclasses import dataclass, field, replace
 from functools import partial
 from operator import itemgetter
 
-from streetsim.actuated.lights import LISTED, Lights
-from streetsim.base import limits
+from streetsim.actuated.lights import NONE_DRIVEN, Lights
 from streetsim.base.client import Client, Lane
-from streetsim.base.serving import serving
+from streetsim.base.serving import serving_client
 from streetsim.model.mapping import Map, Place
 from streetsim.model.runs import Line, Run
-from streetsim.run.asking import EVERY, MINUTE, Asking
-from streetsim.run.crowded import crowded
-from streetsim.run.gaps import Passed, lines_of, reds_of
+from streetsim.run.asking import EVERY, Asking
+from streetsim.run.crowded import crowded_edges
+from streetsim.run.ending import HOUR, after_departures
+from streetsim.run.gaps import StopLinePassings, reds_of, signal_lines
 from streetsim.run.passings import Passings
 from streetsim.run.record import Recorder
 from streetsim.run.records import Tell
 from streetsim.run.settings import Settings
 
-Start = Callable[[], AbstractContextManager[Client]]  # starts the program
-HOUR = 3600  # seconds
+ProgramStart = Callable[[], AbstractContextManager[Client]]  # starts the program
 
 
 @dataclass(slots=True)
@@ -43,8 +42,8 @@ class Yielding:
 
 
 class Round(Recorder):
-    """A run that is made only to see who passes which stop line when; it ends when all have arrived, or at its last
-    clock."""
+    """A run that is made only to see who passes which stop line when; it ends when all vehicles have ended, or at its
+    last clock."""
 
     notes_works = False
 
@@ -56,31 +55,26 @@ class Round(Recorder):
         self.polled = list(places)
         self.passings = Passings(mapping, run.enters, run.load.command.get("dawdle", 0))
 
-    def record(self) -> Passed:  # type: ignore[override]  # in place of tables
+    def make_round(self) -> StopLinePassings:
         """Makes the round; gives when vehicles passed. Fault where a line is refused."""
-        self.begin(self.asking())
-        clock = self.start
-        while clock < self.settings.until and not self.is_over():
-            self.send_timed(clock)
-            clock = self.advance(clock, min((clock // step + 1) * step for step in (MINUTE, EVERY)))
-            self.look(clock)
-            self.tell(clock, self.records.censuses[-1] if self.records.censuses else None)
-        for owner, end in enumerate(self.found_ends()):
-            if end and end.state == "arrived" and end.step is not None:
-                self.passings.arrived(owner, end.step)
+        self.drive()
+        for owner, end in enumerate(self.records.ends):
+            if end and end.arrival is not None:
+                self.passings.arrived(owner, end.arrival - 1)
         return self.passings.found
 
     def asking(self) -> Asking:
-        """What a round asks: polls alone, without detectors."""
+        """What a round asks: polls alone, without detectors of lanes."""
         return Asking(EVERY, [], 0)
 
-    def is_over(self) -> bool:
-        """Whether all vehicles have entered, and by the last census arrived or been taken out."""
-        last = self.records.censuses[-1] if self.records.censuses else None
-        return self.entered == len(self.run.enters) and last is not None and last.admitted == last.arrived + last.taken
+    def do_all_due(self, clock: int) -> None:
+        """Does what is due at a clock, as a Recorder; ends the round where all vehicles have ended."""
+        super().do_all_due(clock)
+        if self.has_ended(clock):
+            self.end_at(clock)
 
     def measure(self, clock: int, lanes: Mapping[Place, Lane], sampled: bool, ended: bool) -> None:
-        """Measures nothing: a round has no detectors, and makes no tables."""
+        """Measures nothing: a round makes no tables."""
 
     def note_lanes(self, clock: int, lanes: Mapping[Place, Lane]) -> None:
         """Notes where a poll sees vehicles: at a cell, or past the stop line, in the buffer."""
@@ -93,58 +87,47 @@ class Round(Recorder):
 
 
 def giving_way(
-    run: Run, mapping: Map, settings: Settings, rounds: int, start: Start, tell: Tell
+    run: Run, mapping: Map, settings: Settings, rounds: int, start_program: ProgramStart, tell: Tell
 ) -> tuple[Run, Yielding]:
-    """(the run with signal lines by which its vehicles give way without a light, found in so many rounds; at how many
-    junctions, by how many lines). start: starts the program; tell: gets the clock and the last census. Fault where a
-    round fails."""
-    lines, yielding = gaps_of(run, mapping, settings, rounds, start, tell)
+    """(the run with the signal lines of gaps_of, and how vehicles give way by them). Arguments and Fault as there."""
+    lines, yielding = gaps_of(run, mapping, settings, rounds, start_program, tell)
     return with_lines(run, lines), yielding
 
 
 def gaps_of(
-    run: Run, mapping: Map, settings: Settings, rounds: int, start: Start, tell: Tell
+    run: Run, mapping: Map, settings: Settings, rounds: int, start_program: ProgramStart, tell: Tell
 ) -> tuple[list[tuple[int, Line]], Yielding]:
-    """(the signal lines, (clock, line), by which the vehicles of a run give way without a light; at how many junctions,
-    by how many lines); no lines where rounds is 0 or nobody in the map gives way. start, tell: as of giving_way. Fault
-    where a round fails."""
+    """(the signal lines, (clock, line), by which the vehicles of a run give way without a light, found in so many
+    rounds; how they give way by them); no lines where rounds is 0 or nobody in the map gives way. tell: gets the clock
+    and the last census. Fault where a round fails."""
     if not rounds or not mapping.yields:
         return [], Yielding()
     places = places_of(mapping)
     asked = Settings(
-        settings.until,
-        rescue=settings.rescue,
-        merging=settings.merging,
-        lights=settings.lights,
-        buses=settings.buses,
+        settings.until, rescue=settings.rescue, merging=settings.merging, lights=settings.lights, buses=settings.buses
     )
     made, yielding = run, Yielding(rounds, every=EVERY)
     for _ in range(rounds):
-        with start() as sim:
-            passed = Round(sim, made, mapping, asked, places, tell).record()
+        with start_program() as sim:
+            passed = Round(sim, made, mapping, asked, places, tell).make_round()
         reds = reds_of(mapping, passed, run.start())
-        lines = lines_of(mapping, reds, run.start())
+        lines = signal_lines(mapping, reds, run.start())
         made = with_lines(run, lines)
     yielding.lines, yielding.junctions = len(lines), len({line.command["node"] for _, line in lines})
-    yielding.crowded = crowded(mapping, reds, passed, run.start())
+    yielding.crowded = crowded_edges(mapping, reds, passed, run.start())
     return lines, yielding
 
 
-def giving_way_to_scripts(
-    run: Run, mapping: Map, rounds: int, program: str | None = None, workers: int = 1, lights: Lights = LISTED
+def giving_way_of_open_run(
+    run: Run, mapping: Map, rounds: int, program: str | None = None, workers: int = 1, lights: Lights = NONE_DRIVEN
 ) -> tuple[Run, Yielding]:
-    """(the run of a script with signal lines by which the vehicles of its file give way without a light; at how many
-    junctions, by how many lines). As its end is not known, rounds end when all have arrived, or an hour after the last
-    departure; nobody is rescued. program: None: the usual one; workers: its threads. Fault where a round fails."""
-    settings = Settings(script_end(run), rescue=0, lights=lights)
-    return giving_way(run, mapping, settings, rounds, partial(serving, program, run.path, workers), lambda *_: None)
-
-
-def script_end(run: Run) -> int:
-    """The clock until which rounds for a script go: an hour after its last departure, or after the start where that is
-    later; the greatest clock at most."""
-    last = max((line.command["depart"] for line in run.enters), default=run.start())
-    return min(limits.CLOCK, max(last, run.start()) + HOUR)
+    """What giving_way gives of a run whose end is not known, as a script's or a live page's: rounds end when all have
+    ended, or an hour after the last departure, vehicles merge before works, and nobody is rescued. program: None: the
+    usual one; workers: its threads."""
+    settings = Settings(after_departures(run, HOUR), rescue=0, lights=lights)
+    return giving_way(
+        run, mapping, settings, rounds, partial(serving_client, program, run.path, workers), lambda *_: None
+    )
 
 
 def places_of(mapping: Map) -> list[Place]:
@@ -157,8 +140,8 @@ def places_of(mapping: Map) -> list[Place]:
 
 
 def with_lines(run: Run, lines: Iterable[tuple[int, Line]]) -> Run:
-    """The run with further timed lines, (clock, line), of clocks not before its start; those of the start become first
-    lines."""
+    """The run with further timed lines, (clock, line), gone through twice, of clocks not before its start; those of the
+    start become first lines."""
     start = run.start()
     first = [*run.first, *(line for clock, line in lines if clock == start)]
     timed = sorted([*run.timed, *(pair for pair in lines if pair[0] > start)], key=itemgetter(0))

@@ -2,13 +2,12 @@
 from collections import Counter
 from collections.abc import Iterable, Iterator
 
-from streetsim.base import limits
 from streetsim.buses.fleet import dwells
 from streetsim.model.detectors import Detector
 from streetsim.model.freeflow import Alone
 from streetsim.model.mapping import Map
 from streetsim.model.runs import Run
-from streetsim.model.stops import lines_of
+from streetsim.model.stops import bus_lines_of
 from streetsim.model.tables import Entry
 from streetsim.run.edgedata import edge_rows
 from streetsim.run.records import Records
@@ -19,18 +18,11 @@ def counts(records: Records, mapping: Map) -> Iterator[Entry]:
     percentage of time in which its cell is covered), for each period and lane that has a detector; km/h is empty where
     nobody passed."""
     for (link, lane), rows in sorted(records.counts.items()):
+        one = mapping.links[link]
+        place = one.edge, link, one.lanes[lane]
         for row in rows.values():
-            yield (
-                row.start,
-                row.start + row.steps,
-                mapping.links[link].edge,
-                link,
-                mapping.links[link].lanes[lane],
-                row.passes,
-                f"{row.flow * 3600:.1f}",
-                row.kmh(mapping.links[link].cell_metres),
-                f"{row.density * 100:.1f}",
-            )
+            seen = f"{row.flow * 3600:.1f}", row.kmh(one.cell_metres), f"{row.density * 100:.1f}"
+            yield row.start, row.start + row.steps, *place, row.passes, *seen
 
 
 def edges(records: Records, mapping: Map) -> Iterator[Entry]:
@@ -44,23 +36,20 @@ def edges(records: Records, mapping: Map) -> Iterator[Entry]:
 def trips(records: Records, run: Run, mapping: Map) -> Iterator[Entry]:
     """The rows of trips.csv, (name, wished departure, arrival, seconds, seconds alone, seconds lost, how many links its
     plan has, rescues, state), one for each vehicle of the run file, as in SUMO's tripinfo. A trip lasts from the wished
-    departure to arrival; arrival, seconds and seconds lost are empty where it has not arrived."""
-    alone, stood = Alone(mapping, run.load.command["dawdle"] / 1000), dwelt(records)
-    for place, (name, line, end) in enumerate(zip(names(run, mapping), run.enters, records.ends, strict=True)):
-        plan, depart = line.command["plan"], line.command["depart"]
+    departure to arrival; seconds lost are those beyond seconds alone and at its stops. Arrival, seconds and seconds
+    lost are empty where it has not arrived."""
+    alone, stood = Alone(mapping, run.load.command["dawdle"] / 1000), seconds_at_stops(records)
+    for place, (name, line, end) in enumerate(zip(vehicle_names(run, mapping), run.enters, records.ends, strict=True)):
+        plan, depart, arrival = line.command["plan"], line.command["depart"], end.arrival if end else None
         free = alone.trip(plan)
-        arrival = end.step + 1 if end is not None and end.state == "arrived" and end.step is not None else None
-        trip = (
-            (arrival, arrival - depart, f"{free:.1f}", f"{arrival - depart - free - stood[place]:.1f}")
-            if arrival is not None
-            else ("", "", f"{free:.1f}", "")
-        )
+        trip: Entry = ("", "", f"{free:.1f}", "")
+        if arrival is not None:
+            trip = arrival, arrival - depart, f"{free:.1f}", f"{arrival - depart - free - stood[place]:.1f}"
         yield (name, depart, *trip, len(plan), records.rescues[place], end.state if end else "not departed")
 
 
-def dwelt(records: Records) -> Counter[int]:
-    """The seconds that vehicles stood at their stops, by their number in the file; stops that they have not left do not
-    count."""
+def seconds_at_stops(records: Records) -> Counter[int]:
+    """The seconds that vehicles stood at their stops, by their number in the file; stops not left do not count."""
     own = dwells(records.stops).items()
     return Counter({vehicle: sum(one.seconds for one in those) for vehicle, those in own})
 
@@ -68,24 +57,19 @@ def dwelt(records: Records) -> Counter[int]:
 def stops(records: Records, run: Run, mapping: Map) -> Iterator[Entry]:
     """The rows of stops.csv, (vehicle, line, stop, edge, lane, arrived, left, seconds, until, seconds late, state):
     each stop of each vehicle, vehicle by vehicle; clocks and seconds are empty where they did not come about."""
-    vehicles, lines = names(run, mapping), lines_of(mapping.kinds, len(run.enters))
+    vehicles, lines = vehicle_names(run, mapping), bus_lines_of(mapping.kinds, len(run.enters))
     for one in sorted(records.stops, key=lambda one: (one.visit.vehicle, one.visit.at)):
         visit, link = one.visit, mapping.links[one.visit.link]
         lane = link.lanes[visit.lane if one.lane is None else one.lane]
-        has_left = one.left is not None and one.arrived is not None
-        dwell = one.left - one.arrived if has_left else ""  # type: ignore[operator]
-        late = one.left - visit.until if has_left and visit.until is not None else ""  # type: ignore[operator]
-        clocks = ["" if clock is None else clock for clock in (one.arrived, one.left)]
-        until = "" if visit.until is None else visit.until
-        yield (
-            vehicles[visit.vehicle], lines[visit.vehicle], visit.stop, link.edge, lane, *clocks, dwell, until, late,
-            one.state,
-        )
+        dwell = late = None
+        if one.left is not None and one.arrived is not None:
+            dwell, late = one.left - one.arrived, None if visit.until is None else one.left - visit.until
+        times = ["" if time is None else time for time in (one.arrived, one.left, dwell, visit.until, late)]
+        yield vehicles[visit.vehicle], lines[visit.vehicle], visit.stop, link.edge, lane, *times, one.state
 
 
-def names(run: Run, mapping: Map) -> list[str]:
-    """SUMO's names of the run's vehicles; those that were added to the run file by hand are called # and their
-    number."""
+def vehicle_names(run: Run, mapping: Map) -> list[str]:
+    """SUMO's names of the run's vehicles; those that were added to the run file by hand are # and their number."""
     return [*mapping.cars, *(f"#{number}" for number in range(len(mapping.cars), len(run.enters)))][: len(run.enters)]
 
 
@@ -98,8 +82,8 @@ def queues(records: Records, mapping: Map) -> Iterator[Entry]:
 
 
 def summary(records: Records) -> Iterator[Entry]:
-    """The rows of summary.csv, (clock, admitted, waiting to enter, on cells, in junctions, arrived, taken out), one for
-    each census."""
+    """The rows of summary.csv, (clock, admitted, waiting to enter, on cells, in junctions, arrived, taken out), one a
+    census."""
     for census in records.censuses:
         yield census.clock, census.admitted, census.waiting, census.cells, census.buffers, census.arrived, census.taken
 
@@ -120,14 +104,8 @@ def area_rows(records: Records, detectors: Iterable[Detector], until: int) -> It
     for one in detectors:
         for (_, begin), area in sorted(item for item in records.areas.seen.items() if item[0][0] == one.name):
             metres = (one.last - one.first + 1) * one.cell_metres
-            yield (
-                begin,
-                min(begin + one.period, until),
-                one.name,
-                f"{area.vehicles / area.samples:.2f}",
-                area.most,
-                f"{area.speeds / area.vehicles * 3.6 * one.cell_metres:.1f}" if area.vehicles else "",
-                f"{area.covered / area.samples / metres * 100:.1f}",
-                f"{area.jams / area.samples:.2f}",
-                area.longest,
-            )
+            vehicles = f"{area.vehicles / area.samples:.2f}", area.most
+            speed = f"{area.speeds / area.vehicles * 3.6 * one.cell_metres:.1f}" if area.vehicles else ""
+            occupancy = f"{area.covered / area.samples / metres * 100:.1f}"
+            jam = f"{area.jams / area.samples:.2f}", area.longest
+            yield begin, min(begin + one.period, until), one.name, *vehicles, speed, occupancy, *jam

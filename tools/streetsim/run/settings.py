@@ -1,7 +1,7 @@
 """What a run is asked for."""
 from dataclasses import dataclass
 
-from streetsim.actuated.lights import LISTED, Lights
+from streetsim.actuated.lights import NONE_DRIVEN, Lights
 from streetsim.buses.planned import NONE, Planned
 
 
@@ -12,10 +12,10 @@ class Settings:
     until: int  # the last clock
     every: int | None = None  # seconds between polls of the lanes; None: 10; 0: never
     period: int = 900  # seconds of a count
-    rescue: int = 300  # after so many steps of standing at a stop line; 0: never
+    rescue: int = 300  # seconds of standing at a stop line or first in a buffer; 0: never
     edges: tuple[str, ...] = ()  # those to poll; all where it is empty
     all_counted: bool = True  # lanes beyond those of one run's detectors are counted by further runs
     open_end: bool = False  # until all have arrived or nobody moves; `until` is then a guess
     merging: bool = True  # by turns before works
-    lights: Lights = LISTED  # that detectors drive
+    lights: Lights = NONE_DRIVEN  # that detectors drive
     buses: Planned = NONE  # stops that are made

@@ -5,10 +5,10 @@ from dataclasses import replace
 from functools import partial
 
 from streetsim.base.files import Fault
-from streetsim.base.serving import serving
+from streetsim.base.serving import serving_client
 from streetsim.model.mapping import Map
 from streetsim.model.runs import Line, Run, with_load
-from streetsim.model.sources import digest_of
+from streetsim.model.sources import program_digest
 from streetsim.run.rounds import Yielding, gaps_of, with_lines
 from streetsim.run.settings import Settings
 from streetsim.sessions.open_end import outcome_of
@@ -17,13 +17,7 @@ from streetsim.works.closures import closures_of
 
 
 def giving_session(
-    program: str,
-    run: Run,
-    mapping: Map,
-    settings: Settings,
-    rounds: int,
-    without: frozenset = frozenset(),
-    **load: int,
+    program: str, run: Run, mapping: Map, settings: Settings, rounds: int, without: frozenset = frozenset(), **load: int
 ) -> Session:
     """The session of a run whose vehicles give way without a light by so many rounds. settings: its end, whether that
     is open, merging before works, lights that detectors drive and stops that are made; without: nodes whose signals are
@@ -44,20 +38,19 @@ def is_driven(of: Settings | Giving) -> bool:
     return bool(of.lights.driven or of.lights.idle or of.buses.visits)
 
 
-def gaps(session: Session, signals: bytes, seed: int) -> tuple[list, Yielding]:
-    """(the signal lines, (clock, line), by which vehicles of a session give way without a light; at how many junctions,
-    by how many lines), found by runs with a seed and some signals of its lights, as lines in bytes. An empty list where
-    the session has no giving. Fault where a run fails."""
+def gap_lines(session: Session, signals: bytes, seed: int) -> tuple[list, Yielding]:
+    """(the signal lines, (clock, line), by which vehicles of a session give way without a light, empty without a
+    giving; at how many junctions, by how many lines), found by runs with a seed and some signals of its lights, as
+    lines in bytes. Fault where a run fails."""
     giving = session.giving
     if giving is None:
         return [], Yielding()
     run = with_signals(with_load(giving.run, seed=seed), signals, giving.without)
-    serve = partial(serving, session.program, run.path)
-    settings = Settings(giving.until, rescue=0, merging=giving.merging, lights=giving.lights, buses=giving.buses)
-    return gaps_of(run, giving.mapping, settings, giving.rounds, serve, lambda *_: None)
+    serve = partial(serving_client, session.program, run.path)
+    return gaps_of(run, giving.mapping, settings_of(giving), giving.rounds, serve, lambda *_: None)
 
 
-def with_gaps(session: Session, lines: list) -> Session:
+def with_gap_lines(session: Session, lines: list) -> Session:
     """The session with signal lines, (clock, line), by which vehicles give way without a light, and without a giving:
     no more rounds are made, and the run ends at its last clock, without merging before works, lights that detectors
     drive and stops of buses. The giving of the given session must not be None."""
@@ -68,9 +61,9 @@ def with_gaps(session: Session, lines: list) -> Session:
 
 
 def for_search(session: Session, lines: list) -> Session:
-    """The session, which must have a giving, as with_gaps makes it; where works lie in its run, and vehicles are to
-    merge before them, it keeps a giving without rounds, by which seconds_at_works has them merge."""
-    giving, made = session.giving, with_gaps(session, lines)
+    """The session, which must have a giving, as with_gap_lines makes it; where works lie in its run, and vehicles are
+    to merge before them, it keeps a giving without rounds, by which seconds_at_works has them merge."""
+    giving, made = session.giving, with_gap_lines(session, lines)
     if giving is None or not (giving.merging and closures_of(giving.run, giving.until)):
         return made
     return replace(made, giving=replace(giving, run=with_lines(giving.run, lines), rounds=0))
@@ -86,38 +79,34 @@ def seconds_at_works(session: Session, signals: bytes, seed: int) -> float:
 
 
 def outcome_giving_way(session: Session, signals: bytes, seed: int) -> Outcome:
-    """What a run with a seed and some signals (lines in bytes) gave, after its rounds; a task of a worker. Fault where
-    a run fails."""
+    """What a run with a seed and signals (lines in bytes) gave after its rounds; Fault where a run fails."""
     if session.giving is None:
         return outcome(session, signals, seed)
-    lines, yielding = gaps(session, signals, seed)
+    lines, yielding = gap_lines(session, signals, seed)
     giving = session.giving
     if giving.open_end or is_driven(giving) or closures_of(giving.run, giving.until):
         found = open_outcome(session, lines, signals, seed)
     else:
-        found = outcome(with_gaps(session, lines), signals, seed)
+        found = outcome(with_gap_lines(session, lines), signals, seed)
     return replace(found, junctions=yielding.junctions, lines=yielding.lines)
 
 
 def open_outcome(session: Session, lines: list, signals: bytes, seed: int) -> Outcome:
     """What a run gave that is asked while it goes: one without a last second, with works, buses, or lights that
     detectors drive. The session must have a giving; lines: (clock, line), by which vehicles give way. Fault where the
-    program is another one than the session's, or refuses a line."""
-    if digest_of(session.program) != session.digest:
+    program is another one than the session's, and as of outcome_of."""
+    if program_digest(session.program) != session.digest:
         raise Fault(f"{session.program}: another program than the one that the runs were prepared for, or none")
     giving = session.giving
     assert giving is not None
     run = with_signals(with_load(giving.run, seed=seed), signals, giving.without)
-    settings = Settings(
-        giving.until,
-        every=0,
-        rescue=0,
-        open_end=giving.open_end,
-        merging=giving.merging,
-        lights=giving.lights,
-        buses=giving.buses,
-    )
+    settings = replace(settings_of(giving), every=0, open_end=giving.open_end)
     return outcome_of(session.program, with_lines(run, lines), giving.mapping, settings)
+
+
+def settings_of(giving: Giving) -> Settings:
+    """The settings of a run of a session up to its last clock, without rescues."""
+    return Settings(giving.until, rescue=0, merging=giving.merging, lights=giving.lights, buses=giving.buses)
 
 
 def with_signals(run: Run, signals: bytes, nodes: frozenset) -> Run:

@@ -20,7 +20,7 @@ from pathlib import Path
 from typing import Any, Protocol
 
 from streetsim.base.files import Fault
-from streetsim.model.sources import digest_of
+from streetsim.model.sources import program_digest
 
 PATIENCE = 10  # seconds for a cluster to answer
 TRIES = 3  # to make its workers ready
@@ -38,7 +38,6 @@ class Held(Protocol):
     @property
     def program(self) -> str:
         """The path of the program."""
-        ...
 
     @property
     def digest(self) -> str | None:
@@ -59,19 +58,18 @@ class Workers:
 
 
 class Machines:
-    """Runs functions of (session, ..) on some workers; a session is named by its place in a list."""
+    """Runs functions of (session, ..) on some workers; a session is named by its index in a list."""
 
     def __init__(self, executor: Executor, held: Sequence[Held | int]) -> None:
-        """held: by place what a worker is given for a session: the session itself, or its place where workers hold the
-        sessions."""
+        """held: by index what a worker is given for a session: itself, or its index where workers hold them."""
         self.executor, self.held = executor, held
 
-    def submit(self, function: Function, place: int, *arguments: Any) -> Any:
-        """Begins a task: a function of the session at a place and of further arguments; gives its future."""
-        return self.executor.submit(work, function, self.held[place], *arguments)
+    def submit(self, function: Function, index: int, *arguments: Any) -> Any:
+        """Begins a task: a function of the session at an index and of further arguments; gives its future."""
+        return self.executor.submit(do_task, function, self.held[index], *arguments)
 
     def ordered(self, tasks: Iterable[Sequence[Any]]) -> Iterator[Any]:
-        """What tasks, each (name, function, place, ..), give, in their order, whatever the order in which they end.
+        """What tasks, each (name, function, index, ..), give, in their order, whatever the order in which they end.
         They begin when the first result is asked for; where the caller stops asking, those that have not begun are
         cancelled. What a task raises is raised; Fault, with its name, where its worker was lost."""
         futures = [(name, self.submit(*task)) for name, *task in tasks]
@@ -83,28 +81,25 @@ class Machines:
                 future.cancel()
 
 
-def work(function: Function, session: Any, *arguments: Any) -> Any:
-    """Does one task; session: a session, or the place of one that this process holds."""
+def do_task(function: Function, session: Any, *arguments: Any) -> Any:
+    """Does one task; session: a session, or the index of one that this process holds."""
     return function(HELD[session] if isinstance(session, int) else session, *arguments)
 
 
 def result_of(future: Any, name: str) -> Any:
-    """The result of a task, waited for; what it raised is raised, and a Fault with its name where its worker was
-    lost."""
+    """The result of a task, waited for, or what it raised; a Fault with its name where its worker was lost."""
     try:
         return future.result()
     except LOST as fault:
-        raise Fault(f"{name}: a worker ended before its work was done: {told_of(fault)}") from None
+        raise Fault(f"{name}: a worker ended before its work was done: {exception_told(fault)}") from None
     except Exception as fault:
         if type(fault).__name__ != "KilledWorker":
             raise
-        raise Fault(
-            f"{name} was given up, as more of its workers died than the cluster allows "
-            "(distributed.scheduler.allowed-failures)"
-        ) from None
+        why = "as more of its workers died than the cluster allows (distributed.scheduler.allowed-failures)"
+        raise Fault(f"{name} was given up, {why}") from None
 
 
-def told_of(fault: BaseException) -> str:
+def exception_told(fault: BaseException) -> str:
     """What an exception says; where it says nothing, the name of its type."""
     return str(fault) or type(fault).__name__
 
@@ -117,17 +112,16 @@ def machines(jobs: int, cluster: str | None, sessions: Sequence[Held]) -> Iterat
         with cluster_of(cluster, sessions) as made:
             yield made
         return
-    executor = ProcessPoolExecutor(jobs, multiprocessing.get_context("fork"), hold, (sessions,))
+    executor = ProcessPoolExecutor(jobs, multiprocessing.get_context("fork"), hold_sessions, (sessions,))
     try:
         yield Machines(executor, range(len(sessions)))
     finally:
-        end(executor)
+        end_pool(executor)
 
 
-def end(executor: Executor) -> None:
-    """Ends the processes of a pool: tasks that run are waited for, others are cancelled. Where one was lost while a
-    task was written for it, the pool of a Python before 3.11.5 would wait for ever; so its end of the pipe is closed
-    here."""
+def end_pool(executor: Executor) -> None:
+    """Ends a pool: running tasks are waited for, others cancelled. Where a process was lost while a task was written
+    for it, a Python before 3.11.5 would wait for ever; so its end of the pipe is closed here."""
     manager, calls = executor._executor_manager_thread, executor._call_queue
     executor.shutdown(wait=False, cancel_futures=True)
     while manager is not None and manager.is_alive():
@@ -136,7 +130,7 @@ def end(executor: Executor) -> None:
             calls._reader.close()
 
 
-def hold(sessions: Sequence[Held]) -> None:
+def hold_sessions(sessions: Sequence[Held]) -> None:
     """Runs first in each process of the pool: puts the sessions into its HELD. The process ignores Ctrl-C, which the
     main process handles, and ends by SIGTERM and SIGHUP."""
     HELD[:] = sessions
@@ -147,10 +141,9 @@ def hold(sessions: Sequence[Held]) -> None:
 
 @contextlib.contextmanager
 def cluster_of(address: str, sessions: Sequence[Held]) -> Iterator[Machines]:
-    """The workers of a dask scheduler at an address, until the block ends; dask's log and its warnings are silenced in
-    this process, and stay so. Fault where dask is not installed, the address is not HOST:PORT, no scheduler answers or
-    has a worker in PATIENCE seconds, a worker does not have the program that is here, or the workers cannot be made
-    ready."""
+    """The workers of a dask scheduler at HOST:PORT, until the block ends; dask's log and warnings are silenced in this
+    process for good. Fault where dask is not installed, no scheduler answers or has a worker in PATIENCE seconds, or a
+    worker does not have the program or cannot be made ready."""
     try:
         from distributed import Client
     except ImportError:
@@ -162,17 +155,15 @@ def cluster_of(address: str, sessions: Sequence[Held]) -> Iterator[Machines]:
     try:
         client = Client(address, timeout=PATIENCE, set_as_default=False)
     except (OSError, ValueError, TimeoutError) as fault:
-        raise Fault(
-            f"--cluster {address}: no scheduler answered in {PATIENCE} s ({told_of(fault).splitlines()[0]})"
-        ) from None
+        why = exception_told(fault).splitlines()[0]
+        raise Fault(f"--cluster {address}: no scheduler answered in {PATIENCE} s ({why})") from None
     with contextlib.closing(client):
         try:
             client.wait_for_workers(1, timeout=PATIENCE)
         except Exception:
             raise Fault(f"--cluster {address}: the scheduler has no worker") from None
         prepare(client, address, sessions)
-        # Each task has its session by value, so that no worker needs what one that died had: a study
-        # once waited for ever then.
+        # Each task has its session by value, so that no worker needs what one that died had.
         yield Machines(Workers(client), sessions)
 
 
@@ -186,7 +177,9 @@ def prepare(client: Cluster, address: str, sessions: Sequence[Held]) -> None:
             return
         except OSError as fault:
             if not left:
-                raise Fault(f"--cluster {address}: its workers could not be made ready: {told_of(fault)}") from None
+                raise Fault(
+                    f"--cluster {address}: its workers could not be made ready: {exception_told(fault)}"
+                ) from None
 
 
 def send_package(client: Cluster) -> None:
@@ -203,9 +196,7 @@ def send_package(client: Cluster) -> None:
 def check_programs(client: Cluster, sessions: Sequence[Held]) -> None:
     """Fault where a worker of a cluster has no program, or another one, at a session's path."""
     for program, digest in sorted({(session.program, session.digest) for session in sessions}):
-        for worker, found in sorted(client.run(digest_of, program).items()):
+        for worker, found in sorted(client.run(program_digest, program).items()):
             if found != digest:
-                what = (
-                    f"has another program ({found[:12]}, here {(digest or 'none')[:12]})" if found else "has no program"
-                )
-                raise Fault(f"--cluster: worker {worker} {what} at {program}")
+                other = f"another program ({found[:12]}, here {(digest or 'none')[:12]})" if found else "no program"
+                raise Fault(f"--cluster: worker {worker} has {other} at {program}")

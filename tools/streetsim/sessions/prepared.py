@@ -1,7 +1,7 @@
 """Whole runs as prepared bytes: what the program is sent, and what is read from its replies.
 
 A session holds all of a run but its seed and its signals, so that runs of many plans cost little besides the program's
-own time. It carries no path but the program's: its functions run on any machine that has the program.
+own time. The functions here read no file but the program's, so they run on any machine that has it.
 """
 from __future__ import annotations
 
@@ -16,13 +16,13 @@ from dataclasses import dataclass
 from itertools import pairwise
 from operator import itemgetter
 
-from streetsim.actuated.lights import LISTED, Lights
+from streetsim.actuated.lights import NONE_DRIVEN, Lights
 from streetsim.base.client import words_of
 from streetsim.base.files import Fault
 from streetsim.buses.planned import NONE, Planned
 from streetsim.model.mapping import Map
 from streetsim.model.runs import Line, Run
-from streetsim.model.sources import digest_of
+from streetsim.model.sources import program_digest
 
 OFTEN = 10  # seconds between counts
 MINUTE = 60  # seconds between looks at who waits to enter
@@ -81,27 +81,27 @@ def session_of(program: str, run: Run, until: int, without: Collection[int] = fr
     asks = b"".join(b'{"cmd":"vehicle","car":%d}\n' % car for car in range(len(enters)))
     return Session(
         program=program,
-        digest=digest_of(program),
+        digest=program_digest(program),
         words=tuple(words_of(program)[1:]),
         opening=json.dumps(command, separators=(",", ":")).encode()[:-1] + b',"seed":',
-        first=lines_of(first),
-        enters=lines_of(enters),
+        first=bytes_of(first),
+        enters=bytes_of(enters),
         departs=tuple(line.command["depart"] for line in enters),
         clocks=clocks,
-        counting=steps(clocks, timed, COUNT),
+        counting=advance_lines(clocks, timed, COUNT),
         minutes=minutes,
-        asking=steps(minutes, timed, COUNT) + asks,
+        asking=advance_lines(minutes, timed, COUNT) + asks,
     )
 
 
-def lines_of(lines: Iterable[Line]) -> bytes:
+def bytes_of(lines: Iterable[Line]) -> bytes:
     """Lines of a run as bytes, each with its LF."""
     return "".join(line.text + "\n" for line in lines).encode()
 
 
-def steps(clocks: Sequence[int], timed: Sequence[tuple[int, Line]], counted: bytes) -> bytes:
+def advance_lines(clocks: Sequence[int], timed: Sequence[tuple[int, Line]], counted: bytes) -> bytes:
     """The advance lines from clock to clock with the timed lines between, as bytes; counted: the line that follows at
-    each of the clocks but the first."""
+    each of the clocks but the first; timed: of before the last of them, those of before the first go at it."""
     told, clocks = set(clocks), sorted({*clocks, *(clock for clock, _ in timed if clocks[0] < clock < clocks[-1])})
     sent = {clock: b"" for clock in clocks}
     for clock, line in timed:
@@ -116,7 +116,7 @@ def steps(clocks: Sequence[int], timed: Sequence[tuple[int, Line]], counted: byt
 def replies(session: Session, signals: bytes, seed: int, tail: bytes) -> bytes:
     """All replies of the program to a whole run, as bytes. signals: lines; tail: what follows the vehicles. Fault where
     a line is refused, the program fails, or it is another one than the session's."""
-    if digest_of(session.program) != session.digest:
+    if program_digest(session.program) != session.digest:
         raise Fault(f"{session.program}: another program than the one that the runs were prepared for, or none")
     with tempfile.TemporaryFile() as given, tempfile.TemporaryFile() as told:
         given.writelines((session.opening, b"%d}\n" % seed, session.first, signals, session.enters, tail))
@@ -135,9 +135,8 @@ def replies(session: Session, signals: bytes, seed: int, tail: bytes) -> bytes:
 
 
 def vehicle_seconds(session: Session, signals: bytes, seed: int) -> float:
-    """The seconds from wished departure to arrival, or to the end, summed over the vehicles of a run with some signals
-    (lines in bytes) and a seed; reckoned from counts each OFTEN seconds, arrivals spread evenly between them. Fault as
-    of replies."""
+    """The seconds from wished departure to arrival, or to the end, of all vehicles of a run with a seed and signals
+    (lines in bytes), by counts each OFTEN seconds, arrivals spread evenly between. Fault as of replies."""
     text = replies(session, signals, seed, session.counting)
     arrived = [0, *map(int, ARRIVED.findall(text))]
     if len(arrived) != len(session.clocks):
@@ -151,8 +150,7 @@ def vehicle_seconds(session: Session, signals: bytes, seed: int) -> float:
 
 
 def outcome(session: Session, signals: bytes, seed: int) -> Outcome:
-    """What a run with some signals (lines in bytes) and a seed gave, by asking for each vehicle at its end. Fault as of
-    replies."""
+    """What a run with a seed and signals (lines in bytes) gave, by asking for each vehicle; Fault as of replies."""
     text = replies(session, signals, seed, session.asking)
     count, until = len(session.departs), session.clocks[-1]
     last = [json.loads(line) for line in text.splitlines()[-count:]] if count else []
@@ -160,10 +158,10 @@ def outcome(session: Session, signals: bytes, seed: int) -> Outcome:
     seconds = sum((until if end is None else end) - depart for end, depart in zip(ends, session.departs, strict=True))
     arrived, digest = sum(end is not None for end in ends), hashlib.sha256(text).hexdigest()
     waiting = most_waiting(session, map(int, WAITING.findall(text)))
-    return Outcome(digest, arrived, seconds, until, *waiting, gone=all_gone(ends, session.clocks[0]))
+    return Outcome(digest, arrived, seconds, until, *waiting, gone=when_all_arrived(ends, session.clocks[0]))
 
 
-def all_gone(ends: Sequence[int | None], start: int) -> int | None:
+def when_all_arrived(ends: Sequence[int | None], start: int) -> int | None:
     """The clock at which the last vehicle arrived; ends: of each its arrival, None: it has not arrived. None where one
     has not; start where there is nobody."""
     arrivals = [end for end in ends if end is not None]
@@ -171,8 +169,8 @@ def all_gone(ends: Sequence[int | None], start: int) -> int | None:
 
 
 def most_waiting(session: Session, counts: Iterable[int]) -> tuple[int, int]:
-    """(how many vehicles waited to enter at the worst minute, its clock). counts: by minute all who are told and have
-    not entered, from which those of later departure are taken off."""
+    """(how many vehicles waited to enter at the worst minute, its clock). counts: by minute all who are admitted and
+    not on the road, from which those of later departure are taken off."""
     departs, clocks = sorted(session.departs), session.minutes[1:]
     later = (len(departs) - bisect_left(departs, clock) for clock in clocks)
     waiting = [count - others for count, others in zip(counts, later, strict=True)]
@@ -190,5 +188,5 @@ class Giving:
     rounds: int
     open_end: bool = False  # `until` is a first guess, and a run goes on until all have arrived or nobody moves
     merging: bool = True  # by turns before works
-    lights: Lights = LISTED  # that detectors drive
+    lights: Lights = NONE_DRIVEN  # that detectors drive
     buses: Planned = NONE  # stops that are made

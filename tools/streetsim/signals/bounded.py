@@ -1,13 +1,12 @@
 """What streetsim-signals --bounds does: it finds bounds of actuated and NEMA lights, and the best plan of seconds
 beside it."""
 import sys
-from collections.abc import Generator, Iterator, Sequence
+from collections.abc import Iterator, Sequence
 from dataclasses import dataclass
-from statistics import fmean
 
 from streetsim.actuated.lights import Lights, driven_lights
 from streetsim.base.files import Fault, whole_file, whole_folder
-from streetsim.base.report import some
+from streetsim.base.report import first_few
 from streetsim.base.seeds import seeds_for
 from streetsim.model import trust
 from streetsim.model.tables import Entry, write_table
@@ -17,7 +16,7 @@ from streetsim.sessions.machines import Machines
 from streetsim.sessions.prepared import Outcome, Session
 from streetsim.signals.bounds import Bounded, bounded_outcome, bounds_text, given_bounds, key_of, search_bounds
 from streetsim.signals.found import (
-    LAST, Compared, of_vehicles, row_of, sumo_rows, tell_verdict, trips_told, write_search,
+    LAST, BeforeAfter, row_of, sumo_rows, tell_verdict, trips_told, vehicle_doubts, write_search,
 )
 from streetsim.signals.in_sumo import Verified
 from streetsim.signals.planning import ended_search, refuse_budget
@@ -37,7 +36,7 @@ class Asked:
     least: int
 
 
-@dataclass(slots=True)
+@dataclass(frozen=True, slots=True)
 class Ground:
     """What a search for bounds stands on: the town, its lights that detectors drive, the bounds given, and the
     sessions."""
@@ -56,7 +55,9 @@ def ground_of(reading: Reading, town: Town) -> Ground:
     given = given_bounds(lights, reading.keep)
     print(*lights.notes(), sep="\n", end="\n" if lights.listed else "", file=sys.stderr)
     if others := [one.name for one in lights.driven if one.name not in given]:
-        print(f"not changed, as they have no bounds of this kind or --keep says so: {some(others)}", file=sys.stderr)
+        print(
+            f"not changed, as they have no bounds of this kind or --keep says so: {first_few(others)}", file=sys.stderr
+        )
     if not given:
         raise Fault(f"{reading.map}: detectors drive no light whose bounds may be changed")
     settings = Settings(reading.until, lights=lights)
@@ -66,42 +67,36 @@ def ground_of(reading: Reading, town: Town) -> Ground:
     return Ground(town, lights, given, sessions)
 
 
-def outcomes(
+def bounded_outcomes(
     workers: Machines, tried: Sequence[Bounded], seeds: Sequence[int], place: int = EXACT
 ) -> Iterator[Outcome]:
     """What runs under some bounds gave: the outcomes of the first bounds with each seed, then of the second, and so on.
-    workers: with the sessions of a ground; place: of the session that runs them, EXACT or CAREFUL. Fault where a run
-    fails."""
+    workers: with the sessions of a ground; place: of the session that runs them, EXACT or CAREFUL."""
     tasks = [(f"the run with seed {seed}", bounded_outcome, place, one, seed) for one in tried for seed in seeds]
     return workers.ordered(tasks)
 
 
-def searched_bounds(
-    asked: Asked, workers: Machines, ground: Ground, tried: Sequence[int]
-) -> tuple[Search, bool]:
+def searched_bounds(asked: Asked, workers: Machines, ground: Ground, tried: Sequence[int]) -> tuple[Search, bool]:
     """Searches for bounds; gives (search when it has ended, whether the user ended it). workers: with the sessions of
     the ground; tried: seeds for first runs of the given bounds, which say how many of them the search uses; used only
-    where asked.seeds is empty. Fault where a run fails, or where the budget does not reach for one run of each seed so
-    found; for asked.seeds that is not looked at."""
+    where asked.seeds is empty. Fault where a run fails, or the budget does not reach for one run of each seed."""
     cars, seeds = len(ground.town.session.departs), asked.seeds
     if not seeds:
-        seeds = tried[: seeds_for([one.seconds / cars for one in outcomes(workers, [ground.given], tried)])]
-        refuse_budget(asked.budget, seeds)
+        seeds = tried[: seeds_for([one.seconds / cars for one in bounded_outcomes(workers, [ground.given], tried)])]
+    refuse_budget(asked.budget, seeds)
 
-    def values(plans: Sequence[Bounded]) -> Generator[float, None, None]:
-        """The mean trip, in seconds, under each of some bounds over the seeds of the search, in their order."""
-        found = outcomes(workers, plans, seeds, CAREFUL)
-        for _ in plans:
-            yield fmean(next(found).seconds / cars for _ in seeds)
+    def trips(tried: Sequence[Bounded]) -> Iterator[float]:
+        """The mean trip, in seconds, under each of some bounds with each seed."""
+        return (one.seconds / cars for one in bounded_outcomes(workers, tried, seeds, CAREFUL))
 
-    def climbs(search: Search) -> None:
+    def search_from_given(search: Search) -> None:
         """Searches from the given bounds."""
         search_bounds(search, ground.given, asked.least)
 
-    return ended_search(values, asked.budget, len(seeds), climbs, key_of)
+    return ended_search(trips, asked.budget, len(seeds), search_from_given, key_of)
 
 
-@dataclass(slots=True)
+@dataclass(frozen=True, slots=True)
 class Found:
     """What a search for bounds gave, and the runs by seeds that it did not see: under the bounds given (before), under
     those found (after), and under the best plan of seconds (fixed). sumo: None where SUMO was not run."""
@@ -113,7 +108,7 @@ class Found:
     fixed: list[Outcome]
     sumo: Verified | None
 
-    def rows(self, cars: int) -> list[Compared]:
+    def before_after_rows(self, cars: int) -> list[BeforeAfter]:
         """The rows of before-after.csv: mean trips (s) as given and as found, under the best plan of seconds and as
         found, and those of SUMO where it was run; of two seeds or more. cars: vehicles that depart before the end."""
         named = {"mean_trip_s": (self.before, self.after), "mean_trip_of_best_fixed_s": (self.fixed, self.after)}
@@ -122,16 +117,16 @@ class Found:
 
     def doubts(self, ground: Ground) -> Iterator[str]:
         """Why the bounds found are not to be trusted, a text each; nothing where they are."""
-        town, lights = ground.town, ground.lights.going_by(ground.town.mapping)
-        yield from of_vehicles(town, self.before, self.after)
-        yield from trust.of_actuated(town.session.clocks[-1], town.run, town.mapping, lights)
+        town, lights = ground.town, ground.lights.listed_lights(ground.town.mapping)
+        yield from vehicle_doubts(town, self.before, self.after)
+        yield from trust.actuated_doubts(town.session.clocks[-1], town.run, town.mapping, lights)
 
 
 def write_found_bounds(output: str, out: str, ground: Ground, found: Found) -> int:
-    """Writes bounds (to the file output) and tables (into the folder out), and prints what was found; Fault, and no
-    table, where one cannot be written. Gives the exit status: 0 where the bounds are shown to be better wherever they
-    were run, else 1."""
-    best, rows, doubts = found.search.best[1], found.rows(len(ground.town.session.departs)), [*found.doubts(ground)]
+    """Writes bounds (to the file output) and tables (into the folder out), and prints what was found. Gives the exit
+    status: 0 where the bounds are shown to be better wherever they were run, else 1."""
+    best, doubts = found.search.best[1], [*found.doubts(ground)]
+    rows = found.before_after_rows(len(ground.town.session.departs))
     with whole_folder(out, LAST, ()) as folder:
         write_table(f"{folder}/lights.csv", LIGHTS, bound_rows(ground.given, best))
         write_search(folder, rows, found.search, doubts)
@@ -141,20 +136,17 @@ def write_found_bounds(output: str, out: str, ground: Ground, found: Found) -> i
 
 
 def bound_rows(before: Bounded, after: Bounded) -> Iterator[Entry]:
-    """The rows of lights.csv, as LIGHTS has the columns, one for each green that detectors extend: its bounds and the
-    gap that ends it, seconds, as given and as found."""
+    """The rows of lights.csv, as LIGHTS has the columns, one for each green: bounds and gap as given and as found."""
     for name, own in sorted(before.items()):
         for at, ((phase, least, most), (_, low, high)) in enumerate(zip(own.greens, after[name].greens, strict=True)):
             yield name, phase, least, low, most, high, f"{own.gap_of(at):g}", f"{after[name].gap_of(at):g}"
 
 
-def tell_bounds(found: Found, rows: Sequence[Compared], doubts: Sequence[str]) -> int:
-    """Prints what was found, of the rows of before-after.csv; gives the exit status: 0 where the bounds are shown to be
-    better wherever they were run, else 1."""
-    _, fixed, _, less, width, _ = rows[1]
+def tell_bounds(found: Found, rows: Sequence[BeforeAfter], doubts: Sequence[str]) -> int:
+    """Prints what was found, of the rows of before-after.csv; gives the exit status, as tell_verdict."""
+    fixed = rows[1]
     if found.stopped:
         print("stopped: the best bounds found so far are written")
     print(trips_told(rows[0], found.search))
-    print(f"the best plan of seconds: {fixed:.1f} s; detectors with the bounds found: {less:+.1f} s ± {width:.1f}")
+    print(f"the best plan of seconds: {fixed.before:.1f} s; detectors with the bounds found: {fixed.change_told()}")
     return tell_verdict(rows[0], found.search, doubts, found.sumo)
-

@@ -8,8 +8,7 @@ from dataclasses import dataclass, replace
 from typing import Any
 from xml.sax.saxutils import quoteattr
 
-from streetsim.actuated.detectors import GAP
-from streetsim.actuated.kept import in_force
+from streetsim.actuated.kept import programs_at_begin
 from streetsim.actuated.lights import Driven, Lights, driven_of
 from streetsim.actuated.rings import DrivenRings, digits
 from streetsim.base import limits
@@ -29,9 +28,9 @@ MAX_GAP = "max-gap"
 
 @dataclass(frozen=True, slots=True)
 class Bounds:
-    """The bounds of one light, seconds: (phase, least, most) of each green that detectors extend, and the gaps that end
-    a green: one for all of them, or of a NEMA light one for each (its vehext). A phase is its place in the program, and
-    of a NEMA light its number in the ring."""
+    """The bounds of one light, seconds: (phase, least, most) of greens that detectors extend, with a least below the
+    most, and the gaps that end a green: one for all of them, or of a NEMA light one for each (its vehext). A phase is
+    its place in the program, and of a NEMA light its number in the ring."""
 
     greens: tuple[tuple[int, int, int], ...]  # phase, least, most
     gaps: tuple[float, ...]
@@ -59,31 +58,34 @@ Bounded = dict[str, Bounds]  # by light
 
 def given_bounds(lights: Lights, keep: Collection[str]) -> Bounded:
     """The bounds of the lights that a search may change, by light: of the actuated and NEMA ones that are not in keep
-    and that have one program all day. Greens whose most is above 600 s are left out, and so is a light that has no
-    other."""
+    and that have one program all day. Greens whose most is above 600 s are left out, and so are lights without a green
+    whose bounds may be changed."""
     found, keep = {}, {*keep, *(light for _, light, _ in lights.switches)}
     for one in lights.driven:
         if one.name not in keep:
-            own = of_phases(one) if isinstance(one, Driven) else of_rings(one)
+            own = actuated_bounds(one) if isinstance(one, Driven) else ring_bounds(one)
             if own.greens:
                 found[one.name] = own
     return found
 
 
-def of_phases(light: Driven) -> Bounds:
-    """The bounds of an actuated light, without greens whose most is above 600 s; its one gap is the greatest of its
-    detectors' gaps, 3 s where it has none."""
-    own = ((at, phase.least, phase.most) for at, phase in enumerate(light.phases) if phase.is_extended)
-    greens = tuple((at, least, most) for at, least, most in own if most <= limits.PHASE_STEPS)
-    return Bounds(greens, (max(light.gaps, default=GAP),))
+def actuated_bounds(light: Driven) -> Bounds:
+    """The bounds of the greens of an actuated light that detectors extend, without those whose most is above 600 s; its
+    one gap is the greatest of its detectors' gaps."""
+    greens = tuple(
+        (at, phase.least, phase.most)
+        for at, phase in enumerate(light.phases)
+        if phase.is_extended and phase.detectors and phase.most <= limits.PHASE_STEPS
+    )
+    return Bounds(greens, (max(light.gaps),) if greens else ())
 
 
-def of_rings(light: DrivenRings) -> Bounds:
+def ring_bounds(light: DrivenRings) -> Bounds:
     """The bounds of a NEMA light, in whole seconds, its extensions (vehext) as gaps; without greens whose most is above
-    600 s."""
+    600 s, or is their least."""
     own = [one for one in light.rings.phases if one.least < one.most <= limits.PHASE_STEPS]
     return Bounds(
-        tuple((one.name, round(one.least), round(one.most)) for one in own), tuple(one.extension for one in own)
+        tuple((one.number, round(one.least), round(one.most)) for one in own), tuple(one.extension for one in own)
     )
 
 
@@ -106,8 +108,8 @@ def kept_with(kept: Json, bounds: Bounds) -> Json:
 
 def with_bounds(lights: Lights, mapping: Map, bounded: Mapping[str, Bounds]) -> Lights:
     """The lights with other bounds, by name; lights without a name there stay. Their detectors lie where SUMO puts them
-    for the new gap. Listed (a Fault) where one cannot be driven with its gap, from 32 s on."""
-    kept = in_force(mapping.programs)
+    for the new least greens. Listed (a Fault) where one cannot be driven with its gap, from 32 s on."""
+    kept = programs_at_begin(mapping.programs)
     driven = (
         driven_of(kept_with(kept[one.name], bounded[one.name]), mapping) if one.name in bounded else one
         for one in lights.driven
@@ -116,8 +118,7 @@ def with_bounds(lights: Lights, mapping: Map, bounded: Mapping[str, Bounds]) -> 
 
 
 def bounded_outcome(session: Session, bounded: Bounded, seed: int) -> Outcome:
-    """What a run under some bounds gave with a seed; a task of a worker. session.giving must not be None. Fault where
-    it fails."""
+    """What a run under some bounds gave with a seed; a task of a worker. session.giving must not be None."""
     giving = session.giving
     assert giving is not None
     lights = with_bounds(giving.lights, giving.mapping, bounded)
@@ -130,14 +131,14 @@ def key_of(bounded: Bounded) -> tuple[Any, ...]:
 
 
 def search_bounds(search: Search, given: Bounded, lowest: int) -> None:
-    """Searches from given bounds: those of for_all, then gaps, mosts and leasts light by light, by both of STEPS. Ends
-    there, or where the search has ended; search.best then has (mean trip in seconds, the best bounds). lowest: seconds
-    below which no least green is brought."""
+    """Searches from given bounds: those for all lights at once, then gaps, mosts and leasts light by light, by both of
+    STEPS. Ends there, or where the search has ended; search.best then has (mean trip in seconds, the best bounds).
+    lowest: seconds below which no least green is brought."""
     try:
-        search.cost("given", given)
+        search.mean_trip("given", given)
         best = given
-        for step, tried in for_all(given, lowest):
-            if search.cost(step, tried) < search.cost("best", best):
+        for step, tried in bounds_for_all_lights(given, lowest):
+            if search.mean_trip(step, tried) < search.mean_trip("best", best):
                 best = tried
         for gap, most, least in STEPS:
             for name in given:
@@ -150,7 +151,7 @@ def search_bounds(search: Search, given: Bounded, lowest: int) -> None:
         pass
 
 
-def for_all(given: Bounded, lowest: int) -> Iterator[tuple[str, Bounded]]:
+def bounds_for_all_lights(given: Bounded, lowest: int) -> Iterator[tuple[str, Bounded]]:
     """Bounds that are tried for all lights at once, (name of the step, bounds): each gap of GAPS, then all mosts times
     SHORTER, and times LONGER; a most that Bounds.with_green forbids stays. lowest: as of Bounds.with_green."""
     for gap in GAPS:
@@ -181,17 +182,16 @@ def change_of(name: str, change: Change) -> Callable[[Bounded, int], Bounded | N
 
 
 def gap_by(at: int, seconds: float) -> Change:
-    """A change that makes the gap at a place of gaps so many seconds longer (sign 1) or shorter (sign -1); it gives
-    None outside GAP_RANGE."""
+    """A change: the gap at a place of gaps longer (sign 1) or shorter (sign -1) by so much; None as of with_gap."""
     return lambda own, sign: own.with_gap(at, own.gaps[at] + sign * seconds)
 
 
 def green_by(at: int, least: int, most: int, lowest: int) -> Change:
-    """A change that makes the least and the most of the green at a place of greens so many seconds (least, most) longer
-    (sign 1) or shorter (sign -1); it gives None where Bounds.with_green does. lowest: as there."""
+    """A change: the least and the most of the green at a place of greens longer (sign 1) or shorter (sign -1) by so
+    many seconds (least, most); None, and lowest, as of Bounds.with_green."""
 
     def change(own: Bounds, sign: int) -> Bounds | None:
-        """The bounds with another green; None where Bounds.with_green gives none."""
+        """The bounds with the green changed; None as of with_green."""
         _, low, high = own.greens[at]
         return own.with_green(at, low + sign * least, high + sign * most, lowest)
 
@@ -201,13 +201,16 @@ def green_by(at: int, least: int, most: int, lowest: int) -> Change:
 def bounds_text(mapping: Map, bounded: Mapping[str, Bounds], program: str = PROGRAM) -> str:
     """The programs of some actuated and NEMA lights of a map with other bounds, as the text of an additional file.
     program: the programID of each."""
-    kept = in_force(mapping.programs)
-    own = ((name, kept_with(kept[name], bounds)) for name, bounds in sorted(bounded.items()))
-    about = 'type="{}" programID="{}" offset="{:g}"'
-    return additional_of((name, about.format(one["kind"], program, one["offset"]), inside(one)) for name, one in own)
+    kept = programs_at_begin(mapping.programs)
+    programs = []
+    for name, bounds in sorted(bounded.items()):
+        one = kept_with(kept[name], bounds)
+        about = f'type="{one["kind"]}" programID="{program}" offset="{one["offset"]:g}"'
+        programs.append((name, about, program_elements(one)))
+    return additional_of(programs)
 
 
-def inside(kept: Json) -> Iterator[str]:
+def program_elements(kept: Json) -> Iterator[str]:
     """The parameters and phases of a program, of what a map keeps of it, as elements of an additional file."""
     for key, value in kept["parameters"].items():
         yield f"<param key={quoteattr(key)} value={quoteattr(value)}/>"
@@ -219,16 +222,15 @@ def inside(kept: Json) -> Iterator[str]:
 def phase_words(
     seconds: float, state: str, least: float | None, most: float | None, following: Sequence[int]
 ) -> list[str]:
-    """The attributes of a <phase> as texts (duration="30" state="GGrr", ..), of what a map keeps of it: seconds; least
-    and most: of minDur and maxDur, seconds, None where not written; following: places of the phases that may come next,
-    empty: the next one."""
+    """The attributes of a <phase> as texts (duration="30" state="GGrr", ..), of what a map keeps of it. least, most:
+    seconds, None where not written; following: places of the phases that may come next, empty: the next one."""
     words = [f'duration="{seconds:g}" state="{state}"']
     words += [f'{name}="{value:g}"' for name, value in (("minDur", least), ("maxDur", most)) if value is not None]
     return words + ([f'next="{" ".join(map(str, following))}"'] if following else [])
 
 
 def ring_words(name: str, extension: float, yellow: float, red: float) -> list[str]:
-    """The further attributes of a <phase> of a NEMA light as texts (name="2", ..), of what a map keeps of it: extension
-    (vehext), yellow and red in seconds."""
+    """The further attributes of a <phase> of a NEMA light as texts (name="2", ..), of what a map keeps of it, in
+    seconds."""
     times = (("vehext", extension), ("yellow", yellow), ("red", red))
     return [f"name={quoteattr(name)}", *(f'{key}="{value:g}"' for key, value in times)]

@@ -2,11 +2,12 @@
 from collections import Counter, defaultdict
 from collections.abc import Collection, Iterable, Iterator, Mapping, Sequence
 from dataclasses import dataclass
+from itertools import pairwise
 
 from streetsim.model.freeflow import FreeFlow
 from streetsim.model.mapping import Map
 from streetsim.model.runs import Run
-from streetsim.signals.plans import Light, Plan, Timing
+from streetsim.signals.plans import GREEN, Light, Plan, Timing
 
 Ways = defaultdict[tuple[str, str], Counter[tuple[int, ...]]]  # from light to light: vehicles by the links of their way
 
@@ -23,7 +24,7 @@ class Hop:
     come: int  # the phase that lets it come, or go
 
 
-@dataclass(slots=True)
+@dataclass(frozen=True, slots=True)
 class Streets:
     """What formulas need to know of the vehicles of a run."""
 
@@ -46,7 +47,7 @@ def streets_of(run: Run, mapping: Map, lights: Mapping[str, Light]) -> Streets:
     for plan in plans:
         through.update({light_of[link] for link in plan[:-1]} - {None})
     order = sorted(through, key=lambda light: (-through[light], light))
-    parents, behind = tree(order, ways)
+    parents, behind = heaviest_tree(order, ways)
     free_flow = FreeFlow(mapping, run.load.command["dawdle"] / 1000)
     hops = {light: hop_of(light, parent, ways, mapping, lights, free_flow) for light, parent in parents.items()}
     loads = loads_of(run, mapping, lights)
@@ -60,13 +61,13 @@ def ways_between(plans: Iterable[Sequence[int]], light_of: Sequence[str | None])
     ways: Ways = defaultdict(Counter)
     for plan in plans:
         met = [(at, light) for at in range(len(plan) - 1) if (light := light_of[plan[at]])]
-        for (here, light), (there, other) in zip(met, met[1:]):
+        for (here, light), (there, other) in pairwise(met):
             if light != other:
                 ways[light, other][tuple(plan[here : there + 2])] += 1
     return ways
 
 
-def tree(order: Sequence[str], ways: Ways) -> tuple[dict[str, str], dict[str, list[str]]]:
+def heaviest_tree(order: Sequence[str], ways: Ways) -> tuple[dict[str, str], dict[str, list[str]]]:
     """The tree of the heaviest flows between lights, rooted in each part at its first light of order: {light: parent}
     for each light but the roots, and {light: itself and all lights behind it, parents before children}."""
     both: Counter[tuple[str, str]] = Counter()
@@ -84,7 +85,7 @@ def tree(order: Sequence[str], ways: Ways) -> tuple[dict[str, str], dict[str, li
     reached: dict[str, bool] = {}
     for root in order:
         if root not in reached:
-            walk(root, joined, parents, reached)
+            reach_from(root, joined, parents, reached)
     behind = {light: [light] for light in order}
     for light in reversed(reached):
         if light in parents:
@@ -92,7 +93,7 @@ def tree(order: Sequence[str], ways: Ways) -> tuple[dict[str, str], dict[str, li
     return parents, behind
 
 
-def walk(root: str, joined: Mapping[str, set[str]], parents: dict[str, str], reached: dict[str, bool]) -> None:
+def reach_from(root: str, joined: Mapping[str, set[str]], parents: dict[str, str], reached: dict[str, bool]) -> None:
     """Adds to parents and reached all lights that hang together with a root, parents first. joined: the neighbours of
     each light in the tree."""
     waiting = [root]
@@ -128,8 +129,8 @@ def hop_of(
 
 
 def green_phases(light: Light, index: int) -> list[int]:
-    """The places of the phases in which an index of a light's state has green (G, g or s), or is off (o, O)."""
-    return [at for at, state in enumerate(light.states) if state[index] in "GgsOo"]
+    """The places of the phases in which an index of a light's state has green, or is off."""
+    return [at for at, state in enumerate(light.states) if state[index] in GREEN]
 
 
 def loads_of(run: Run, mapping: Map, lights: Mapping[str, Light]) -> dict[str, list[float]]:
@@ -138,16 +139,15 @@ def loads_of(run: Run, mapping: Map, lights: Mapping[str, Light]) -> dict[str, l
     counts as 900 s at least; turns that the import added are left out."""
     departs = [line.command["depart"] for line in run.enters]
     hours = max(900, max(departs) - min(departs)) / 3600 if departs else 1.0
-    flow = Counter(pair for line in run.enters for pair in zip(line.command["plan"], line.command["plan"][1:]))
+    flow = Counter(pair for line in run.enters for pair in pairwise(line.command["plan"]))
     turns = {(turn.link, turn.next): turn for turn in mapping.turns if turn.light in lights and not turn.added}
-    loads: dict[str, list[float]] = {}
+    loads: dict[str, list[float]] = {name: [] for name in lights}
     for name, light in lights.items():
         own = [turn for turn in turns.values() if turn.light == name]
-        loads[name] = []
         for state in light.states:
             links: defaultdict[int, float] = defaultdict(float)
             for turn in own:
-                if state[turn.index] in "GgsOo":
+                if state[turn.index] in GREEN:
                     links[turn.link] += flow[turn.link, turn.next] / hours / len(mapping.links[turn.link].lanes)
             loads[name].append(max(links.values(), default=0.0))
     return loads
@@ -163,7 +163,7 @@ def critical_cycle(lights: Mapping[str, Light], plan: Plan, streets: Streets) ->
     """The longest of the lights' cycles after Webster, in seconds; None where a light is at capacity, or no light has
     phases that may be stretched."""
     cycles = [
-        webster_cycle(light.lost(plan[name]), sum(streets.loads[name][at] for at in light.free) / SATURATION)
+        webster_cycle(light.fixed_seconds(plan[name]), sum(streets.loads[name][at] for at in light.free) / SATURATION)
         for name, light in lights.items()
         if light.free
     ]
@@ -175,9 +175,9 @@ def at_cycle(
     lights: Mapping[str, Light], plan: Plan, cycle: int | None, loads: Mapping[str, Sequence[float]] | None = None
 ) -> Plan:
     """The plan at a cycle in seconds (None: each light keeps its own): greens in proportion to the loads of their
-    phases (None: to the given greens); offsets keep their part of the cycle. A light whose bounds do not allow the
-    loads is scaled by its given greens; one that cannot have the cycle keeps its timing. loads: by light, of each of
-    its phases, vehicles an hour and lane as Streets has them; less than 1 counts as 1, so they must be no shares."""
+    phases (None: to the given greens), of each at least to 1 vehicle an hour; offsets keep their part of the cycle. A
+    light whose bounds do not allow the loads is scaled by its given greens; one that cannot have the cycle keeps its
+    timing. loads: as Streets has them."""
     made = {}
     for name, timing in plan.items():
         shares = [max(1.0, load) for load in loads[name]] if loads else None
@@ -190,12 +190,9 @@ def waved(plan: Plan, streets: Streets) -> Plan:
     """The plan with other offsets, along the tree: green comes when the platoon does. Lights without a hop keep
     theirs."""
     made = dict(plan)
-    for root in streets.order:
-        if root in streets.hops:
-            continue
+    for root in (light for light in streets.order if light not in streets.hops):
         for light in streets.behind[root]:
-            hop = streets.hops.get(light)
-            if hop:
+            if hop := streets.hops.get(light):
                 start = made[hop.parent].offset + sum(made[hop.parent].durations[: hop.leave]) + hop.seconds
                 timing = made[light]
                 offset = round(start - sum(timing.durations[: hop.come])) % timing.cycle
@@ -211,10 +208,7 @@ def proposals(
     planning.CHANGES, has them. cycles: empty where cycles may not change."""
     for cycle in (None, *cycles):
         for loads in (None, streets.loads) if "splits" in changed else (None,):
-            if cycle is None and loads is None:
-                made = plan
-            else:
-                made = at_cycle(lights, plan, cycle, loads)
+            made = plan if cycle is None and loads is None else at_cycle(lights, plan, cycle, loads)
             told = f"{f'cycle {cycle} s' if cycle else 'given cycles'}, {'splits by flow' if loads else 'given splits'}"
             yield f"{told}, given offsets", made
             if "offsets" in changed:

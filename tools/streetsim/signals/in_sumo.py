@@ -3,7 +3,7 @@ import os
 import shutil
 import subprocess
 import tempfile
-from collections.abc import Callable, Sequence
+from collections.abc import Callable, Mapping, Sequence
 from dataclasses import dataclass, replace
 from itertools import count
 from pathlib import Path
@@ -19,7 +19,7 @@ from streetsim.importing.vehicles import trips_with_ways
 from streetsim.model.mapping import Map
 from streetsim.model.runs import Run
 from streetsim.model.sources import Sources, sources_of
-from streetsim.results.compare import read_tripinfo
+from streetsim.results.compare import Trip, read_tripinfo
 from streetsim.signals.town import Reading, Town
 from streetsim.sumo.additional import read_additional
 from streetsim.sumo.converting import options_again
@@ -31,7 +31,7 @@ from streetsim.ways.trips import write_routes
 PROGRAM_ID = "streetsim-verified"  # of the lights: no program of the files given may have the same
 
 
-@dataclass(slots=True)
+@dataclass(frozen=True, slots=True)
 class Verified:
     """Mean trips in SUMO, seconds, of what was given (before) and what was found (after), one for each seed, and the
     teleports of all runs of each."""
@@ -40,7 +40,7 @@ class Verified:
     after: list[float]
     teleports: tuple[int, int]
 
-    def difference(self) -> tuple[float, float]:
+    def difference_and_half(self) -> tuple[float, float]:
         """(mean difference, after less before; half the width of its 95 % interval), seconds; of two seeds or more."""
         mean, half = paired(self.before, self.after)
         assert half is not None
@@ -48,7 +48,7 @@ class Verified:
 
     def told(self) -> str:
         """Both means and their difference, as one line for the user."""
-        difference, half = self.difference()
+        difference, half = self.difference_and_half()
         moved = f", {self.teleports[0]:,} and {self.teleports[1]:,} teleports" if any(self.teleports) else ""
         return (
             f"in SUMO {fmean(self.before):.1f} s as given, {fmean(self.after):.1f} s as found: "
@@ -56,7 +56,7 @@ class Verified:
         )
 
 
-@dataclass(slots=True)
+@dataclass(frozen=True, slots=True)
 class InSumo:
     """SUMO, and what its runs are given: the path of the program, the files of the import, further additional files
     (more), and the first and last second."""
@@ -70,17 +70,17 @@ class InSumo:
     def words(self, plan: str, seed: int, trips: str, statistic: str) -> list[str]:
         """The words of the command of one run. plan: a file of signal programs that is read last; trips, statistic:
         files that SUMO writes."""
-        words = [self.program, "-n", self.sources.net, "-a", ",".join([*self.sources.additional, *self.more, plan])]
-        words += [
-            "-r", ",".join(self.sources.routes), "--seed", str(seed), "--begin", str(self.start),
-            "--end", str(self.until),
+        own = self.sources
+        return [
+            *(self.program, "-n", own.net, "-a", ",".join([*own.additional, *self.more, plan])),
+            *("-r", ",".join(own.routes), "--seed", str(seed), "--begin", str(self.start), "--end", str(self.until)),
+            *("--tripinfo-output", trips, "--statistic-output", statistic, "--no-step-log", "--no-warnings"),
         ]
-        return [*words, "--tripinfo-output", trips, "--statistic-output", statistic, "--no-step-log", "--no-warnings"]
 
     def with_ways(self, mapping: Map, path: str) -> Self:
         """The same, with a file of routes, which it writes to path, in place of the files of an import with --trips:
-        its vehicles, on the ways that the import found; itself where the import had none. mapping: of the import. Fault
-        where a file cannot be read or written, or a trip has no way."""
+        its vehicles, on the ways that the import found; itself where the import had no --trips. mapping: of the import.
+        Fault where a file is wrong, or cannot be read or written."""
         sources = self.sources
         if not sources.trips:
             return self
@@ -93,10 +93,9 @@ class InSumo:
         write_routes(path, trips_with_ways(net, graph, types, paths, options, report), graph)
         return replace(self, sources=Sources(sources.net, sources.additional, [path]))
 
-    def trips(self, plan: str, seed: int) -> tuple[dict, int]:
+    def run_sumo(self, plan: str, seed: int) -> tuple[dict[str, Trip], int]:
         """Runs SUMO with a plan, a file of signal programs, and a seed; gives {vehicle: (wished departure, arrival)} in
-        seconds, of those who arrived, and the number of teleports. Fault where SUMO fails, or what it wrote cannot be
-        read."""
+        seconds, of those who arrived, and the number of teleports. Fault where SUMO fails."""
         with tempfile.TemporaryDirectory() as folder:
             trips, statistic = f"{folder}/trips.xml", f"{folder}/statistic.xml"
             words = self.words(plan, seed, trips, statistic)
@@ -107,23 +106,20 @@ class InSumo:
 
 
 def environment() -> dict[str, str]:
-    """The environment for SUMO: SUMO_HOME is where Debian has it unless the user's says otherwise. With it SUMO checks
-    files without the network."""
+    """This program's environment, for SUMO; with Debian's SUMO_HOME, by which SUMO checks files without the network,
+    where it has none."""
     return {"SUMO_HOME": "/usr/share/sumo", **os.environ}
 
 
 def first_error(text: str) -> str:
-    """The first line of SUMO's standard error that begins with Error, else the first that is not blank; where all are
-    blank, words that say so."""
+    """The first line of SUMO's standard error that begins with Error, else the first that is not blank, else that there
+    is none."""
     lines = [line for line in text.splitlines() if line.strip()]
-    return next(
-        (line for line in lines if line.startswith("Error")), lines[0] if lines else "nothing on standard error"
-    )
+    return next((line for line in lines if line.startswith("Error")), [*lines, "nothing on standard error"][0])
 
 
 def teleports_of(path: str) -> int:
-    """How many times SUMO moved a vehicle out of the way (teleports; one vehicle may count more than once), of its
-    statistic output at path; Fault where that cannot be read."""
+    """How often SUMO moved a vehicle out of the way, one maybe more than once, of its statistic output at path."""
     return sum(attribute(path, one, "total", int) for one in elements(path, ["statistics"]) if one.tag == "teleports")
 
 
@@ -155,7 +151,7 @@ def verified(in_sumo: InSumo, town: Town, texts: Sequence[str], seeds: Sequence[
     def run(task: tuple[str, int], told: Callable[[int], object]) -> tuple[float, int]:
         """(mean trip in seconds, number of teleports) of one run, by its (file of programs, seed); then tells that one
         more is done."""
-        trips, teleports = in_sumo.trips(*task)
+        trips, teleports = in_sumo.run_sumo(*task)
         told(1)
         return mean_trip(trips, departs, in_sumo.until), teleports
 
@@ -172,9 +168,9 @@ def verified(in_sumo: InSumo, town: Town, texts: Sequence[str], seeds: Sequence[
     return Verified(list(means[:half]), list(means[half:]), (sum(teleports[:half]), sum(teleports[half:])))
 
 
-def mean_trip(trips: dict, departs: dict, until: int) -> float:
+def mean_trip(trips: Mapping[str, Trip], departs: Mapping[str, int], until: int) -> float:
     """The mean trip, in seconds, over the vehicles of departs, {vehicle: wished departure}, one at least; a vehicle
-    that is not in trips, as InSumo.trips gives them, counts until the end (until), as in streetsim."""
+    that is not in trips, as InSumo.run_sumo gives them, counts until the end (until), as in streetsim."""
     return fmean(
         trips[name][1] - trips[name][0] if name in trips else until - depart for name, depart in departs.items()
     )

@@ -3,37 +3,36 @@ import json
 from collections import defaultdict
 from collections.abc import Mapping, Sequence
 from dataclasses import replace
+from typing import NamedTuple
 
 from streetsim.base.report import Report
-from streetsim.model.mapping import Map, MapLink, MapTurn
-from streetsim.model.runs import Command, Run
+from streetsim.model.mapping import Map, MapTurn
+from streetsim.model.runs import Run
 from streetsim.signals.plans import Light, Timing
 from streetsim.sumo.additional import read_additional
 from streetsim.sumo.crossing import hourly_flows
 from streetsim.sumo.net import Program, SumoNet, connections_of, read_net
-from streetsim.sumo.signals import LitNode, movements_of_junction, signal
-from streetsim.sumo.slowing import slowed
+from streetsim.sumo.signals import LitNode, movements_of_junction, signal_command
+from streetsim.sumo.slowing import with_lower_limits
 from streetsim.sumo.types import Types
 
 
-class Flowing:
+class Flowing(NamedTuple):
     """A vehicle of a run, as the import counts flows."""
 
-    def __init__(self, command: Command, links: Sequence[MapLink]) -> None:
-        """command: the vehicle's enter command; links: of the map."""
-        self.edges, self.depart = [links[link].edge for link in command["plan"]], command["depart"]
+    edges: list[str]
+    depart: int
 
 
 def read_plans(paths: Sequence[str], mapping: Map) -> SumoNet:
     """The network of the first file, with the signal programs of all files, of which the last of a light counts; edges
-    are in parts as in the map. Fault where a file cannot be read, or a lower limit of the map cannot be had in that
-    network."""
+    are in parts as in the map. Fault where a file is wrong, or that network cannot have a lower limit of the map."""
     report = Report()
     net = read_net(paths[0], tuple(mapping.options["classes"]), report)
     types = Types(mapping.options.get("seed", 1), report)
     for path in paths[1:]:
         read_additional(path, net, types, report)
-    return slowed(net, [], mapping.options.get("slow", ()), report)[0]
+    return with_lower_limits(net, [], mapping.options.get("slow", ()), report)[0]
 
 
 class LightLines:
@@ -43,7 +42,8 @@ class LightLines:
     def __init__(self, net: SumoNet, run: Run, mapping: Map) -> None:
         """net: whose programs are replaced by those of plans, in a copy."""
         self.net, self.mapping = replace(net, programs=dict(net.programs)), mapping
-        self.flows = hourly_flows([Flowing(line.command, mapping.links) for line in run.enters])
+        names, enters = [link.edge for link in mapping.links], [line.command for line in run.enters]
+        self.flows = hourly_flows([Flowing([names[link] for link in one["plan"]], one["depart"]) for one in enters])
         self.limits_of = {link.edge: link.limit for link in mapping.links}
         self.connections = connections_of(net)
         self.nodes: defaultdict[str, list[int]] = defaultdict(list)
@@ -57,7 +57,7 @@ class LightLines:
         self.permissive: set[str] = set()  # lights at which some who drive must find gaps in a green
         self.report = Report()  # of what was made, where a light needs more phases than there may be
 
-    def of(self, plan: Mapping[str, Timing], lights: Mapping[str, Light]) -> bytes:
+    def signal_lines(self, plan: Mapping[str, Timing], lights: Mapping[str, Light]) -> bytes:
         """The signal lines of a plan as bytes, one for each node of each of its lights; lights: by name. Notes in
         self.permissive the lights at which turns must find gaps in a green, and in self.report where one needs more
         phases than there may be. Fault where a program does not fit its light."""
@@ -65,16 +65,15 @@ class LightLines:
         for name, timing in plan.items():
             key = name, timing.durations
             if key not in self.made:
-                self.made[key] = [self.phases(name, node, timing, lights[name]) for node in self.nodes[name]]
+                self.made[key] = [self.phases_json(name, node, timing, lights[name]) for node in self.nodes[name]]
             for node, phases in zip(self.nodes[name], self.made[key], strict=True):
                 values = node, -timing.offset % timing.cycle, phases
                 lines.append(b'{"cmd":"signal","node":%d,"offset":%d,"phases":%s}\n' % values)
         return b"".join(lines)
 
-    def phases(self, name: str, node: int, timing: Timing, light: Light) -> bytes:
+    def phases_json(self, name: str, node: int, timing: Timing, light: Light) -> bytes:
         """The phases of a light at one of its nodes, as the JSON of a signal line's "phases". Puts the program into
-        self.net, and the light into self.permissive where some must find gaps in its greens. Fault where the program
-        does not fit the light."""
+        self.net; self.permissive, self.report and Fault as of signal_lines."""
         program = Program(0.0, list(zip(timing.durations, light.states, strict=True)), "static")
         self.net.programs[name] = program
         junction, permissive = self.mapping.nodes[node][0], self.mapping.options["permissive"]
@@ -86,5 +85,5 @@ class LightLines:
             self.permissive.add(name)
         turns = self.turns[node]
         edges = {link: self.mapping.links[link].edge for link, *_ in turns}
-        made = signal(LitNode(node, turns, edges, name, program, permissive, self.report, found))
+        made = signal_command(LitNode(node, turns, edges, name, program, permissive, self.report, found))
         return json.dumps(made["phases"], separators=(",", ":")).encode()

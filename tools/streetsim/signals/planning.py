@@ -1,11 +1,13 @@
 """What a search for signal plans tries, and with which seeds."""
-from collections.abc import Callable, Sequence
+from collections.abc import Callable, Generator, Iterator, Sequence
+from itertools import islice
+from statistics import fmean
 from typing import Any
 
 from streetsim.base.files import Fault
 from streetsim.base.progress import Meanwhile, Stopping
 from streetsim.signals.formulas import Streets, critical_cycle
-from streetsim.signals.search import Search, Values, key_of
+from streetsim.signals.search import Search, key_of
 from streetsim.signals.town import Town
 
 CHANGES = ("offsets", "splits", "cycle")
@@ -21,9 +23,9 @@ def tried_seeds(check: range) -> list[int]:
     return [seed for seed in range(1, TRIED + len(check) + 1) if seed not in check][:TRIED]
 
 
-def lengths(cycles: range, town: Town, streets: Streets) -> list[int]:
-    """The cycles that are proposed, in seconds, rising: each STEP of the range and its end, and Webster's where it lies
-    within. cycles: a range by single seconds; empty: none is proposed."""
+def proposed_cycles(cycles: range, town: Town, streets: Streets) -> list[int]:
+    """The cycles that are proposed, in seconds, rising: each STEP of the range and its end, and critical_cycle's where
+    it lies within. cycles: a range by single seconds; empty: none is proposed."""
     made, critical = {*cycles[::STEP], *cycles[-1:]}, critical_cycle(town.lights, town.plan, streets)
     return sorted(made | ({critical} if critical is not None and critical in cycles else set()))
 
@@ -35,12 +37,20 @@ def refuse_budget(budget: int, seeds: Sequence[int]) -> None:
 
 
 def ended_search(
-    values: Values, budget: int, seeds: int, climbs: Callable[[Search], None], key: Callable[[Any], Any] = key_of
+    trips: Callable[[Sequence[Any]], Iterator[float]], budget: int, seeds: int, search_to_end: Callable[[Search], None],
+    key: Callable[[Any], Any] = key_of,
 ) -> tuple[Search, bool]:
     """Makes a search, and shows on the terminal how far it is; gives (search when it has ended, whether the user ended
-    it by Ctrl-C). values, budget, seeds, key: as Search has them (key_of); climbs: searches until the search has
-    ended."""
+    it by Ctrl-C). trips: of plans, gives the mean trip (s) of each with each seed, plan by plan; budget, seeds, key: as
+    Search has them (key_of); search_to_end: searches until the search has ended."""
     meanwhile = Meanwhile("simulations", budget)
+
+    def values(plans: Sequence[Any]) -> Generator[float, None, None]:
+        """The mean trip, in seconds, of each plan over the seeds, in the plans' order."""
+        found = trips(plans)
+        for _ in plans:
+            yield fmean(islice(found, seeds))
+
     with Stopping() as stopping:
 
         def told(search: Search) -> bool:
@@ -49,13 +59,13 @@ def ended_search(
             return stopping.asked
 
         search = Search(values, budget, seeds, told, key_of=key)
-        climbs(search)
+        search_to_end(search)
         meanwhile.end()
         return search, stopping.asked
 
 
 def best_line(search: Search) -> str:
-    """The mean trip of the best plan so far and how much it is above or below that of the given one, the first that was
-    tried, for the line of progress; empty where that is 0, as nobody drives."""
+    """For the line of progress: the mean trip of the best plan so far and how much it is above or below that of the
+    given one, the first that was tried; empty where that is 0, as nobody drives."""
     best, given = search.best[0], search.trials[0].value
     return f"best {best:.1f} s ({100 * (best / given - 1):+.1f} %)" if given else ""

@@ -16,6 +16,7 @@ from streetsim.sumo.net import STATIC, Program
 Seconds = TypeVar("Seconds", int, float)
 PROGRAM = "streetsim"  # the programID of what is written
 LEAST = 5  # seconds of a green that may be stretched
+GREEN = "GgsOo"  # letters of a state under which somebody may go, or the light is off
 
 
 @dataclass(frozen=True, slots=True)
@@ -48,7 +49,7 @@ class Light:
         """The places of the phases that may be stretched, which is: be longer or shorter."""
         return [at for at, (least, most) in enumerate(self.bounds) if least < most]
 
-    def lost(self, timing: Timing) -> int:
+    def fixed_seconds(self, timing: Timing) -> int:
         """The seconds of a cycle in phases that may not be stretched."""
         return timing.cycle - sum(timing.durations[at] for at in self.free)
 
@@ -58,7 +59,7 @@ class Light:
         cycle. None where the bounds do not allow it, or no phase may be stretched."""
         free = self.free
         shares = [(shares or timing.durations)[at] for at in free]
-        greens = spread(shares, cycle - self.lost(timing), [self.bounds[at] for at in free])
+        greens = spread(shares, cycle - self.fixed_seconds(timing), [self.bounds[at] for at in free])
         if greens is None:
             return None
         durations = list(timing.durations)
@@ -66,7 +67,7 @@ class Light:
             durations[at] = green
         return Timing(round(timing.offset * cycle / timing.cycle) % cycle, tuple(durations))
 
-    def moved(self, timing: Timing, source: int, target: int, seconds: int) -> Timing | None:
+    def with_green_moved(self, timing: Timing, source: int, target: int, seconds: int) -> Timing | None:
         """The timing with so many seconds moved from the phase at source to that at target; None where a bound forbids
         that."""
         durations = list(timing.durations)
@@ -79,9 +80,9 @@ class Light:
 Plan = dict[str, Timing]  # by light
 
 
-def whole(durations: Iterable[float]) -> tuple[int, ...]:
-    """Durations (s) as whole seconds, rounded by their running sum, so that the cycle differs by no more than its own
-    rounding."""
+def rounded_durations(durations: Iterable[float]) -> tuple[int, ...]:
+    """Durations (s) as whole seconds, rounded by their running sum as the import does, so that the cycle differs by no
+    more than its own rounding; one of less than a second may become 0."""
     made, exact, before = [], 0.0, 0
     for duration in durations:
         exact += duration
@@ -98,33 +99,33 @@ def spread(shares: Sequence[float], total: int, bounds: Sequence[tuple[int, int]
     low, high = 0.0, 1000.0 * total / max(1, sum(shares))
     for _ in range(60):
         factor = (low + high) / 2
-        if sum(bounded(share * factor, bound) for share, bound in zip(shares, bounds, strict=True)) < total:
+        if sum(clamped(share * factor, bound) for share, bound in zip(shares, bounds, strict=True)) < total:
             low = factor
         else:
             high = factor
-    made = list(whole(bounded(share * high, bound) for share, bound in zip(shares, bounds, strict=True)))
+    made = list(rounded_durations(clamped(share * high, bound) for share, bound in zip(shares, bounds, strict=True)))
     # What rounding left goes to the longest that takes it.
     for at in sorted(range(len(made)), key=lambda at: -made[at]):
-        made[at] = bounded(made[at] + total - sum(made), bounds[at])
+        made[at] = clamped(made[at] + total - sum(made), bounds[at])
     return made if sum(made) == total else None
 
 
-def bounded(value: Seconds, bound: tuple[int, int]) -> Seconds | int:
+def clamped(value: Seconds, bound: tuple[int, int]) -> Seconds | int:
     """The value, or the nearest one within a bound (least, most)."""
     return min(bound[1], max(bound[0], value))
 
 
-def light_of(name: str, program: Program, least: int = LEAST) -> tuple[Light, Timing]:
-    """(light of a SUMO program, its timing in whole seconds); least: as of bounds_of."""
-    durations = whole(duration for duration, _ in program.phases)
+def light_and_timing(name: str, program: Program, least: int = LEAST) -> tuple[Light, Timing]:
+    """(light of a SUMO program, its timing in whole seconds); least: as of stretch_bounds."""
+    durations = rounded_durations(duration for duration, _ in program.phases)
     given = program.bounds or [(None, None)] * len(durations)
     phases = zip(program.phases, durations, given, strict=True)
-    bounds = tuple(bounds_of(state, length, bound, least) for (_, state), length, bound in phases)
+    bounds = tuple(stretch_bounds(state, length, bound, least) for (_, state), length, bound in phases)
     light = Light(name, tuple(state for _, state in program.phases), bounds)
     return light, Timing(round(program.offset) % max(1, sum(durations)), durations)
 
 
-def bounds_of(state: str, given: int, bound: tuple[float | None, float | None], least: int) -> tuple[int, int]:
+def stretch_bounds(state: str, given: int, bound: tuple[float | None, float | None], least: int) -> tuple[int, int]:
     """The (least, most) seconds of a phase of given seconds, which are always within. One with green and no yellow that
     lasts least seconds or more may be changed, from least to 600 s, as far as bound (minDur, maxDur; None: not written)
     allows; each other keeps its length."""
@@ -138,7 +139,7 @@ def bounds_of(state: str, given: int, bound: tuple[float | None, float | None], 
 def is_green(state: str) -> bool:
     """Whether somebody has green in a phase (or its light is off) and nobody yellow, or red with yellow (u); state:
     SUMO's letters."""
-    return bool(set(state) & set("GgsOo")) and not set(state) & set("yYu")
+    return bool(set(state) & set(GREEN)) and not set(state) & set("yYu")
 
 
 def why_kept(name: str, program: Program, asked: Collection[str], timed: Collection[str]) -> str | None:
@@ -168,13 +169,9 @@ def additional_of(programs: Iterable[tuple[str, str, Iterable[str]]]) -> str:
 def plan_text(lights: Mapping[str, Light], plan: Mapping[str, Timing], program: str = PROGRAM) -> str:
     """A plan as the text of an additional file, a whole program for each of its lights. lights: by name, for the
     states; program: the programID of each."""
-    return additional_of(
-        (
-            name, f'type="static" programID="{program}" offset="{timing.offset}"',
-            (
-                f'<phase duration="{duration}" state="{state}"/>'
-                for duration, state in zip(timing.durations, lights[name].states, strict=True)
-            ),
-        )
-        for name, timing in sorted(plan.items())
-    )  # fmt: skip
+    programs = []
+    for name, timing in sorted(plan.items()):
+        pairs = zip(timing.durations, lights[name].states, strict=True)
+        inner = [f'<phase duration="{duration}" state="{state}"/>' for duration, state in pairs]
+        programs.append((name, f'type="static" programID="{program}" offset="{timing.offset}"', inner))
+    return additional_of(programs)

@@ -1,6 +1,7 @@
 """The search for a plan: proposals by formula, of which runs choose, and then hill climbing by ever smaller steps.
 
-Only strict gains are taken and no plan is run twice, so a search repeats exactly.
+Only strict gains are taken and no plan is run twice, so a search repeats exactly. What climbs raises Ended as
+Search.mean_trips does.
 """
 from __future__ import annotations
 
@@ -24,7 +25,7 @@ class Ended(Exception):
     """The budget is used up, or the user has asked for an end."""
 
 
-@dataclass(slots=True)
+@dataclass(frozen=True, slots=True)
 class Trial:
     """A plan or bounds that were tried, one line of search.csv."""
 
@@ -56,8 +57,8 @@ class Search:
         """How many simulations were made so far."""
         return self.trials[-1].simulations if self.trials else 0
 
-    def values(self, steps: Sequence[tuple[str, Any]]) -> list[float]:
-        """The values of plans, in their order; steps: (what was tried, plan). Those that are new are run, noted and
+    def mean_trips(self, steps: Sequence[tuple[str, Any]]) -> list[float]:
+        """The values (s) of plans, in their order; steps: (what was tried, plan). Those that are new are run, noted and
         told; a plan that was seen before costs nothing. Raises Ended where the budget does not reach for all of them,
         after those that it does reach for (spent is then True), or where the user ends it."""
         new: dict[Any, tuple[str, Any]] = {}
@@ -67,8 +68,6 @@ class Search:
         room = (self.budget - self.simulations) // self.seeds
         tried = list(new.items())[:room]
         self.spent = len(tried) < len(new)
-        if self.spent and not tried:
-            raise Ended
         with contextlib.closing(self.value([plan for _, (_, plan) in tried])) as found:
             for (key, (step, plan)), value in zip(tried, found):
                 self.note(key, step, plan, value)
@@ -85,10 +84,9 @@ class Search:
             self.best = value, plan
         self.trials.append(Trial(self.simulations + self.seeds, step, value, self.best[0]))
 
-    def cost(self, step: str, plan: Any) -> float:
-        """The value of one plan, seconds of a mean trip; step: what is tried, for search.csv. Raises Ended as values
-        does."""
-        return self.values([(step, plan)])[0]
+    def mean_trip(self, step: str, plan: Any) -> float:
+        """The value (s) of one plan, as mean_trips gives it; step: what is tried, for search.csv."""
+        return self.mean_trips([(step, plan)])[0]
 
 
 def key_of(plan: Plan) -> Key:
@@ -97,21 +95,16 @@ def key_of(plan: Plan) -> Key:
 
 
 def search_plan(
-    search: Search,
-    plan: Plan,
-    lights: Mapping[str, Light],
-    streets: Streets,
-    changed: Collection[str],
+    search: Search, plan: Plan, lights: Mapping[str, Light], streets: Streets, changed: Collection[str],
     cycles: Iterable[int],
 ) -> None:
     """Searches from a given plan: the proposals by formula, then climb_all from the best of them. Ends there, or where
     the search has ended; search.best then has (mean trip in seconds, the best plan). changed: what may change, of
     planning.CHANGES; cycles: those that are proposed, in seconds."""
     try:
-        search.cost("given", plan)
+        search.mean_trip("given", plan)
         proposed = list(proposals(plan, lights, streets, changed, cycles))
-        values = search.values(proposed)
-        _, plan = min(zip(values, (made for _, made in proposed), strict=True), key=lambda pair: pair[0])
+        _, (_, plan) = min(zip(search.mean_trips(proposed), proposed, strict=True), key=lambda pair: pair[0])
         climb_all(search, plan, lights, streets, changed)
     except Ended:
         pass
@@ -122,9 +115,9 @@ def climb_all(
 ) -> None:
     """Climbs from a plan: each light alone, by the four steps of SHARES and SECONDS, then by the last three again,
     where the offset of a light is first moved together with all lights behind it in the tree. The best is then in
-    search.best; raises Ended as Search.values does. changed: as of search_plan."""
-    passes = [(share, seconds, False) for share, seconds in zip(SHARES, SECONDS, strict=True)]
-    passes += [(share, seconds, True) for share, seconds in zip(SHARES[1:], SECONDS[1:], strict=True)]
+    search.best. changed: as of search_plan."""
+    steps = list(zip(SHARES, SECONDS, strict=True))
+    passes = [*((*step, False) for step in steps), *((*step, True) for step in steps[1:])]
     for share, seconds, with_groups in passes:
         if "offsets" in changed:
             plan = climb_offsets(search, plan, streets, share, with_groups)
@@ -134,8 +127,7 @@ def climb_all(
 
 def climb_offsets(search: Search, plan: Plan, streets: Streets, share: float, with_groups: bool) -> Plan:
     """Tries other offsets, later and earlier by a share (0 to 1) of the cycle, one second at least, of each light, the
-    heaviest flow first; where with_groups, first of the light with all that hang behind it, and then of it alone. Gives
-    the best plan; raises Ended as Search.values does."""
+    heaviest flow first; where with_groups, first of the light with all that hang behind it. Gives the best plan."""
     for light in streets.order:
         seconds = max(1, round(share * plan[light].cycle))
         if with_groups and len(streets.behind[light]) > 1:
@@ -146,24 +138,23 @@ def climb_offsets(search: Search, plan: Plan, streets: Streets, share: float, wi
 
 def climb_splits(search: Search, plan: Plan, lights: Mapping[str, Light], order: Iterable[str], seconds: int) -> Plan:
     """Tries to move so many seconds of green between any two phases of each light that may be stretched, either way;
-    the cycle stays. order: of the lights. Gives the best plan; raises Ended as Search.values does."""
+    the cycle stays. order: of the lights. Gives the best plan."""
     for name in order:
         free = lights[name].free
         for place, source in enumerate(free):
             for target in free[place + 1 :]:
-                change = move_of(lights[name], source, target, seconds)
-                plan = climb(search, plan, f"greens of {name}", change)
+                plan = climb(search, plan, f"greens of {name}", move_of(lights[name], source, target, seconds))
     return plan
 
 
 def climb(search: Search, plan: Tried, step: str, change: Callable[[Tried, int], Tried | None]) -> Tried:
     """Makes a change (sign 1) again and again as long as the value falls and the change can be made; where the first
-    does not help, or cannot be made, its contrary (sign -1). Gives the best plan; raises Ended as Search.values does.
-    step: its name in search.csv; change: gives None where it cannot be made."""
-    best = search.cost(step, plan)
+    does not help, or cannot be made, its contrary (sign -1). Gives the best plan. step: its name in search.csv; change:
+    gives None where it cannot be made."""
+    best = search.mean_trip(step, plan)
     for sign in (1, -1):
         went = False
-        while (tried := change(plan, sign)) is not None and (value := search.cost(step, tried)) < best:
+        while (tried := change(plan, sign)) is not None and (value := search.mean_trip(step, tried)) < best:
             plan, best, went = tried, value, True
         if went:
             break
@@ -171,8 +162,7 @@ def climb(search: Search, plan: Tried, step: str, change: Callable[[Tried, int],
 
 
 def shift_of(names: Sequence[str], seconds: int) -> Callable[[Plan, int], Plan | None]:
-    """A change for climb, which can always be made: the offsets of some lights later by some seconds (sign 1), or
-    earlier (sign -1)."""
+    """A change for climb: the offsets of some lights later by some seconds (sign 1), or earlier (sign -1)."""
     return lambda plan, sign: {**plan, **{name: plan[name].shifted(sign * seconds) for name in names}}
 
 
@@ -183,7 +173,7 @@ def move_of(light: Light, source: int, target: int, seconds: int) -> Callable[[P
     def change(plan: Plan, sign: int) -> Plan | None:
         """The plan with the seconds moved, from target to source where sign is -1; None where a bound forbids it."""
         first, second = (source, target) if sign > 0 else (target, source)
-        made = light.moved(plan[light.name], first, second, seconds)
+        made = light.with_green_moved(plan[light.name], first, second, seconds)
         return None if made is None else {**plan, light.name: made}
 
     return change

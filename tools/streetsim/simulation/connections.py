@@ -15,43 +15,39 @@ class Connections:
 
     @cached_property
     def by_link(self) -> dict[int, list[MapTurn]]:
-        """The turns from each link, by the link's number; links without a turn are left out."""
+        """The turns from each link that has any, by the link's number."""
         found: defaultdict[int, list[MapTurn]] = defaultdict(list)
         for turn in self.map.turns:
             found[turn.link].append(turn)
         return dict(found)
 
-    def to(self, link: int, following: int) -> list[MapTurn]:
-        """The turns, one for each lane that has one, from a link to a next one; empty where no lane has one."""
+    def turns_to(self, link: int, following: int) -> list[MapTurn]:
+        """The turns from a link to a next one, one for each lane that has one."""
         return [turn for turn in self.by_link.get(link, ()) if turn.next == following]
 
-    def plan(self, edges: Sequence[str]) -> tuple[int, ...]:
-        """The numbers of links along some edges, each with a turn to the next; ValueError where no such links exist,
-        edges is empty, or an edge is unknown."""
+    def plan_along(self, edges: Sequence[str]) -> tuple[int, ...]:
+        """The numbers of links along some edges, each with a turn to the next; ValueError where there are none."""
         if unknown := [edge for edge in edges if edge not in self.map.links_of]:
             raise ValueError(f"the map has no edge {unknown[0]!r}")
         plans: dict[int, tuple[int, ...]]
         plans = {link: (link,) for link in self.map.links_of[edges[0]]} if edges else {}
         for edge in edges[1:]:
             ways = [(plan, link) for link in self.map.links_of[edge] for plan in plans.values()]
-            plans = {link: (*plan, link) for plan, link in ways if self.to(plan[-1], link)}
+            plans = {link: (*plan, link) for plan, link in ways if self.turns_to(plan[-1], link)}
         if not plans:
             raise ValueError(f"no way along {' '.join(edges)}")
         return next(iter(plans.values()))
 
     def departure_lane(self, plan: Sequence[int]) -> int:
-        """The first lane of a plan's first link from which a turn leads to its second; 0 where none does, or it has one
-        link."""
-        return next((turn.lane for turn in self.to(*plan[:2])), 0) if len(plan) > 1 else 0
+        """The first lane of a plan's first link with a turn to its second; 0 where there is none."""
+        return next((turn.lane for turn in self.turns_to(*plan[:2])), 0) if len(plan) > 1 else 0
 
     def next_lane(self, link: int, lane: int | None, following: int) -> int:
-        """The lane of a next link to which a turn leads: from a lane, or, where that has no such turn (or lane is
-        None), from any lane of the link; 0 where the link has no such turn."""
-        found = self.to(link, following)
+        """The next link's lane to which a turn leads, from a lane, else (or lane None) from any; 0 where none does."""
+        found = self.turns_to(link, following)
         return next((turn.next_lane for turn in found if turn.lane == lane), found[0].next_lane if found else 0)
 
     def turn_at_light(self, link: int, lane: int | None, following: int, lights: Collection[str]) -> MapTurn | None:
-        """The turn to a next link that one of some lights controls: from a lane, or, where that has no such turn (or
-        lane is None), from any lane of the link. None where the link has no such turn."""
-        found = [turn for turn in self.to(link, following) if turn.light in lights]
+        """The turn to a next link at one of some lights, from a lane, else (or lane None) from any; else None."""
+        found = [turn for turn in self.turns_to(link, following) if turn.light in lights]
         return next((turn for turn in found if turn.lane == lane), found[0] if found else None)

@@ -8,8 +8,8 @@ NOWHERE = -1073741824.0  # TraCI's value for a place that is not known
 
 
 @dataclass(slots=True)
-class Place:
-    """Where a vehicle is; cell is None in the junction behind its link."""
+class OnRoad:
+    """Where a vehicle on the road is, and how fast; cell is None in the junction behind its link."""
 
     link: int
     lane: int
@@ -17,7 +17,7 @@ class Place:
     speed: int  # cells a step
 
     @property
-    def front(self) -> int:
+    def front_cell(self) -> int:
         """The cell of its front; it must be on cells."""
         assert self.cell is not None
         return self.cell
@@ -35,8 +35,7 @@ class Fleet:
     departs: dict[int, int] = field(default_factory=dict)  # by number: clock at which it wishes to
 
     def note(self, name: str, car: int, command: Command, driven: Sequence[int] = ()) -> None:
-        """Notes a vehicle that entered by a command, under its number car. driven: the links that it drove before,
-        where it was taken out and entered anew."""
+        """Notes a vehicle that entered by a command as number car; driven: links, before it was taken out."""
         plan = command["plan"]
         self.cars[name], self.names[car], self.starts[car] = car, name, (plan[0], command["lane"])
         self.departs[car] = command["depart"]

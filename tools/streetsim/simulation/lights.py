@@ -1,10 +1,12 @@
 """The lights of a session under a script."""
 from collections import deque
-from collections.abc import Mapping, Sequence
+from collections.abc import Mapping
 from dataclasses import dataclass, field
+from math import inf
 
 from streetsim.actuated.driver import Controller
 from streetsim.actuated.logic import Actuated
+from streetsim.base.files import Fault
 from streetsim.simulation.errors import TraCIException
 from streetsim.simulation.shown import CONSTANT
 from streetsim.simulation.simulation import Simulation
@@ -26,32 +28,22 @@ class Light:
     links: list[Link] = field(default_factory=list)  # of each connection, by index
     states: int = 0  # how many letters a state has
     names: list[str] = field(default_factory=list)  # of the phases
-    # Those that can be chosen: phases and their names.
-    programs: dict[str, tuple[Phases, list[str]]] = field(default_factory=dict)
+    programs: dict[str, tuple[Phases, list[str]]] = field(default_factory=dict)  # to choose from: phases, names
+    scripted: set[str] = field(default_factory=set)  # those of them that a script has set, which detectors do not drive
 
-    def at(self, clock: float) -> tuple[int, float]:
+    def phase_at(self, clock: float) -> tuple[int, float]:
         """(index of the phase at a clock, seconds that are left of it)."""
-        place = (clock - self.begin) % sum(duration for duration, _ in self.phases)
+        elapsed = (clock - self.begin) % seconds_of(self.phases)
         for index, (duration, _) in enumerate(self.phases):
-            if place < duration:
-                return index, duration - place
-            place -= duration
+            if elapsed < duration:
+                return index, duration - elapsed
+            elapsed -= duration
         return 0, self.phases[0][0]
-
-    def starts(self, index: int) -> float:
-        """Seconds from the begin of the first phase to that of the phase of an index."""
-        return sum(duration for duration, _ in self.phases[:index])
-
-    def shown(self) -> Phases:
-        """The phases as they are sent. In a program of one phase permissive greens are sent as full greens, as no share
-        of them can be shown."""
-        alone = len(self.phases) == 1
-        return [(duration, state.replace("g", "G") if alone else state) for duration, state in self.phases]
 
 
 class Control:
-    """What each light shows, and when phases end that a script has given another end. Clocks are in seconds. Calls that
-    look up a light by its name raise TraCIException where there is none."""
+    """What each light shows, and when phases end that a script has given another end; clocks are in seconds.
+    TraCIException for a light that is not known."""
 
     def __init__(
         self, simulation: Simulation, lights: dict[str, Light], offsets: Mapping[tuple[str, str], float]
@@ -60,47 +52,60 @@ class Control:
         self.simulation, self.lights, self.offsets = simulation, lights, offsets
         self.timers: list[tuple[int, str, int]] = []  # (clock, light, index): the phase that begins then
         self.changes = deque(simulation.map.switches)  # by time of day, that the lights are still to be told of
-        self.change(simulation.clock)
+        self.note_switches(simulation.clock)
 
-    def change(self, clock: int) -> None:
-        """Notes for the lights the programs that they have by time of day up to a clock; those that a script has set
-        keep what it set. Nothing is sent, as the run has lines for it."""
+    def note_switches(self, clock: int) -> None:
+        """Notes for the lights the programs that they have by time of day up to a clock, for which the run has lines;
+        those that a script has set keep what it set."""
         while self.changes and self.changes[0][0] <= clock:
             _, name, program = self.changes.popleft()
             if name in self.lights and not self.simulation.shown.forgotten & {*self.simulation.shown.nodes(name)}:
                 light = self.lights[name]
-                phases, names = light.programs[program]
-                light.phases, light.names = list(phases), list(names)
+                light.phases, light.names = light.programs[program]
                 light.program, light.begin = program, self.offsets.get((name, program), 0.0)
 
     def light(self, name: str) -> Light:
-        """A light by its name, with the program that it has by time of day; TraCIException where there is none."""
-        self.change(self.simulation.clock - 1)
+        """A light by its name, with the program that it has by time of day."""
+        self.note_switches(self.simulation.clock - 1)
         if name not in self.lights:
             raise TraCIException(f"Traffic light '{name}' is not known")
         return self.lights[name]
 
     def driven(self, name: str) -> Controller | None:
         """What drives a light by detectors now; None where it has a program of seconds, or one of the script."""
-        return self.simulation.driving.driver.of(name)
+        return self.simulation.driving.driver.controller_of(name)
 
-    def drive(self, name: str, program: str) -> bool:
-        """Has detectors drive a light by one of its programs, from where they have brought that meanwhile; gives
-        whether they can, and changes nothing where they cannot."""
-        found = self.simulation.driving.driver.of(name, program)
-        if found is not None:
-            self.end_timers(name)
-            self.simulation.shown.forget(name)
-            self.simulation.driving.driver.release(name)
-            self.simulation.show(list(found.resumes(self.simulation.clock)))
-        return found is not None
+    def run_program(self, name: str, program: str) -> None:
+        """Runs one of a light's programs from the second of its cycle that belongs to this clock; one that detectors
+        drive, from where they have brought it meanwhile. TraCIException where the light has none of this name."""
+        light, driver = self.light(name), self.simulation.driving.driver
+        if program not in light.programs:
+            raise TraCIException(f"Traffic light '{name}' has no program {program!r}")
+        phases, names = light.programs[program]
+        if program in light.scripted or (found := driver.controller_of(name, program)) is None:
+            self.show_program(name, program, phases, names, self.offsets.get((name, program), 0.0))
+            return
+        self.end_timers(name)
+        self.simulation.shown.forget(name)
+        driver.release(name, self.simulation.clock)
+        self.simulation.show(found.resumes(self.simulation.clock))
+        light.phases, light.program, light.names = phases, program, names
 
     def state(self, name: str) -> str:
-        """What a light shows now, SUMO's letter for each signal."""
+        """A light's state now, SUMO's letter for each signal; g also where G is shown instead (hold, end_phase)."""
         if (driven := self.driven(name)) is not None:
             return driven.logic.state()
-        light = self.light(name)
-        return light.phases[light.at(self.simulation.clock)[0]][1]
+        return self.light(name).phases[self.present_phase(name)[0]][1]
+
+    def present_phase(self, name: str) -> tuple[int, float]:
+        """(index of a light's phase from this clock on, seconds left of it), by its program and the end that a script
+        has set; not of a light that detectors drive."""
+        light, clock = self.light(name), self.simulation.clock
+        end, following = next(((end, index) for end, one, index in self.timers if one == name), (clock, None))
+        if following is None:
+            return light.phase_at(clock)
+        before = (following - 1) % len(light.phases)
+        return (before, end - clock) if end > clock else (following, light.phases[following][0])
 
     def show_due(self) -> None:
         """Ends the phases that a script has set to end by this clock, and shows the next ones."""
@@ -111,35 +116,36 @@ class Control:
     def show_phase(self, name: str, index: int) -> None:
         """Shows the phase of an index of the light's program from now on, from its begin."""
         light = self.light(name)
-        light.begin = self.simulation.clock - light.starts(index)
-        self.show_cycle(name)
+        begin = self.simulation.clock - seconds_of(light.phases[:index])
+        self.show(name, light.phases, begin)
+        light.begin = begin
 
-    def show_cycle(self, name: str) -> None:
-        """Sends the light's program, as if its first phase had begun at its begin."""
-        light = self.light(name)
-        self.show(name, light.shown(), light.begin)
-
-    def show_program(self, name: str, phases: Phases, index: int, program: str, names: Sequence[str] = ()) -> None:
-        """Shows other phases, (seconds, state), from the begin of the one at index on; detectors drive the light no
-        more. program: its name; names: of the phases. TraCIException for wrong states, seconds not above 0 or a wrong
-        index; Fault as of Shown.program."""
+    def show_program(self, name: str, program: str, phases: Phases, names: list[str], begin: float) -> None:
+        """Has a light show other phases, of which the first began at the clock begin, under a program's name; detectors
+        drive it no more. names: of the phases. TraCIException, after which all is as before, for wrong states, seconds
+        not above 0, or a cycle that rounds to 0 s or is longer than 200,000 s."""
         light = self.light(name)
         check_phases(name, phases, light.states)
-        check_index(name, phases, index)
-        self.simulation.driving.driver.release(name)
-        light.phases, light.program, light.names = list(phases), program, list(names)
-        self.go_to(name, index)
+        self.show(name, phases, begin)
+        self.end_timers(name)
+        light.phases, light.program, light.names, light.begin = phases, program, names, begin
+
+    def set_program(self, name: str, program: str, phases: Phases, names: list[str], begin: float) -> None:
+        """As show_program; the program may be chosen again by its name, also in place of one that detectors drive."""
+        self.show_program(name, program, phases, names, begin)
+        self.lights[name].programs[program] = phases, names
+        self.lights[name].scripted.add(program)
 
     def go_to(self, name: str, index: int) -> None:
-        """Shows the phase of an index from now on, and forgets a set end of the present one; a light that detectors
-        drive stays driven. TraCIException for a wrong index, and for a NEMA light that detectors drive."""
+        """Shows the phase of an index from now on, whatever end was set for the present one; a light that detectors
+        drive stays driven. TraCIException for a wrong index, and for a NEMA light that they drive."""
         check_index(name, self.light(name).phases, index)
-        self.end_timers(name)
         if (driven := self.driven(name)) is None:
             self.show_phase(name, index)
         else:
             actuated_of(name, driven).go_to(index, self.simulation.clock)
-            self.simulation.show(list(driven.begins(self.simulation.clock)))
+            self.simulation.show(driven.begins(self.simulation.clock))
+        self.end_timers(name)
 
     def end_timers(self, name: str) -> None:
         """Forgets when a phase of a light was to end."""
@@ -153,57 +159,66 @@ class Control:
         if (driven := self.driven(name)) is not None:
             actuated_of(name, driven).end_at(max(clock, self.simulation.clock + 1))
             return
-        index, _ = light.at(self.simulation.clock)
+        index, _ = self.present_phase(name)
         self.end_timers(name)
         self.timers.append((clock, name, (index + 1) % len(light.phases)))
-        self.show(name, [(CONSTANT, light.phases[index][1].replace("g", "G"))], 0)
+        self.show(name, [(CONSTANT, light.phases[index][1])], 0)
 
-    def hold(self, name: str, state: str, program: str = "online") -> None:
-        """Shows a state until another call sets the light; detectors drive it no more. program: the name that the light
-        then tells. TraCIException for a wrong state."""
-        check_state(name, state, self.light(name).states)
-        self.show_program(name, [(CONSTANT, state)], 0, program)
+    def hold(self, name: str, state: str) -> None:
+        """Shows a state, each g as G, until another call sets the light, whose phases it replaces by this one, as the
+        program "online"; detectors drive it no more. TraCIException for a wrong state."""
+        self.show_program(name, "online", [(CONSTANT, state)], [""], self.simulation.clock)
 
     def resume(self, name: str, node: int) -> None:
-        """Goes on, at a node of a light, with a program that is sent phase by phase and whose present phase was sent
-        before, as after a state was loaded."""
+        """Goes on at a node, after a state was loaded, with a program that is sent phase by phase."""
         light = self.light(name)
-        offset = light.begin % light.starts(len(light.phases))
-        self.simulation.shown.resume(name, light.shown(), offset, self.simulation.clock, node)
+        offset = light.begin % seconds_of(light.phases)
+        self.simulation.shown.resume(name, as_sent(light.phases), offset, self.simulation.clock, node)
 
     def show(self, name: str, phases: Phases, begin: float) -> None:
-        """Sends a cycle of phases, (seconds, state), of which the first began at the clock begin."""
-        if len(phases) == 1 and phases[0][0] == CONSTANT and not set(phases[0][1]) & set(PERMISSIVE):
-            self.simulation.show(self.simulation.shown.constant(name, phases[0][1], begin))
-        else:
-            self.simulation.show_program(name, phases, begin % sum(duration for duration, _ in phases))
+        """Sends a cycle of phases of which the first began at the clock begin. TraCIException, before anything is sent,
+        where the cycle rounds to 0 s or is longer than 200,000 s."""
+        sent = as_sent(phases)
+        if len(sent) == 1 and sent[0][0] == CONSTANT and not set(sent[0][1]) & set(PERMISSIVE):
+            self.simulation.show_constant(name, sent[0][1], begin)
+            return
+        try:
+            self.simulation.show_program(name, sent, begin % seconds_of(sent))
+        except Fault as fault:
+            raise TraCIException(str(fault)) from None
+
+
+def seconds_of(phases: Phases) -> float:
+    """Seconds that some phases last together."""
+    return sum(duration for duration, _ in phases)
+
+
+def as_sent(phases: Phases) -> Phases:
+    """The phases as they are sent: one alone with permissive greens as full greens, as no share can be shown."""
+    return [(phases[0][0], phases[0][1].replace("g", "G"))] if len(phases) == 1 else phases
 
 
 def actuated_of(name: str, driven: Controller) -> Actuated:
     """The logic of a light whose phases a script may choose; TraCIException for a NEMA light."""
     if not isinstance(driven.logic, Actuated):
-        raise TraCIException(
-            f"Traffic light '{name}' is of type NEMA, whose rings choose its phases: set another program, or a state"
-        )
+        why = "is of type NEMA, whose rings choose its phases: set another program, or a state"
+        raise TraCIException(f"Traffic light '{name}' {why}")
     return driven.logic
 
 
 def check_state(name: str, state: str, length: int) -> None:
-    """TraCIException where a state has a letter that SUMO does not use, or another number of letters than the light has
-    signals (length)."""
-    wrong = [letter for letter in state if letter not in STATES]
-    if wrong:
+    """TraCIException where a state has a wrong letter, or not one for each of the light's signals (length)."""
+    if wrong := [letter for letter in state if letter not in STATES]:
         raise TraCIException(f"Traffic light '{name}': {wrong[0]!r} is no state of a signal")
     if len(state) != length:
         raise TraCIException(f"Traffic light '{name}' has {length} signals, the state {state!r} has {len(state)}")
 
 
-def check_phases(name: str, phases: Sequence[tuple[float, str]], length: int) -> None:
-    """TraCIException where one of the phases, (seconds, state), has a wrong state, or does not last above 0 s. length:
-    how many signals the light has."""
+def check_phases(name: str, phases: Phases, length: int) -> None:
+    """TraCIException where a phase has a wrong state or does not last above 0 s; length: signals of the light."""
     for duration, state in phases:
         check_state(name, state, length)
-        if not duration > 0:
+        if not 0 < duration < inf:
             raise TraCIException(f"Traffic light '{name}': a phase of {duration} s")
 
 

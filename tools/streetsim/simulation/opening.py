@@ -10,10 +10,9 @@ from tempfile import TemporaryDirectory
 from streetsim.base.files import whole_file
 from streetsim.base.words import ROUNDS
 from streetsim.cli import import_ as importing
-from streetsim.model.stops import why_unmade
-from streetsim.run.rounds import Yielding
+from streetsim.model.stops import unmade_stops_told
 from streetsim.simulation.errors import FatalTraCIError
-from streetsim.simulation.options import IMPORTED, LOGS, NOWHERE, options_of, warnings_of
+from streetsim.simulation.options import IMPORTED, LOGS, NO_FILE, options_of, warnings_of
 from streetsim.simulation.session import Session
 from streetsim.simulation.street_facts import Facts, read_facts
 from streetsim.simulation.writing import SERVED
@@ -23,19 +22,17 @@ PERIOD = 900  # seconds of the rows of edgeData without a period
 
 
 def open_session(words: Sequence[str]) -> Session:
-    """Opens a session by the words of SUMO's command line without SUMO's name: imports the files that they name, tells
-    on standard error what differs from SUMO, and starts the program. FatalTraCIError or Fault where that cannot be
-    done."""
+    """A session, by the words of SUMO's command line without SUMO's name; tells on standard error what differs from
+    SUMO. FatalTraCIError or Fault where it cannot be imported or started."""
     options = options_of([*words])
     with TemporaryDirectory() as folder:
-        return opened(Path(folder), options)
+        return imported_session(Path(folder), options)
 
 
-def opened(folder: Path, options: Options) -> Session:
-    """The session of some options (long names): imports what they name into a folder, starts the program, tells what
-    differs from SUMO, and has the output files written that are asked for, edgeData by its period in whole seconds
-    (PERIOD where that is below 1). FatalTraCIError where they name no network, Fault where the import or the run cannot
-    be made."""
+def imported_session(folder: Path, options: Options) -> Session:
+    """The session of some options (long names), imported into a folder; tells warnings as write_warnings does. Output
+    files are written that are asked for, edgeData by its period in whole seconds, PERIOD where that is below 1.
+    FatalTraCIError where they name no network, Fault where the import or the run cannot be made."""
     names = ("route-files", "additional-files")
     routes, additional = ([part.strip() for part in options.get(name, "").split(",") if part.strip()] for name in names)
     if not options.get("net-file"):
@@ -46,49 +43,43 @@ def opened(folder: Path, options: Options) -> Session:
     words += ["--ignore-route-errors"] if is_on(options.get("ignore-route-errors", "false")) else []
     with redirect_stderr(StringIO()) as said:
         importing.main(words)
-    told = said.getvalue()
     try:
         facts = read_facts(options["net-file"], additional, routes)
         session = Session(folder, facts, options, int(options.get("rounds", ROUNDS)))
-        told += told_of(session.yielding) + told_of_files(facts)
-        told += "".join(f"warning: {text}\n" for text in session.driving.lights.notes())
-        told += "".join(f"warning: {text}\n" for text in filter(None, [why_unmade(len(session.map.visits))]))
-    finally:
-        tell(told, options)
-    paths = output_paths(options, facts)
-    if paths:
-        session.write(paths, int(facts.edgedata[0][1]) or PERIOD if facts.edgedata else PERIOD)
+    except Exception:
+        write_warnings(said.getvalue(), options)
+        raise
+    try:
+        write_warnings(said.getvalue() + notes_of(session), options)
+        if paths := output_paths(options, facts):
+            session.write(paths, int(facts.edgedata[0][1]) or PERIOD if facts.edgedata else PERIOD)
+    except Exception:
+        session.close()
+        raise
     return session
 
 
-def told_of(yielding: Yielding) -> str:
-    """The line on how many junctions give way without a light; empty where none does."""
-    if not yielding.lines:
-        return ""
-    return (
-        f"{yielding.told()}, in the gaps of the vehicles of the route files; those that the script adds "
-        "are in no gaps\n"
-    )
-
-
-def told_of_files(facts: Facts) -> str:
-    """A warning, as a line, of output files that additional files ask for and that are not written; empty where there
-    are none."""
-    if not facts.unwritten:
-        return ""
-    names = ", ".join(dict.fromkeys(facts.unwritten))
-    return (
-        f"warning: additional files ask for {names}, not written here: streetsim-run --sumo-output e1,e2,edgedata "
-        "writes such files\n"
-    )
+def notes_of(session: Session) -> str:
+    """Lines on who gives way without a light, and on what a session does otherwise than SUMO; empty without any."""
+    told = []
+    if session.yielding.lines:
+        gaps = "in the gaps of the vehicles of the route files; those that the script adds are in no gaps"
+        told.append(f"{session.yielding.told()}, {gaps}")
+    if session.facts.unwritten:
+        names = ", ".join(dict.fromkeys(session.facts.unwritten))
+        instead = "streetsim-run --sumo-output e1,e2,edgedata writes such files"
+        told.append(f"warning: additional files ask for {names}, not written here: {instead}")
+    stops = unmade_stops_told(len(session.map.visits))
+    told += [f"warning: {text}" for text in (*session.driving.lights.notes(), stops) if text]
+    return "".join(f"{line}\n" for line in told)
 
 
 def output_paths(options: Options, facts: Facts) -> dict[str, str]:
-    """{kind: path} of the output files that are asked for: by options, kinds as SERVED has them, and as "edgedata" the
-    first edgeData of additional files. --output-prefix stands before the name of each file."""
+    """{kind: path} of the output files that options ask for (kinds as in SERVED), and as "edgedata" of the first
+    edgeData of additional files. --output-prefix stands before the name of each file."""
     prefix, paths = options.get("output-prefix", ""), {}
     for name, kind in SERVED.items():
-        if options.get(name, NOWHERE[0]) not in NOWHERE:
+        if options.get(name, NO_FILE[0]) not in NO_FILE:
             paths[kind] = options[name]
     if facts.edgedata:
         paths["edgedata"] = facts.edgedata[0][0]
@@ -96,13 +87,13 @@ def output_paths(options: Options, facts: Facts) -> dict[str, str]:
 
 
 def is_on(value: str) -> bool:
-    """Whether the value of a yes-or-no option means yes; an empty value does."""
+    """Whether the value of a yes-or-no option, perhaps empty, means yes."""
     return value.lower() in ("", "true", "1", "yes", "on", "t")
 
 
-def tell(said: str, options: Options) -> None:
+def write_warnings(said: str, options: Options) -> None:
     """Writes what the import said, and which options have no effect, to standard error (unless --no-warnings) and to
-    the files of --log, --message-log and --error-log. Fault where one cannot be written."""
+    the log files. Fault where one cannot be written."""
     said = "".join(f"warning: {text}\n" for text in warnings_of(options)) + said
     if not is_on(options.get("no-warnings", "false")):
         sys.stderr.write(said)

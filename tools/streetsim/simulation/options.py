@@ -1,10 +1,10 @@
 """The words of SUMO's command line: which are done here, which have no effect here, and which are refused."""
 import re
-from collections.abc import Mapping
+from collections.abc import Callable, Mapping
 
-from streetsim.base.files import Fault
+from streetsim.base.files import Fault, seconds
 from streetsim.base.words import FALSE, MOST_ROUNDS
-from streetsim.sumo.configuration import NOWHERE, OUTPUT, SILENT, SYNONYMS, is_one, read_configuration
+from streetsim.sumo.configuration import NOWHERE as NO_FILE, OUTPUT, SILENT, SYNONYMS, is_one, read_configuration
 from streetsim.simulation.errors import FatalTraCIError
 from streetsim.simulation.writing import SERVED
 
@@ -24,7 +24,7 @@ IMPORTED = {
     "seed", "begin", "classes", "joint", "turns", "sizes", "dawdle", "change", "zone", "residence", "buffer",
     "permissive",
 }
-# What would change the demand or the start of a run.
+# What would change the demand or the run, and what to do instead.
 REFUSED = {
     "scale": "make the routes of the demand that is wanted",
     "load-state": "a run repeats exactly: start it again and step to the time",
@@ -42,10 +42,29 @@ KNOWN = re.compile(
 )
 
 
+def is_time(value: str) -> bool:
+    """Whether a text is a time, as SUMO writes them."""
+    try:
+        seconds(value)
+    except ValueError:
+        return False
+    return True
+
+
+# By option: which values are taken, and what is said of others.
+VALUES: dict[str, tuple[Callable[[str], bool], str]] = {
+    "step-length": (is_one, "steps are of one second"),
+    "end": (is_time, "is no time"),
+    "rounds": (lambda value: value.isdecimal() and int(value) <= MOST_ROUNDS, f"is not 0 to {MOST_ROUNDS}"),
+    "merge": (("turns", "none").__contains__, "is not turns or none"),
+    "lights": (("actuated", "listed").__contains__, "is not actuated or listed"),
+}
+
+
 def options_of(words: list[str]) -> dict[str, str]:
     """SUMO's options, {long name: text}, empty where a word has no value. A first word without "-" names the
-    configuration; words count before those of a configuration that they name. FatalTraCIError for what SUMO does not
-    know either, what is refused here, and a configuration that cannot be read."""
+    configuration; words count before those of a configuration. FatalTraCIError for what SUMO does not know either, what
+    is refused here, and a configuration that cannot be read."""
     options, at = {}, 0
     if words and not str(words[0]).startswith("-"):
         options["configuration-file"], at = str(words[0]), 1
@@ -66,14 +85,13 @@ def options_of(words: list[str]) -> dict[str, str]:
 
 
 def is_value(word: str) -> bool:
-    """Whether a word is the value of the option before it: it does not begin with "-", or a digit or a point follows
-    this, as in a number below 0."""
+    """Whether a word is the value of the option before it: it does not begin with "-", or is a number below 0."""
     return not word.startswith("-") or re.match(r"-[\d.]", word) is not None
 
 
 def name_of(word: str) -> str:
-    """The long name of an option, of a word as -n or --net-file; FatalTraCIError where the word does not begin with
-    "-", or is an unknown short one. Long ones are not looked up here: check_option refuses unknown ones."""
+    """The long name of an option, of a word as -n or --net-file; FatalTraCIError where it is no option, or an unknown
+    short one. Unknown long ones are refused by check_option."""
     if not word.startswith("-") or word in ("-", "--"):
         raise FatalTraCIError(f"{word!r} is no option: options begin with '--'")
     if not word.startswith("--"):
@@ -85,37 +103,28 @@ def name_of(word: str) -> str:
 
 
 def check_option(name: str, value: str) -> None:
-    """FatalTraCIError for options (long name, text of its value) that cannot be done: unknown ones, outputs that are
-    not written here, steps of another length, wrong values of streetsim's own, and what would change the demand."""
+    """FatalTraCIError for an option (long name, text of its value) that is unknown, has a wrong value, is one of
+    REFUSED, or asks for an output that is not written here."""
     on = value.lower() not in FALSE
-    if name == "step-length" and not is_one(value):
-        raise FatalTraCIError(f"--step-length {value}: steps are of one second")
-    if name == "rounds" and not (value.isdecimal() and int(value) <= MOST_ROUNDS):
-        raise FatalTraCIError(f"--rounds {value}: is not 0 to {MOST_ROUNDS}")
-    if name == "merge" and value not in ("turns", "none"):
-        raise FatalTraCIError(f"--merge {value}: is not turns or none")
-    if name == "lights" and value not in ("actuated", "listed"):
-        raise FatalTraCIError(f"--lights {value}: is not actuated or listed")
+    if name in VALUES and not VALUES[name][0](value):
+        raise FatalTraCIError(f"--{name} {value}: {VALUES[name][1]}")
     if name in REFUSED and on and not (name == "scale" and is_one(value)):
         raise FatalTraCIError(f"--{name} {value}: streetsim has nothing for it; {REFUSED[name]}")
-    if OUTPUT.fullmatch(name) and name not in SERVED and value not in NOWHERE and on:
-        told = ", ".join(f"--{served}" for served in SERVED)
-        raise FatalTraCIError(
-            f"--{name} {value}: not written here ({told} are); leave it out, or give --{name} /dev/null"
-        )
+    if OUTPUT.fullmatch(name) and name not in SERVED and value not in NO_FILE and on:
+        told = f"not written here ({', '.join(f'--{served}' for served in SERVED)} are)"
+        raise FatalTraCIError(f"--{name} {value}: {told}; leave it out, or give --{name} /dev/null")
     known = name in INPUTS or name in IMPORTED or name in REFUSED or name in LOGS
     if not (known or OUTPUT.fullmatch(name) or SILENT.fullmatch(name) or KNOWN.fullmatch(name)):
         raise FatalTraCIError(f"No option with the name '{name}' exists.")
 
 
 def warnings_of(options: Mapping[str, str]) -> list[str]:
-    """Texts on SUMO's options that were given and have no effect here."""
+    """Texts on SUMO's options that were given and have no effect here, but for those that change no run in SUMO."""
     lacking = [
         name for name in options if KNOWN.fullmatch(name) and not SILENT.fullmatch(name) and not OUTPUT.fullmatch(name)
     ]
     told = [f"--{name} {options[name]}".rstrip() + " has no effect here" for name in lacking if name not in IMPORTED]
     if not options.get("time-to-teleport", "-1").startswith("-") and options["time-to-teleport"] != "0":
-        told.append(
-            f"--time-to-teleport {options['time-to-teleport']} has no effect here: nobody teleports under a script"
-        )
+        time = options["time-to-teleport"]
+        told.append(f"--time-to-teleport {time} has no effect here: nobody teleports under a script")
     return told

@@ -7,13 +7,14 @@ from streetsim.model.mapping import Map, MapTurn
 from streetsim.simulation.fleet import Command
 from streetsim.sumo.crossing import GREEN
 from streetsim.sumo.net import Program
-from streetsim.sumo.signals import LitNode, TooLong, cycle_told, phase_lines, signal
+from streetsim.sumo.signals import LitNode, TooLong, cycle_told, phase_lines, signal_command
 
 NOTHING: Command = {}
+Cycle = Sequence[tuple[float, str]]  # phases: seconds, state
 CONSTANT = 600  # seconds of a phase that is shown until the next is set
 
 
-class Phases:
+class LongProgram:
     """The phases of a program that does not fit in one plan; each is sent at its clock."""
 
     def __init__(self, own: LitNode, begin: int) -> None:
@@ -21,8 +22,8 @@ class Phases:
         self.lines = phase_lines(own, begin)
         self.clock, self.command = next(self.lines)
 
-    def due(self, clock: int) -> Iterator[Command]:
-        """The commands of the phases that have begun by a clock and were not given before."""
+    def commands_due(self, clock: int) -> Iterator[Command]:
+        """The commands of the phases that have begun by a clock; each is given once."""
         while self.clock <= clock:
             yield self.command
             self.clock, self.command = next(self.lines, (limits.CLOCK + 1, NOTHING))
@@ -36,77 +37,70 @@ class Shown:
         self.map = mapping
         self.signals = {command["node"]: command for command in first if command["cmd"] == "signal"}  # by node
         self.forgotten: frozenset[int] = frozenset()  # nodes for which lines of the file are no longer sent
-        self.coming: dict[int, Phases] = {}  # by node, of the programs that are sent phase by phase
-        self.known: dict[int, list[MapTurn]] = {}  # by node: what turns gives
+        self.coming: dict[int, LongProgram] = {}  # by node, of the programs that are sent phase by phase
+        self.turns_by_node: dict[int, list[MapTurn]] = {}  # what turns_at gave
 
     def nodes(self, light: str) -> list[int]:
         """The nodes of a light; empty for an unknown one."""
         return [node for name, node in self.map.signals if name == light]
 
-    def turns(self, node: int) -> list[MapTurn]:
+    def turns_at(self, node: int) -> list[MapTurn]:
         """The turns at a node: of all links that end there."""
-        if node not in self.known:
-            self.known[node] = [turn for turn in self.map.turns if self.map.links[turn.link].end == node]
-        return self.known[node]
+        if node not in self.turns_by_node:
+            self.turns_by_node[node] = [turn for turn in self.map.turns if self.map.links[turn.link].end == node]
+        return self.turns_by_node[node]
 
-    def program(
-        self, light: str, phases: Sequence[tuple[float, str]], offset: float, clock: int
-    ) -> tuple[list[Command], list[str]]:
-        """(commands that show a cycle of (seconds, state) at a light from a clock on; warnings). What was still to be
-        sent for the light is forgotten. offset: as in a tlLogic, seconds. Of permissive greens the usual share is
-        shown, as flows are not known here. Fault where a state is shorter than the light's signals, or the cycle rounds
-        to 0 s or is longer than 200,000 s; then nothing is forgotten."""
+    def program_commands(self, light: str, phases: Cycle, offset: float, clock: int) -> tuple[list[Command], list[str]]:
+        """(commands that show a cycle of (seconds, state) at a light from a clock on; warnings); forgets what was still
+        to be sent for the light. offset: as in a tlLogic, seconds. Of permissive greens the usual share is
+        shown, as flows are not known here. Fault, before anything is forgotten, where a state is shorter than the
+        light's signals, or the cycle rounds to 0 s or is longer than 200,000 s."""
         report, commands, coming = Report(), [], {}
         for node in self.nodes(light):
-            own = self.own(light, node, phases, offset, report)
+            own = self.lit_node(light, node, phases, offset, report)
             try:
-                commands.append(signal(own))
+                commands.append(signal_command(own))
             except TooLong:
                 report.warn(f"light {light!r}: {cycle_told(own)}; its phases are sent one by one")
-                coming[node] = Phases(own, clock)
-                commands += coming[node].due(clock)
+                coming[node] = LongProgram(own, clock)
+                commands += coming[node].commands_due(clock)
         self.forget(light)
         self.coming |= coming
         return commands, report.warnings
 
-    def own(self, light: str, node: int, phases: Sequence[tuple[float, str]], offset: float, report: Report) -> LitNode:
-        """A light's program at one of its nodes, in the form from which signal lines are made; offset: as in a tlLogic,
-        seconds; report: gets warnings."""
-        turns = [(turn.link, turn.lane, turn.next, turn) for turn in self.turns(node)]
+    def lit_node(self, light: str, node: int, phases: Cycle, offset: float, report: Report) -> LitNode:
+        """A light's program at one of its nodes, in the form of which signal lines are made; report: gets warnings."""
+        turns = [(turn.link, turn.lane, turn.next, turn) for turn in self.turns_at(node)]
         edges = {link: self.map.links[link].edge for link, *_ in turns}
         program = Program(offset, list(phases), "static")
         return LitNode(node, turns, edges, light, program, self.map.options["permissive"], report)
 
-    def constant(self, light: str, state: str, begin: float) -> list[Command]:
-        """The commands that show a state without permissive greens, in one phase from the clock begin on, until another
-        is sent. What was still to be sent for the light is forgotten."""
+    def constant_commands(self, light: str, state: str, begin: float) -> list[Command]:
+        """The commands that show a state without permissive greens from the clock begin on; forgets what was to
+        come."""
         self.forget(light)
         commands = []
         for node in self.nodes(light):
-            green = sorted(
-                [turn.link, turn.lane, turn.next]
-                for turn in self.turns(node)
-                if turn.light != light or state[turn.index] in GREEN
-            )
+            turns = (turn for turn in self.turns_at(node) if turn.light != light or state[turn.index] in GREEN)
+            green = sorted([turn.link, turn.lane, turn.next] for turn in turns)
             offset = round(-(begin % CONSTANT)) % CONSTANT
             commands.append({"cmd": "signal", "node": node, "offset": offset, "phases": [[CONSTANT, green]]})
         return commands
 
-    def resume(self, light: str, phases: Sequence[tuple[float, str]], offset: float, clock: int, node: int) -> None:
-        """Goes on, at a node, with a program that is sent phase by phase and whose present phase was sent before, as
-        after a state was loaded. offset: as in a tlLogic, seconds; clock: now."""
-        self.coming[node] = Phases(self.own(light, node, phases, offset, Report()), clock)
-        list(self.coming[node].due(clock))
+    def resume(self, light: str, phases: Cycle, offset: float, clock: int, node: int) -> None:
+        """Goes on, at a node, with a program that is sent phase by phase, of which the present phase was sent."""
+        self.coming[node] = LongProgram(self.lit_node(light, node, phases, offset, Report()), clock)
+        list(self.coming[node].commands_due(clock))
 
     def forget(self, light: str) -> None:
-        """Has nothing more sent of what the file, or a long program, has for a light that a script sets."""
+        """Has nothing more sent of what the file, or a long program, has for a light."""
         own = frozenset(self.nodes(light))
         self.forgotten = self.forgotten | own
         self.coming = {node: phases for node, phases in self.coming.items() if node not in own}
 
-    def due(self, clock: int) -> list[Command]:
-        """The commands of the phases of long programs that have begun by a clock and were not given before."""
-        return [command for phases in self.coming.values() for command in phases.due(clock)]
+    def commands_due(self, clock: int) -> list[Command]:
+        """The commands of the phases of long programs that have begun by a clock; each is given once."""
+        return [command for phases in self.coming.values() for command in phases.commands_due(clock)]
 
     def next_clock(self, target: int) -> int:
         """The clock at which the next phase of a long program begins; target at most."""

@@ -1,11 +1,11 @@
-"""What SUMO's network, additional and route files tell and a run's map does not: widths and classes of lanes, names of
-streets, connections, junctions, programs of lights, routes by name."""
+"""What SUMO's files tell and a run's map does not: widths and classes of lanes, names of streets, connections,
+junctions, programs of lights, routes by name."""
 from collections.abc import Container, Sequence
 from dataclasses import dataclass, field
 from xml.etree.ElementTree import Element
 
-from streetsim.base.files import attribute, elements, number, seconds
-from streetsim.sumo.configuration import NOWHERE
+from streetsim.base.files import at_least_zero, attribute, elements, number, optional, seconds
+from streetsim.sumo.configuration import NOWHERE as NO_FILE
 from streetsim.simulation.lights import Light
 
 Point = tuple[float, float]
@@ -20,7 +20,7 @@ WRITING = (
 @dataclass(slots=True)
 class Connection:
     """A way from a lane to a next one, as SUMO's lane.getLinks has it; direction and state are SUMO's letters. light,
-    index: the light that shows its signal, and its place in the light's state; empty and -1 where it has none."""
+    index: of its signal; empty and -1 where it has none."""
 
     target: str  # the next lane
     via: str  # the lane inside the junction
@@ -32,8 +32,7 @@ class Connection:
 
 @dataclass(slots=True)
 class LaneFacts:
-    """What a network's file says of a lane: lengths and points in metres; the classes that may drive there (empty: all)
-    and that may not; links: the connections from it."""
+    """What a network's file says of a lane; links: the connections from it."""
     speed: float  # metres a second
     metres: float
     width: float
@@ -46,34 +45,29 @@ class LaneFacts:
 @dataclass(slots=True)
 class Junction:
     """What a network's file says of a junction, in metres."""
-    place: Point
+    point: Point
     shape: tuple[Point, ...]  # closed
 
 
 @dataclass(slots=True)
 class Facts:
-    """What the files of a run say; lanes, edges and junctions by SUMO's names, routes (their edges) by their own.
-    Places are in metres, periods in seconds."""
+    """What the files of a run say; lanes, edges and junctions by SUMO's names, routes (their edges) by their own;
+    metres, seconds. What reads gives a Fault where an attribute is malformed, or one is absent that must be there."""
 
     lanes: dict[str, LaneFacts] = field(default_factory=dict)
     inside: dict[str, float] = field(default_factory=dict)  # metres of the lanes inside junctions
-    # By lane inside a junction the next one there, where turns wait between.
-    onward: dict[str, str] = field(default_factory=dict)
+    onward: dict[str, str] = field(default_factory=dict)  # by lane inside a junction the next one there
     streets: dict[str, str] = field(default_factory=dict)  # by edge
     junctions: dict[str, Junction] = field(default_factory=dict)
     lights: dict[str, Light] = field(default_factory=dict)
-    # By light and program: when its first phase begins.
-    offsets: dict[tuple[str, str], float] = field(default_factory=dict)
+    offsets: dict[tuple[str, str], float] = field(default_factory=dict)  # by light and program
     boundary: tuple[Point, Point] = ((0.0, 0.0), (0.0, 0.0))
     routes: dict[str, tuple[str, ...]] = field(default_factory=dict)
     edgedata: list[tuple[str, float]] = field(default_factory=list)  # file and period, as additional files ask for them
-    # Files of detectors and of further edgeData, which are not written.
-    unwritten: list[str] = field(default_factory=list)
+    unwritten: list[str] = field(default_factory=list)  # files of detectors and of further edgeData
 
     def read_edge(self, path: str, element: Element) -> None:
-        """Notes the lanes of an edge and its street's name; of lanes inside a junction the metres alone. Fault where an
-        attribute that must be there is absent or malformed, ValueError for a malformed width or shape. path: for the
-        Fault."""
+        """Notes the lanes of an edge and its street's name; of lanes inside a junction the metres alone."""
         edge = attribute(path, element, "id")
         for lane in element.iter("lane"):
             name, metres = attribute(path, lane, "id"), attribute(path, lane, "length", number)
@@ -81,22 +75,20 @@ class Facts:
                 self.inside[name] = metres
                 continue
             allowed, disallowed = (tuple((lane.get(word) or "").split()) for word in ("allow", "disallow"))
-            speed, width = attribute(path, lane, "speed", number), number(lane.get("width") or str(WIDTH))
-            self.lanes[name] = LaneFacts(speed, metres, width, allowed, disallowed, points(lane.get("shape")))
+            speed, width = attribute(path, lane, "speed", number), optional(path, lane, "width", number, WIDTH)
+            shape = optional(path, lane, "shape", points, ())
+            self.lanes[name] = LaneFacts(speed, metres, width, allowed, disallowed, shape)
             self.streets[edge] = element.get("name") or ""
 
-    def read_connection(self, element: Element) -> None:
-        """Notes a connection from a lane to a next one; of one inside a junction, on which lane it goes on. The edge
-        from which it leads must have been read before; one from another lane is passed over. ValueError for a malformed
-        linkIndex."""
-        source, target = (
-            f"{element.get(edge)}_{element.get(lane)}" for edge, lane in (("from", "fromLane"), ("to", "toLane"))
-        )
+    def read_connection(self, path: str, element: Element) -> None:
+        """Notes a connection from a lane that was read; of one inside a junction, on which lane it goes on."""
+        ends = ("from", "fromLane"), ("to", "toLane")
+        source, target = (f"{element.get(edge)}_{element.get(lane)}" for edge, lane in ends)
         via, direction, state, light = (element.get(name) or "" for name in ("via", "dir", "state", "tl"))
         if source in self.inside and via:
             self.onward[source] = via
         if source in self.lanes:
-            index = int(element.get("linkIndex") or -1)
+            index = optional(path, element, "linkIndex", int, -1)
             self.lanes[source].links.append(Connection(target, via, direction, state, light, index))
 
     def metres_inside(self, via: str) -> float:
@@ -105,24 +97,21 @@ class Facts:
         return metres + self.metres_inside(self.onward[via]) if via in self.onward else metres
 
     def read_light(self, path: str, element: Element) -> None:
-        """Notes a program of a light; the last one of a light is the one that runs, the others can be chosen. One
-        without phases is passed over. Fault where an attribute that must be there is absent or malformed, ValueError
-        for a malformed offset. path: for the Fault."""
-        phases = [
-            (attribute(path, one, "duration", seconds), attribute(path, one, "state")) for one in element.iter("phase")
-        ]
-        if not phases:
+        """Notes a program of a light, if it has phases; the last one of a light runs, the others can be chosen."""
+        found = list(element.iter("phase"))
+        if not found:
             return
-        names = [one.get("name") or "" for one in element.iter("phase")]
+        phases = [(attribute(path, one, "duration", seconds), attribute(path, one, "state")) for one in found]
+        names = [one.get("name") or "" for one in found]
         name, program = attribute(path, element, "id"), element.get("programID") or "0"
-        light = Light(phases, seconds(element.get("offset") or "0"), program, names=names)
+        light = Light(phases, optional(path, element, "offset", seconds, 0.0), program, names=names)
         self.offsets[name, program] = light.begin
         light.programs = {**(self.lights[name].programs if name in self.lights else {}), program: (phases, names)}
         self.lights[name] = light
 
     def lights_at(self, names: Container[str]) -> dict[str, Light]:
-        """{name: light} of the lights whose name is among names; puts into each its connections by index, and how many
-        letters its states have. All connections must have been read before."""
+        """{name: light} of the lights among names; puts into each its connections by index, and how many letters its
+        states have. All connections must have been read before."""
         links: dict[str, dict[int, tuple[str, str, str]]] = {}
         for lane, fact in self.lanes.items():
             for one in fact.links:
@@ -134,21 +123,26 @@ class Facts:
         return lights
 
 
-def points(text: str | None) -> tuple[Point, ...]:
-    """The points (x, y) of a shape's text, in metres; empty for None. ValueError for a malformed one."""
-    return tuple((float(x), float(y)) for x, y, *_ in (part.split(",") for part in (text or "").split()))
+def points(text: str) -> tuple[Point, ...]:
+    """The points (x, y) of a shape's text, in metres. ValueError for a malformed one."""
+    return tuple((number(x), number(y)) for x, y, *_ in (part.split(",") for part in text.split()))
+
+
+def box(text: str) -> tuple[Point, Point]:
+    """The lower left and the upper right corner, in metres, that a text names. ValueError for a malformed one."""
+    left, low, right, high = map(number, text.split(","))
+    return (left, low), (right, high)
 
 
 def read_facts(net: str, additional: Sequence[str], routes: Sequence[str]) -> Facts:
     """The facts of a network and its additional files, and the named routes of route and additional files; all by
-    paths. Fault where a file cannot be read, or an attribute that must be there is absent or malformed; ValueError for
-    another one that is malformed."""
+    paths. Fault where a file cannot be read, or an attribute is malformed, or one is absent that must be there."""
     facts = Facts()
     for path in (net, *additional):
-        for element in elements(path, None):
+        for element in elements(path):
             read_element(facts, path, element)
     for path in (*additional, *routes):
-        for element in elements(path, None):
+        for element in elements(path):
             name = element.get("id")
             if element.tag == "route" and name:
                 facts.routes[name] = tuple((element.get("edges") or "").split())
@@ -156,27 +150,24 @@ def read_facts(net: str, additional: Sequence[str], routes: Sequence[str]) -> Fa
 
 
 def read_element(facts: Facts, path: str, element: Element) -> None:
-    """Adds to the facts what an element of a network or an additional file tells; other elements are passed over. Fault
-    where an attribute that must be there is absent or malformed, ValueError for another one that is malformed."""
+    """Adds to the facts what an element of a network or an additional file tells; other elements are passed over."""
     if element.tag == "edge":
         facts.read_edge(path, element)
     elif element.tag == "connection":
-        facts.read_connection(element)
+        facts.read_connection(path, element)
     elif element.tag == "junction" and element.get("type") != INSIDE:
-        place = attribute(path, element, "x", number), attribute(path, element, "y", number)
-        shape = points(element.get("shape"))
-        facts.junctions[attribute(path, element, "id")] = Junction(
-            place, shape if shape[:1] == shape[-1:] else (*shape, shape[0])
-        )
+        point = attribute(path, element, "x", number), attribute(path, element, "y", number)
+        shape = optional(path, element, "shape", points, ())
+        closed = shape if shape[:1] == shape[-1:] else (*shape, shape[0])
+        facts.junctions[attribute(path, element, "id")] = Junction(point, closed)
     elif element.tag == "tlLogic":
         facts.read_light(path, element)
-    elif element.tag == "location" and element.get("convBoundary"):
-        left, low, right, high = map(float, attribute(path, element, "convBoundary").split(","))
-        facts.boundary = (left, low), (right, high)
-    elif element.tag in WRITING and element.get("file", NOWHERE[0]) not in NOWHERE:
+    elif element.tag == "location":
+        facts.boundary = optional(path, element, "convBoundary", box, facts.boundary)
+    elif element.tag in WRITING and element.get("file", NO_FILE[0]) not in NO_FILE:
         if element.tag == "edgeData" and not facts.edgedata:
-            facts.edgedata.append(
-                (attribute(path, element, "file"), seconds(element.get("period") or element.get("freq") or "0"))
-            )
+            period = "period" if element.get("period") is not None else "freq"
+            asked = optional(path, element, period, at_least_zero(seconds), 0.0)
+            facts.edgedata.append((attribute(path, element, "file"), asked))
         else:
             facts.unwritten.append(attribute(path, element, "file"))

@@ -10,31 +10,30 @@ class Types:
     def __init__(self, mapping: Map) -> None:
         """mapping: has the types and routes of the file's vehicles."""
         self.of_file, self.sizes = mapping.kinds, mapping.options.get("sizes", True)
-        self.known = {name: at for at, name in enumerate(mapping.cars)}  # the vehicles of the run file: their place
+        self.indexes = {name: at for at, name in enumerate(mapping.cars)}  # of the vehicles of the run file
         self.kinds = {name: Kind(*rest) for name, *rest in self.of_file.get("types", ())} or {DEFAULT: Kind()}
         self.kind_of: dict[str, str] = {}  # by name, of the vehicles that a script adds
         self.route_of: dict[str, str] = {}  # by name, of those and of the ones that it sends another way
 
-    def name(self, vehicle: str) -> str:
+    def type_name(self, vehicle: str) -> str:
         """The name of a vehicle's type; DEFAULT_VEHTYPE where nobody tells one."""
-        if vehicle in self.kind_of or vehicle not in self.known:
+        if vehicle in self.kind_of or vehicle not in self.indexes:
             return self.kind_of.get(vehicle, DEFAULT)
-        places, at = self.of_file.get("type", ()), self.known[vehicle]
+        places, at = self.of_file.get("type", ()), self.indexes[vehicle]
         return self.of_file["types"][places[at]][0] if at < len(places) else DEFAULT
 
     def kind(self, vehicle: str) -> Kind:
         """A vehicle's type; SUMO's usual one where no file has it."""
-        return self.kinds.get(self.name(vehicle), Kind())
+        return self.kinds.get(self.type_name(vehicle), Kind())
 
-    def cells(self, name: str) -> int:
-        """The cells, 1 to 4, that a vehicle of a type takes, by the type's name; 1 where the import was told to leave
-        sizes out. KeyError for an unknown type."""
+    def cells_of_type(self, name: str) -> int:
+        """The cells, 1 to 4, of a type, by its name; 1 where the import left sizes out. KeyError for an unknown one."""
         metres = self.kinds[name].length + self.kinds[name].gap
         return max(1, min(limits.SIZE, int(metres / limits.CELL_METRES + 0.5))) if self.sizes else 1
 
-    def route(self, vehicle: str) -> str:
-        """The name of a vehicle's route; "!" and the vehicle's name where its route has no name, or was changed."""
-        if vehicle in self.route_of or vehicle not in self.known:
+    def route_name(self, vehicle: str) -> str:
+        """The name of a vehicle's route; "!" and the vehicle's name where it has none, or was changed."""
+        if vehicle in self.route_of or vehicle not in self.indexes:
             return self.route_of.get(vehicle, f"!{vehicle}")
-        named, at = self.of_file.get("route") or (), self.known[vehicle]
+        named, at = self.of_file.get("route") or (), self.indexes[vehicle]
         return (named[at] if at < len(named) else "") or f"!{vehicle}"

@@ -12,9 +12,8 @@ class Writer(Outputs):
     """Output files that are written while a script runs; they get their names when it closes the run."""
 
     def __init__(self, paths: dict, mapping: Map, dawdle: float, period: int, start: int) -> None:
-        """paths: of the files, by kind, as `output_paths` of opening gives them; dawdle: the chance, 0 to 1, to go on
-        by a cell less; period: seconds of the rows of edgeData; start: the first clock. Fault where one cannot be
-        written."""
+        """paths: of the files, by kind, as of output_paths of opening; dawdle: the chance, 0 to 1, to go on by a cell
+        less; period: seconds of edgeData's rows; start: the first clock. Fault where one cannot be written."""
         super().__init__(paths, mapping, dawdle, period, start)
         self.first: dict[int, int] = {}  # the first number of a vehicle that entered anew
 
@@ -30,5 +29,5 @@ class Writer(Outputs):
             [link, lane, [(owner(car, car), *rest) for car, *rest in cells], [owner(car, car) for car in buffer], []]
             for link, lane, cells, buffer in view.frame
         ]
-        lanes += [[place.link, place.lane, [], [owner(car, car)], []] for car, place in view.held.items()]
-        self.step(clock, lanes, [owner(car, car) for car in view.arrived])
+        lanes += [[where.link, where.lane, [], [owner(car, car)], []] for car, where in view.held.items()]
+        self.add_second(clock, lanes, [owner(car, car) for car in view.arrived])

@@ -1,9 +1,10 @@
 """By how much the variants of a study differ, and how sure that is. Results are, by variant, the outcomes of its runs
 in the order of the seeds."""
 from collections.abc import Iterator, Mapping, Sequence
+from dataclasses import dataclass
 from statistics import fmean, stdev
 
-from streetsim.base.seeds import paired, runs_needed, unpaired
+from streetsim.base.seeds import paired, runs_needed, unpaired_half_width
 from streetsim.model.tables import Entry
 from streetsim.sessions.prepared import Outcome
 from streetsim.study.variants import Study
@@ -16,13 +17,26 @@ DIFFERENCES = (
     *("variant", "mean_trip_s", "difference", "half_width_95_paired", "half_width_95_unpaired", "runs"),
     *("runs_needed_paired", "runs_needed_unpaired", "not_trusted"),
 )
-# Variant, mean, difference, half widths (paired, unpaired), runs, runs needed (paired, unpaired).
-Difference = tuple[str, float, float | None, float | None, float | None, int, int | None, int | None]
+
+
+@dataclass(frozen=True, slots=True)
+class Difference:
+    """A row of differences.csv but for not_trusted: a variant's mean trip and its difference to the base's, with half
+    widths of the 95 % interval; seconds. None for what the base, or one seed, does not have."""
+
+    variant: str
+    mean: float
+    difference: float | None
+    paired: float | None  # half width, of runs with equal seeds
+    unpaired: float | None  # half width, as if their seeds were others
+    runs: int
+    needed: int | None  # paired runs for the precision that is asked for; None too where 2^20 are too few
+    needed_unpaired: int | None
 
 
 def means_of(study: Study, results: Mapping[str, Sequence[Outcome]], name: str) -> list[float]:
-    """Of each run of a variant the mean trip of its vehicles, seconds, in the order of the seeds: from the wished
-    departure to the arrival, or to the end of the run."""
+    """Of each run of a variant, in the order of the seeds, the mean trip, seconds, of the vehicles that depart before
+    the end: from the wished departure to the arrival, or to the end of the run."""
     cars = len(study.variants[name].session.departs)
     return [one.seconds / cars for one in results[name]]
 
@@ -36,10 +50,7 @@ def run_rows(study: Study, results: Mapping[str, Sequence[Outcome]]) -> Iterator
 
 
 def differences(study: Study, results: Mapping[str, Sequence[Outcome]], precision: float) -> list[Difference]:
-    """A row for each variant: its mean trip, and its difference to the base's with two half widths of the 95 %
-    interval: by runs of equal seeds (paired), and as if their seeds were others (unpaired). precision: the half width
-    that runs are to reach, in percent of the base's mean trip. None stands for what the base, or one seed, does not
-    have, and for runs needed where 2^20 are too few (runs_needed)."""
+    """The row of each variant. precision: the half width that runs are to reach, in percent of the base's mean trip."""
     base = means_of(study, results, study.base)
     error = fmean(base) * precision / 100
     rows: list[Difference] = []
@@ -47,17 +58,16 @@ def differences(study: Study, results: Mapping[str, Sequence[Outcome]], precisio
         means = means_of(study, results, name)
         if name == study.base or len(means) < 2:
             difference = None if name == study.base else fmean(means) - fmean(base)
-            rows.append((name, fmean(means), difference, None, None, len(means), None, None))
+            rows.append(Difference(name, fmean(means), difference, None, None, len(means), None, None))
             continue
         difference, half = paired(base, means)
-        other = unpaired(base, means)
+        other = unpaired_half_width(base, means)
         apart = [there - here for here, there in zip(base, means, strict=True)]
         needed = runs_needed(stdev(apart), error), runs_needed((stdev(base) ** 2 + stdev(means) ** 2) ** 0.5, error)
-        rows.append((name, fmean(means), difference, half, other, len(means), *needed))
+        rows.append(Difference(name, fmean(means), difference, half, other, len(means), *needed))
     return rows
 
 
-def written(row: Entry) -> Entry:
-    """A row of a table as it is written: None becomes an empty text, a float (a whole one too) a text with three
-    decimals; all else stays."""
+def cell_values(row: Entry) -> Entry:
+    """A row as it is written: None as an empty text, a float with three decimals; all else stays."""
     return tuple("" if value is None else f"{value:.3f}" if isinstance(value, float) else value for value in row)

@@ -5,50 +5,48 @@ from collections.abc import Iterator, Mapping, Sequence
 from statistics import fmean
 
 from streetsim.model import trust
-from streetsim.pictures.drawing import drawing_if_there, save
-from streetsim.run.ending import ALL
+from streetsim.pictures.drawing import pyplot_if_installed, save_picture
+from streetsim.run.ending import ALL_ARRIVED
 from streetsim.sessions.prepared import Outcome
 from streetsim.study.differences import Difference
 from streetsim.study.variants import Study
 from streetsim.works.watched import in_runs
 
 
-def draw(study: Study, rows: Sequence[Difference], path: str) -> None:
+def draw_differences(study: Study, rows: Sequence[Difference], path: str) -> None:
     """Draws the differences to the base with their intervals to a picture at path; nothing without matplotlib (which is
     said) or with the base alone. Fault where it cannot be written."""
-    shown = [row for row in rows if row[0] != study.base]
-    pyplot = drawing_if_there()
+    shown = [row for row in rows if row.variant != study.base]
+    pyplot = pyplot_if_installed()
     if pyplot is None or not shown:
         return
     figure, axes = pyplot.subplots(figsize=(7, 1.2 + 0.4 * len(shown)))
-    for place, (_, _, difference, half, other, *_) in enumerate(reversed(shown)):
-        for width, size, label in ((other, 1.2, "unpaired"), (half, 4.0, "paired")):
-            if width is not None and difference is not None:
+    for place, row in enumerate(reversed(shown)):
+        for width, size, label in ((row.unpaired, 1.2, "unpaired"), (row.paired, 4.0, "paired")):
+            if width is not None and row.difference is not None:
+                ends = row.difference - width, row.difference + width
                 named = f"95 % interval, {label}" if place == 0 else None
-                axes.plot(
-                    (difference - width, difference + width), (place, place), color="#225588", linewidth=size,
-                    label=named,
-                )
-        axes.plot([difference], [place], marker="o", color="black", markersize=5)
+                axes.plot(ends, (place, place), color="#225588", linewidth=size, label=named)
+        axes.plot([row.difference], [place], marker="o", color="black", markersize=5)
     axes.axvline(0, color="black", linewidth=0.8)
-    axes.set_yticks(range(len(shown)), [row[0] for row in reversed(shown)])
+    axes.set_yticks(range(len(shown)), [row.variant for row in reversed(shown)])
     axes.set(xlabel=f"mean trip less that of {study.base} (s)", ylim=(-0.6, len(shown) - 0.4))
     axes.set_title(f"{len(study.seeds)} seeds")
     if len(study.seeds) > 1:
         axes.legend(frameon=False, fontsize=8)
-    save(figure, path)
+    save_picture(figure, path)
 
 
 def doubts(study: Study, name: str, outcomes: Sequence[Outcome]) -> Iterator[str]:
     """What speaks against the runs of a variant, by its name, a text each; outcomes: of its runs, one at least."""
     variant = study.variants[name]
     arrived = fmean(one.arrived for one in outcomes)
-    yield from trust.of_missing({"": arrived}, fmean(bisect_right(variant.due, one.end) for one in outcomes))
-    yield from trust.of_waiting({"": [(one.waiting, one.waiting_at) for one in outcomes]}, len(variant.due))
+    yield from trust.missing_doubts({"": arrived}, fmean(bisect_right(variant.due, one.end) for one in outcomes))
+    yield from trust.waiting_doubts({"": [(one.waiting, one.waiting_at) for one in outcomes]}, len(variant.due))
     early = [one for one in outcomes if one.ended and one.arrived < len(variant.due)]
     if early:
         yield f"{len(early):,} of {len(outcomes):,} runs ended before all had arrived, who count until then"
-    yield from trust.of_works(variant.works, [(one.end, one.gone) for one in outcomes])
+    yield from trust.works_doubts(variant.works, [(one.end, one.gone) for one in outcomes])
     yield from in_runs([one.at_works for one in outcomes])
     yield from variant.doubts
 
@@ -63,26 +61,26 @@ def tell_ends(study: Study, results: Mapping[str, Sequence[Outcome]]) -> None:
     for name, outcomes in results.items():
         for seed, one in zip(study.seeds, outcomes, strict=True):
             clocks.append(one.end)
-            if not one.ended.endswith(ALL):
+            if not one.ended.endswith(ALL_ARRIVED):
                 others.setdefault((name, one.ended.partition(": ")[2]), []).append(f"seed {seed} at {one.end:,} s")
     for (name, why), seeds in others.items():
         print(f"{name}: {why}: {', '.join(seeds)}")
     if not others:
         until = f"{min(clocks):,}" + (f" to {max(clocks):,}" if max(clocks) > min(clocks) else "")
-        print(f"runs ended at {until} s: {ALL}")
+        print(f"runs ended at {until} s: {ALL_ARRIVED}")
 
 
-def tell(rows: Sequence[Difference]) -> None:
+def tell_differences(rows: Sequence[Difference]) -> None:
     """Prints for each variant its mean trip, and the difference to the base with its 95 % interval; and how many paired
     runs the wanted precision needs, where that is more than were made; nothing of these where 2^20 are too few."""
-    for name, mean, difference, half, _, runs, needed, _ in rows:
-        line = f"{name}: mean trip {mean:.1f} s"
-        if difference is not None:
-            line += f", {difference:+.2f} s" + (
-                f" ± {half:.2f} (95 % interval, {runs} paired runs)" if half is not None else ""
-            )
-        if needed is not None and needed > runs:
-            line += f"; the wanted precision needs {needed:,} runs"
+    for row in rows:
+        line = f"{row.variant}: mean trip {row.mean:.1f} s"
+        if row.difference is not None:
+            line += f", {row.difference:+.2f} s"
+        if row.paired is not None:
+            line += f" ± {row.paired:.2f} (95 % interval, {row.runs} paired runs)"
+        if row.needed is not None and row.needed > row.runs:
+            line += f"; the wanted precision needs {row.needed:,} runs"
         print(line)
 
 

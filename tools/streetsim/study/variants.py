@@ -8,44 +8,45 @@ from dataclasses import dataclass
 from functools import partial
 from typing import Any
 
-from streetsim.actuated.lights import LISTED, Lights, driven_lights
+from streetsim.actuated.lights import NONE_DRIVEN, Lights, driven_lights
 from streetsim.base import limits
 from streetsim.base.files import Fault, Json, open_text, reading
 from streetsim.base.seeds import seeds_of
-from streetsim.base.words import MOST_ROUNDS, ROUNDS, listed, whole_seconds
+from streetsim.base.words import MOST_ROUNDS, ROUNDS, names_in, whole_seconds
 from streetsim.buses.planned import MOST_SEEN, NONE, Planned, planned
-from streetsim.buses.priority import waiting
+from streetsim.buses.priority import prioritised
 from streetsim.model import trust
 from streetsim.model.mapping import Map, read_map
 from streetsim.model.runs import Run
-from streetsim.routes.studied import Wished, routed
-from streetsim.run.ending import first_guess
+from streetsim.routes.studied import Wished, run_on_found_ways
+from streetsim.run.ending import after_departures
 from streetsim.run.settings import Settings
 from streetsim.sessions.giving import giving_session
 from streetsim.sessions.prepared import Session
 from streetsim.signals.light_lines import LightLines, read_plans
-from streetsim.signals.plans import light_of
-from streetsim.signals.town import Reading, lights_of, read_pair
-from streetsim.sumo.net import actuated
+from streetsim.signals.plans import light_and_timing
+from streetsim.signals.town import Reading, lights_of, read_run_and_map
+from streetsim.sumo.net import lights_not_static
 from streetsim.sumo.slowing import LIMITS
 from streetsim.works.asked import all_works
 from streetsim.works.movements import LOST
-from streetsim.works.sites import Asking, lanes_to_join, with_works
+from streetsim.works.sites import WorksOptions, lanes_to_join, with_works
 
 KEYS = {"run", "map", "until", "seeds", "base", "rounds", "merge", "lights", "lost", "stops", "variant"}
 KEYS |= {"priority", "seen"}
 VARIANT = {"run", "map", "plans", "close", "merge", "lights", "lost", "works_limit", "stops", "dawdle", "route"}
 VARIANT |= {"knowing", "priority", "seen"}
+RANGES = {"dawdle": (range(1001), ""), "works_limit": (LIMITS, " km/h"), "seen": (range(1, MOST_SEEN + 1), " s")}
+EITHER = {"merge": ("turns", "none"), "lights": ("actuated", "listed"), "stops": ("made", "none")}  # words of a key
 
 
 @dataclass(slots=True)
 class Variant:
-    """A variant of a study, read and made ready to run. signals: those of its plans, as lines for the program; empty
-    where it has no plans."""
+    """A variant of a study, made ready to run. signals: of its plans, for the program; empty without plans."""
 
     session: Session
     signals: bytes  # lines
-    due: list[float]  # when vehicles would arrive, were nobody in their way, rising
+    due: list[float]  # when vehicles would arrive, were nobody in their way, by the dawdle of the run file; rising
     doubts: list[str]  # what speaks against its runs before any is made
     works: list[tuple[str, int]]  # lanes, and when works on them begin
 
@@ -65,8 +66,11 @@ def read_study(path: str, simulator: str, rounds: int | None = None) -> Study:
     searched now, by runs; what is done is told on standard error. simulator: path of the program; rounds: in place of
     those in the file, None: those. Fault where the file, or one that it names, cannot be read or is wrong."""
     with reading(path), open_text(path) as file:
-        value = load_toml(path, file.read())
-    refuse_unknown(path, value, KEYS, "key")
+        try:
+            value = tomllib.loads(file.read())
+        except tomllib.TOMLDecodeError as fault:
+            raise Fault(f"{path}: not TOML: {fault}") from None
+    refuse_unknown(path, value, KEYS)
     for key in ("run", "map", "seeds", "variant"):
         if key not in value:
             raise Fault(f"{path}: no {key!r} in it")
@@ -75,7 +79,7 @@ def read_study(path: str, simulator: str, rounds: int | None = None) -> Study:
     if not isinstance(variants, dict) or not all(isinstance(one, dict) for one in variants.values()) or not variants:
         raise Fault(f"{path}: variants are tables [variant.NAME]")
     base = value.get("base", next(iter(variants)))
-    if base not in variants:
+    if base not in [*variants]:
         raise Fault(f"{path}: base = {base!r}: there is no variant of this name; there are {', '.join(variants)}")
     named = value.get("rounds", ROUNDS)
     if type(named) is not int or not 0 <= named <= MOST_ROUNDS:
@@ -92,7 +96,7 @@ def read_study(path: str, simulator: str, rounds: int | None = None) -> Study:
 
 @contextlib.contextmanager
 def naming(where: str) -> Iterator[None]:
-    """A context in which a Fault gets where, the variant that it is of, before its text, if that is not there yet."""
+    """A context in which a Fault gets `where`, the variant that it is of, before its text, if that is not there yet."""
     try:
         yield
     except Fault as fault:
@@ -100,8 +104,7 @@ def naming(where: str) -> Iterator[None]:
 
 
 def read_until(path: str, until: Any) -> int | None:
-    """The last second of a study: of a number, or of a time as text (07:00), 1 to limits.CLOCK; None where it names
-    none. Fault otherwise."""
+    """The last second of a study, of a number or a time (07:00:00), 1 to limits.CLOCK, or None; else a Fault."""
     if isinstance(until, str) and whole_seconds(until) is not None:
         until = whole_seconds(until)
     if until is not None and (type(until) is not int or not 1 <= until <= limits.CLOCK):
@@ -109,18 +112,10 @@ def read_until(path: str, until: Any) -> int | None:
     return until
 
 
-def load_toml(path: str, text: str) -> Json:
-    """What the text of a TOML file says; Fault, with its path, where it is no TOML."""
-    try:
-        return tomllib.loads(text)
-    except tomllib.TOMLDecodeError as fault:
-        raise Fault(f"{path}: not TOML: {fault}") from None
-
-
-def refuse_unknown(where: str, table: Iterable[str], known: Iterable[str], what: str) -> None:
-    """Fault where a table has a key that is not known; what: the user's word for the keys."""
+def refuse_unknown(where: str, table: Iterable[str], known: Iterable[str]) -> None:
+    """Fault where a table has a key that is not known."""
     if unknown := [key for key in table if key not in known]:
-        raise Fault(f"{where}: unknown {what} {unknown[0]!r}; known are {', '.join(sorted(known))}")
+        raise Fault(f"{where}: unknown key {unknown[0]!r}; known are {', '.join(sorted(known))}")
 
 
 def joint_lanes(path: str, study: Json) -> dict[tuple[str, str], dict[str, None]]:
@@ -146,23 +141,18 @@ def pair_of(study: Json, variant: Json) -> tuple[str, str]:
 
 
 def read_variant(
-    where: str,
-    path: str,
-    study: Json,
-    variant: Json,
-    joint: Mapping[tuple[str, str], Iterable[str]],
-    simulator: str,
+    where: str, path: str, study: Json, variant: Json, joint: Mapping[tuple[str, str], Iterable[str]], simulator: str
 ) -> Variant:
     """A variant, read and made ready, its ways searched by runs where it has route = true; what it does is told on
     standard error. where: for faults; path: of the study's file; study, variant: their tables, whose values check_types
     has passed, study's `until` and `rounds` as read_study puts them there; joint: as joint_lanes gives it; simulator:
     path of the program. Fault where a key is unknown, or a file that it names cannot be read or is wrong."""
-    refuse_unknown(where, variant, VARIANT, "key")
+    refuse_unknown(where, variant, VARIANT)
     beside = partial(os.path.join, os.path.dirname(os.path.abspath(path)))
     run_path, map_path = map(beside, pair_of(study, variant))
-    run, mapping = read_pair(run_path, map_path, study["until"])
+    run, mapping = read_run_and_map(run_path, map_path, study["until"])
     works = all_works(variant.get("close", ()), mapping, run.start(), study["until"])
-    until = study["until"] or first_guess(run)
+    until = study["until"] or after_departures(run)
     told: list[str] = []
     found: list[str] = []
     drives = variant.get("lights", study.get("lights")) != "listed" and "plans" not in variant
@@ -171,15 +161,17 @@ def read_variant(
         close, knowing = variant.get("close", ()), variant.get("knowing", 1.0)
         seeds = seeds_of(study["seeds"], f"{path}: seeds")
         wished = Wished(close, knowing, lanes, simulator, until, study["rounds"], seeds, drives, lost)
-        run, mapping, found = routed(run, mapping, map_path, wished, where)
+        run, mapping, found = run_on_found_ways(run, mapping, map_path, wished, where)
     else:
-        run, mapping, told = with_works(run, mapping, map_path, works, Asking(lanes, lost, variant.get("works_limit")))
+        run, mapping, told = with_works(
+            run, mapping, map_path, works, WorksOptions(lanes, lost, variant.get("works_limit"))
+        )
     lights, buses = lights_and_buses(run, mapping, {**study, **variant}, drives)
     told += [*lights.notes(), *buses.notes()]
     print(*(f"{where}: {text}" for text in told), sep="\n", end="\n" if told else "", file=sys.stderr)
     load = {"dawdle": variant["dawdle"]} if "dawdle" in variant else {}
     nodes: frozenset[int] = frozenset()
-    signals, sensing = b"", lights.going_by(mapping)
+    signals, sensing = b"", lights.listed_lights(mapping)
     if "plans" in variant:
         plans = list(map(beside, variant["plans"]))
         signals, sensing = signals_of(Reading(run_path, map_path, plans, until, simulator, 0, ()), run, mapping)
@@ -187,8 +179,8 @@ def read_variant(
     merging = variant.get("merge", study.get("merge")) != "none"
     settings = Settings(until, open_end=study["until"] is None, merging=merging, lights=lights, buses=buses)
     session = giving_session(simulator, run, mapping, settings, study["rounds"], nodes, **load)
-    doubts = [*found, *trust.of_lengths(until, run, mapping), *trust.of_actuated(until, run, mapping, sensing)]
-    begins = [(one.lane, one.first) for one in works]
+    doubts = [*found, *trust.length_doubts(until, run, mapping), *trust.actuated_doubts(until, run, mapping, sensing)]
+    begins = [(one.lane, one.begin) for one in works]
     return Variant(session, signals, trust.free_arrivals(run, mapping), doubts, begins)
 
 
@@ -196,12 +188,12 @@ def lights_and_buses(run: Run, mapping: Map, value: Json, drives: bool) -> tuple
     """The lights of a variant's run that are driven, and the stops and the priority of its buses. value: the variant's
     keys over the study's; drives: whether detectors drive lights. Fault where no vehicle is of a class or line of
     priority, or detectors are not to drive the lights that would wait."""
-    lights = driven_lights(run, mapping) if drives and mapping.actuated else LISTED
+    lights = driven_lights(run, mapping) if drives and mapping.actuated else NONE_DRIVEN
     buses = planned(run, mapping) if value.get("stops") != "none" else NONE
-    names = listed(value.get("priority", ""))
+    names = names_in(value.get("priority", ""))
     if names and not drives and mapping.actuated:
         raise Fault("priority and listed: lights that wait for buses do not show their listed seconds")
-    return waiting(run, mapping, names, value.get("seen"), lights, buses) if names else (lights, buses)
+    return prioritised(run, mapping, names, value.get("seen"), lights, buses) if names else (lights, buses)
 
 
 def check_types(where: str, value: Json) -> None:
@@ -215,24 +207,20 @@ def check_types(where: str, value: Json) -> None:
             raise Fault(f"{where}: {key} = {value[key]!r} is no list of texts")
     if value.get("plans") == []:
         raise Fault(f"{where}: plans = []: the network is the first of them")
-    if type(value.get("dawdle", 0)) is not int or not 0 <= value.get("dawdle", 0) <= 1000:
-        raise Fault(f"{where}: dawdle = {value['dawdle']!r} is not 0 to 1,000")
+    for key, (wanted, unit) in RANGES.items():
+        if key in value and (type(value[key]) is not int or value[key] not in wanted):
+            raise Fault(f"{where}: {key} = {value[key]!r} is not {wanted[0]:,} to {wanted[-1]:,}{unit}")
     if type(value.get("route", False)) is not bool:
         raise Fault(f"{where}: route = {value['route']!r} is neither true nor false")
     if type(value.get("knowing", 1)) not in (int, float) or not 0 <= value.get("knowing", 1) <= 1:
         raise Fault(f"{where}: knowing = {value['knowing']!r} is not 0 to 1")
-    if value.get("merge", "turns") not in ("turns", "none"):
-        raise Fault(f"{where}: merge = {value['merge']!r} is neither 'turns' nor 'none'")
     if value.get("lost", "lead") not in LOST:
         raise Fault(f"{where}: lost = {value['lost']!r} is none of {', '.join(map(repr, LOST))}")
-    if type(limit := value.get("works_limit", LIMITS[0])) is not int or limit not in LIMITS:
-        raise Fault(f"{where}: works_limit = {limit!r} is not {LIMITS[0]} to {LIMITS[-1]} km/h")
     if "works_limit" in value and (value.get("route") or not value.get("close")):
         raise Fault(f"{where}: works_limit is of works without a search for ways: close = [..] is needed, and no route")
-    if value.get("lights", "actuated") not in ("actuated", "listed"):
-        raise Fault(f"{where}: lights = {value['lights']!r} is neither 'actuated' nor 'listed'")
-    if value.get("stops", "made") not in ("made", "none"):
-        raise Fault(f"{where}: stops = {value['stops']!r} is neither 'made' nor 'none'")
+    for key, words in EITHER.items():
+        if value.get(key, words[0]) not in words:
+            raise Fault(f"{where}: {key} = {value[key]!r} is neither {words[0]!r} nor {words[1]!r}")
     check_priority(where, value)
     if "knowing" in value and not (value.get("route") and value.get("close")):
         raise Fault(f"{where}: knowing is of who goes round works: close = [..] and route = true are needed too")
@@ -242,8 +230,6 @@ def check_priority(where: str, value: Json) -> None:
     """Fault where what a variant says of priority has no meaning. value: the variant's keys over the study's."""
     if not isinstance(names := value.get("priority", ""), str):
         raise Fault(f"{where}: priority = {names!r} is no text of classes or lines")
-    if type(seen := value.get("seen", 1)) is not int or not 1 <= seen <= MOST_SEEN:
-        raise Fault(f"{where}: seen = {seen!r} is not 1 to {MOST_SEEN} s")
     if "seen" in value and not names:
         raise Fault(f"{where}: seen is of vehicles with priority")
     if names and "plans" in value:
@@ -251,12 +237,10 @@ def check_priority(where: str, value: Json) -> None:
 
 
 def signals_of(asked: Reading, run: Run, mapping: Map) -> tuple[bytes, list[str]]:
-    """(signal lines, as bytes, of all lights of the map under the plans of a variant; the names of the lights among
-    them that SUMO times by detectors). asked: the paths of the run, the map and the plans, of which the first is the
-    network; run and mapping: read of these. Fault where a plan cannot be read, or they have no program for a light of
-    the map."""
+    """(signal lines of all lights under a variant's plans; names of those that SUMO times by detectors). asked: the
+    paths; run, mapping: read of these. Fault where a plan cannot be read, or none has a program for a light."""
     net = read_plans(asked.plans, mapping)
-    found = {name: light_of(name, net.programs[name]) for name in lights_of(asked, mapping, net)}
+    found = {name: light_and_timing(name, net.programs[name]) for name in lights_of(asked, mapping, net)}
     plan = {name: timing for name, (_, timing) in found.items()}
-    lines = LightLines(net, run, mapping).of(plan, {name: light for name, (light, _) in found.items()})
-    return lines, actuated(net, found)
+    lines = LightLines(net, run, mapping).signal_lines(plan, {name: light for name, (light, _) in found.items()})
+    return lines, lights_not_static(net, found)

@@ -1,25 +1,24 @@
-"""Bus stops of SUMO's additional files."""
+"""Places on lanes where SUMO's vehicles stop."""
 from dataclasses import dataclass
 
 from streetsim.base.files import Fault
-
-NEAR = 0.1  # metres, by which lengths are rounded
+from streetsim.sumo.detectors import NEAR
 
 
 @dataclass(slots=True, frozen=True)
 class BusStop:
-    """A bus stop of an additional file, on a lane; begin and end in metres from the lane's begin, below 0 from its end;
-    None: the lane's begin or end."""
+    """Where a bus stop lies, or of a stop that tells a lane or edge; begin and end in metres from the lane's begin,
+    below 0 from its end; None: the lane's begin or end."""
 
     lane: str
     begin: float | None
     end: float | None
 
 
-def stretch(stop: BusStop, length: float, is_friendly: bool, where: str) -> tuple[float, float]:
-    """The (begin, end) of a stop in metres from its lane's begin; length: of the lane, metres. Fault where it lies
-    beyond the lane by more than NEAR, or ends before it begins, unless is_friendly: then it is moved onto the lane, and
-    a begin behind its end to the end. where: the element, for the Fault."""
+def begin_and_end_on_lane(stop: BusStop, length: float, is_friendly: bool, where: str) -> tuple[float, float]:
+    """The (begin, end) of a stop in metres from its lane's begin, both moved onto the lane (length: its metres), a
+    begin behind its end to the end. Fault instead where it lies beyond the lane by more than NEAR, or ends before it
+    begins, unless is_friendly. where: the element, for the Fault."""
     begin, end = (at + length if at is not None and at < 0 else at for at in (stop.begin, stop.end))
     end = length if end is None else end
     begin = 0.0 if begin is None else begin

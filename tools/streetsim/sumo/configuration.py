@@ -46,11 +46,10 @@ HERE = {  # what a configuration asks for otherwise than it is done here, and wh
 
 def read_configuration(path: str) -> dict[str, str]:
     """The options that a configuration (.sumocfg) sets, {long name: value as text}; the paths of FILES and WRITTEN are
-    made those from the folder of the command, several with commas between. Options without a value are left out; of one
-    that is set twice the last counts. Its root and its sections may have any name, as in SUMO. Fault where it cannot be
-    read or is no XML."""
+    made those from the folder of the command, several with commas between. Of an option that is set twice the last
+    counts, unless it has no value. Fault where the file cannot be read or is no XML."""
     found = {}
-    for element in elements(path, None):
+    for element in elements(path):
         for one in element.iter():
             value = one.get("value", one.get("v", (one.text or "").strip()))
             if value:
@@ -77,8 +76,7 @@ def files_named(path: str, options: Mapping[str, str]) -> tuple[str, list[str], 
 
 
 def tell_options(options: Mapping[str, str], report: Report) -> None:
-    """Reports the options of a configuration that are not done here; those that change nothing that is simulated, any
-    that is set to false, and a step-length or scale of 1 are passed over."""
+    """Reports the options of a configuration that are not done here, outputs too, but for those of SILENT."""
     for name, value in options.items():
         off = value.lower() in FALSE
         if name in DONE or SILENT.fullmatch(name) or off or (name in ("step-length", "scale") and is_one(value)):

@@ -8,8 +8,8 @@ and leaves more long gaps. Lanes side by side are bunched each for itself, and w
 from collections import defaultdict
 from collections.abc import Iterable, Mapping
 
-from streetsim.model.waiting import Foe, Gap, Pace, TurnKey, Waiting
-from streetsim.sumo.losses import Flows, Way
+from streetsim.model.waiting import Foe, Gap, GivingWay, Pace, TurnKey
+from streetsim.sumo.losses import EdgePair, Flows
 from streetsim.sumo.net import MINOR, STOPS, Connection, SumoNet, connections_of
 from streetsim.sumo.network import Network
 
@@ -31,33 +31,33 @@ OTHERS = {
 PACES = {STOPS: Pace(2, 4.15), ALL_STOP: Pace(2, 4.15, 0.7)}
 
 
-def conflicts_of(net: SumoNet, network: Network, flows: Flows) -> list[Waiting]:
-    """Who gives way at junctions without any light: one Waiting for each movement that routes use and that gives way to
-    another used one, or always has to stop. Junctions with a connection whose request is not known are left out. flows:
-    vehicles an hour by (edge, next edge), without which a movement counts as unused."""
+def conflicts_of(net: SumoNet, network: Network, flows: Flows) -> list[GivingWay]:
+    """Who gives way at junctions without any light, once the network has the turns that plans add (enters): one
+    GivingWay for each movement that routes use (flows: vehicles an hour by (edge, next edge)) and that gives way to
+    another used one, or always has to stop. Junctions with a connection whose request is not known are left out."""
     turns_at = defaultdict(list)
     for link, lane, following in network.turns:
         turns_at[network.links[link].edge, network.links[following].edge].append((link, lane, following))
     number = {name: at for at, name in enumerate(network.nodes)}
     return [
-        Waiting(number[junction], tuple(sorted(turns_at[way])), tuple(found.values()), paces.get(way))
+        GivingWay(number[junction], tuple(sorted(turns_at[pair])), tuple(found.values()), paces.get(pair))
         for junction, connections in connections_of(net).items()
         if junction in number and not any(one.light or one.request is None for one in connections)
         for paces in [{(one.source, one.target): PACES[one.state] for one in connections if one.state in PACES}]
-        for way, found in foes_by_way(connections, net.yields.get(junction, {}), network, flows).items()
-        if found or way in paces
+        for pair, found in foes_by_movement(connections, net.yields.get(junction, {}), network, flows).items()
+        if found or pair in paces
     ]
 
 
-def foes_by_way(
+def foes_by_movement(
     connections: Iterable[Connection], yields: Mapping[int, Iterable[int]], network: Network, flows: Flows
-) -> dict[Way, dict[TurnKey, Foe]]:
-    """Who goes before each used movement of a junction, by their turns, {(edge, next edge): {(link, lane, next link):
-    foe}}, empty where nobody does. connections: of the junction; yields: the requests that each request gives way to.
-    Where all have to stop, these are all who come from other edges. flows: as in conflicts_of."""
+) -> dict[EdgePair, dict[TurnKey, Foe]]:
+    """Who goes before each used movement of a junction, as foes gives them, {(edge, next edge): {(link, lane, next
+    link): foe}}, empty where nobody does. connections: of the junction; yields: the requests that each request gives
+    way to. Where all have to stop, these are all who come from other edges. flows: as in conflicts_of."""
     used = (one for one in connections if flows.get((one.source, one.target)))
     of_request = {one.request: one for one in used if one.request is not None}
-    found: dict[Way, dict[TurnKey, Foe]] = {(one.source, one.target): {} for one in of_request.values()}
+    found: dict[EdgePair, dict[TurnKey, Foe]] = {(one.source, one.target): {} for one in of_request.values()}
     for request, one in of_request.items():
         if one.state == ALL_STOP:
             before = [at for at, other in of_request.items() if other.source != one.source]
@@ -69,8 +69,8 @@ def foes_by_way(
 
 
 def foes(one: Connection, other: Connection, network: Network) -> dict[TurnKey, Foe]:
-    """The turns of another connection (other), to which vehicles of one give way, {(link, lane, next link): foe}, one
-    turn for each link of its next edge; each foe has the gap in seconds that must be free before it."""
+    """A connection (other) as foes of one that gives way to it, one for each link of its next edge, by (link, lane,
+    next link), whether or not the network has such a turn."""
     link, lane = network.place_of[other.source, other.source_lane]
     links = network.links_of[other.source]
     fast = joins_fast(one, other, network.links[link].speed, other.source in network.rings)
@@ -89,8 +89,8 @@ def foes(one: Connection, other: Connection, network: Network) -> dict[TurnKey, 
 
 
 def joins_fast(one: Connection, other: Connection, speed: float, in_ring: bool) -> bool:
-    """Whether a connection joins the stream of another whose vehicles are faster than FAST; speed: of the other's
-    street, metres a second; in_ring: the other is in a roundabout, where its speed inside the junction counts."""
+    """Whether a connection joins the stream of a fast one (FAST). speed: of the other's street, metres a second;
+    in_ring: the other is in a roundabout, where its speed inside the junction counts."""
     own = other.speed if in_ring and other.speed is not None else speed
     return one.target == other.target and own > FAST
 
@@ -102,11 +102,11 @@ def gap_of(one: Connection, other: Connection, fast: bool) -> Gap:
     return NONE if one.state == ALL_STOP else OTHERS[one.state][gap] if one.state in OTHERS else gap
 
 
-def gaps_of_ways(net: SumoNet) -> dict[Way, dict[Way, Gap]]:
+def gaps_by_movement(net: SumoNet) -> dict[EdgePair, dict[EdgePair, Gap]]:
     """The movements that go before each movement without a light, whether or not routes take it, with the gap that
     gap_of gives: {(edge, next edge): {(edge, next edge) that goes first: gap}}; a movement that gives way to none is
     left out, as are those, on both sides, that have a light or a request that is not known."""
-    found: defaultdict[Way, dict[Way, Gap]] = defaultdict(dict)
+    found: defaultdict[EdgePair, dict[EdgePair, Gap]] = defaultdict(dict)
     for junction, connections in connections_of(net).items():
         of_request = {one.request: one for one in connections if one.request is not None and not one.light}
         for request, one in of_request.items():

@@ -11,16 +11,16 @@ from streetsim.model.runs import Command
 from streetsim.sumo.conflicts import conflicts_of
 from streetsim.sumo.crossing import hourly_flows
 from streetsim.sumo.demand import Vehicle, enters, kinds_of
-from streetsim.sumo.detectors import placed
-from streetsim.sumo.net import SumoNet, actuated
+from streetsim.sumo.detectors import detectors_on_cells
+from streetsim.sumo.net import STATIC, SumoNet, lights_not_static
 from streetsim.sumo.network import Network, Options
 from streetsim.sumo.programs import fixed_programs, kept_programs, lights_of_riders
 from streetsim.sumo.rules import warn_of_rules
-from streetsim.sumo.signals import AFTER, movements, signals
-from streetsim.sumo.slowing import slowed
+from streetsim.sumo.signals import AFTER, movements, signal_commands
+from streetsim.sumo.slowing import with_lower_limits
 from streetsim.sumo.timings import warn_of_clashes
 from streetsim.sumo.types import Types
-from streetsim.sumo.wauts import day_lines, days_of, sensing
+from streetsim.sumo.wauts import day_lines, days_of, programs_shown
 from streetsim.sumo.yielding import equivalents
 
 # The network, its lights with their nodes, the commands of the run, the names of its vehicles.
@@ -28,11 +28,11 @@ Made = tuple[Network, list[tuple[str, int]], list[Command], list[str]]
 
 
 def run_and_map(made: Made, report: Report) -> tuple[list[str], Map]:
-    """(the lines of a run as JSON texts without line ends, its map), of what converted made; the report's texts go into
-    the map. Fault where a limit of the simulator is passed, or `placed` raises one."""
+    """(the lines of a run as JSON texts; its map, with all that the report says), of what converted made. Fault where a
+    limit of the simulator is passed, or `detectors_on_cells` raises one."""
     network, lights, commands, names = made
     mapping = map_of(network, lights, names, report)
-    mapping.detectors = placed(network.detectors, mapping, network.closed_lanes, report)
+    mapping.detectors = detectors_on_cells(network.detectors, mapping, network.closed_lanes, report)
     mapping.warnings, mapping.told = list(report.lines()), report.rows()
     lines = [json.dumps(command, separators=(",", ":")) for command in commands]
     refuse_over_limits(network, lines[0], names)
@@ -44,9 +44,10 @@ def converted(net: SumoNet, types: Types, vehicles: Sequence[Vehicle], options: 
     vehicles: in order of departure. What is left out or made otherwise than in SUMO is reported. Fault for what cannot
     be made, as a route without a connection. In net, programs may become those of the run's begin (wauts.days_of)."""
     if options.slow:
-        net, vehicles = slowed(net, vehicles, options.slow, report)
+        net, vehicles = with_lower_limits(net, vehicles, options.slow, report)
     flows = hourly_flows(vehicles)
-    last = max((round(vehicle.depart) for vehicle in vehicles), default=options.begin) + AFTER
+    driving = (round(vehicle.depart) for vehicle in vehicles if vehicle.depart <= limits.CLOCK)
+    last = max(driving, default=options.begin) + AFTER
     days = days_of(net, options.begin, last, report)
     network = Network(net, options, report, flows)
     found = movements(net, network, flows)
@@ -55,27 +56,24 @@ def converted(net: SumoNet, types: Types, vehicles: Sequence[Vehicle], options: 
     network.kinds = kinds_of(driven, types)
     network.last = max((command["depart"] for command in entered), default=options.begin)
     network.open_beside_works()
-    warn_of_rules(net, network, report)
+    warn_of_rules(net, network, programs_shown(net, days), report)
     warn_of_clashes(net, report)
     ends = {light: day[1][0] - 1 for light, day in days.items() if len(day) > 1}
-    made = signals(net, network, found, report, ends) + day_lines(net, network, days, flows, report)
+    made = signal_commands(net, network, found, report, ends) + day_lines(net, network, days, flows, report)
     lights = [(light, command["node"]) for light, command in made if "at" not in command]
     network.yields = conflicts_of(net, network, flows)
-    network.actuated = list(dict.fromkeys([*actuated(net, (light for light, _ in made)), *sensing(net, days)]))
+    sensing = (light for light, program in programs_shown(net, days) if light in days and program.kind != STATIC)
+    network.actuated = list(dict.fromkeys([*lights_not_static(net, (light for light, _ in made)), *sensing]))
     network.switches = sorted((clock, light, program) for light, day in days.items() for clock, program in day)
     network.programs = kept_programs(net, network, lights, flows)
     network.fixed = fixed_programs(net, network, lights, flows, lights_of_riders(entered, driven, types, network))
-    return (
-        network,
-        lights,
-        [network.load(), *(command for _, command in made), *entered],
-        [vehicle.name for vehicle in driven],
-    )
+    commands = [network.load_command(), *(command for _, command in made), *entered]
+    return network, lights, commands, [vehicle.name for vehicle in driven]
 
 
 def refuse_over_limits(network: Network, load: str, names: Sequence[str]) -> None:
-    """Fault where the simulator would refuse the run by its limits; load: the load line as text; names: of the
-    vehicles."""
+    """Fault where a network, its load line (load, as text) or the number of vehicles (of names) is above the
+    simulator's limits."""
     over = list(network.over_limits())
     if len(names) > limits.VEHICLES:
         over.append(f"{len(names):,} vehicles, at most {limits.VEHICLES:,}")
@@ -86,14 +84,11 @@ def refuse_over_limits(network: Network, load: str, names: Sequence[str]) -> Non
 
 
 def map_of(network: Network, lights: list[tuple[str, int]], names: list[str], report: Report) -> Map:
-    """The map of an import, still without detectors (run_and_map sets them); lights: (light, node), one for each node
-    with a light; names: of the vehicles, in order of their numbers; report: whose warnings it gets."""
-    options = asdict(network.options)
+    """The map of an import, but for detectors and told, which run_and_map sets; lights: (light, node), one for each
+    node with a light; names: of the vehicles, in order of their numbers; report: whose lines become its warnings."""
+    nodes = zip(network.nodes, network.points, network.residences, strict=True)
     return Map(
-        nodes=[
-            (name, *place, residence)
-            for name, place, residence in zip(network.nodes, network.places, network.residences, strict=True)
-        ],
+        nodes=[(name, *place, residence) for name, place, residence in nodes],
         links=[
             MapLink(link.edge, link.lanes, link.begin, link.end, link.cells, link.limit, link.metres, tuple(link.shape))
             for link in network.links
@@ -104,7 +99,7 @@ def map_of(network: Network, lights: list[tuple[str, int]], names: list[str], re
         ],
         signals=lights,
         cars=names,
-        options=options,
+        options=asdict(network.options),
         warnings=list(report.lines()),
         yields=network.yields,
         kinds=network.kinds,

@@ -10,34 +10,32 @@ from dataclasses import dataclass, field
 from itertools import pairwise
 from typing import Any
 
-from streetsim.model.timing import runs_of
+from streetsim.model.timing import spans_of
 from streetsim.sumo.greens import USUAL_SPEED, headway
 from streetsim.sumo.heads import Heads
 from streetsim.sumo.net import Connection
 
-Way = tuple[str, str]  # an edge and the next one
+EdgePair = tuple[str, str]  # an edge and the next one
 Meeting = tuple[int, tuple["Movement", ...]]  # seconds, and the foes that are green in them
 LEAST_SHARE = 0.02  # of a lane's vehicles wait, also where routes have fewer
 GREEN, OPEN, STOPPED = "GO", "go", "s"  # goes first; when there is a gap; the same after a stop, as right on red
 PERMISSIVE, SHOWN = OPEN + STOPPED, GREEN + OPEN
 
 
-def hourly_flows(vehicles: Iterable[Any]) -> dict[Way, float]:
+def hourly_flows(vehicles: Collection[Any]) -> dict[EdgePair, float]:
     """Vehicles an hour by (edge, next edge), over the time in which vehicles depart, which counts as 900 s at least.
-    vehicles: a list or the like, as it is gone over twice, of anything with edges and depart (seconds)."""
-    flows: Counter[Way] = Counter()
-    for vehicle in vehicles:
-        flows.update(pairwise(vehicle.edges))
+    vehicles: anything with edges and depart (seconds)."""
+    flows = Counter(pair for vehicle in vehicles for pair in pairwise(vehicle.edges))
     departs = [vehicle.depart for vehicle in vehicles]
     hours = max(900.0, max(departs) - min(departs)) / 3600 if departs else 1.0
-    return {movement: count / hours for movement, count in flows.items()}
+    return {pair: count / hours for pair, count in flows.items()}
 
 
 @dataclass(slots=True, eq=False)
 class Movement:
     """A connection over one cycle of its light: when it has green, to whom it gives way, and how many vehicles pass."""
 
-    way: Way
+    pair: EdgePair
     lane: tuple[str, int]  # edge, lane
     index: int | None  # in the light's state
     cycle: int  # seconds
@@ -52,10 +50,10 @@ class Movement:
     # First second of a red in which one may go after a stop: its length.
     stops: dict[int, int] = field(default_factory=dict)
     foes: list[Movement] = field(default_factory=list)  # that it gives way to
-    meets: dict[int, list[Meeting]] = field(default_factory=dict)  # by first second of a permissive green
-    # By first second of a permissive green: how many seconds of it are shown.
+    meets: dict[int, list[Meeting]] = field(default_factory=dict)  # by first second of one of runs or stops
+    # By first second of one of runs or stops: how many seconds of it are shown.
     shown: dict[int, int] = field(default_factory=dict)
-    parts: int = 1  # in which they are shown
+    parts: int = 1  # in which those of one of runs are shown
     sharing: list[Movement] = field(default_factory=list)  # its lane, with it
     lanes: int = 1  # of its edge
     share: float = 1.0  # of the vehicles on its lane that wait for gaps
@@ -65,31 +63,28 @@ class Movement:
 
     @property
     def waits(self) -> bool:
-        """Whether its vehicles wait for gaps: it has permissive greens (in which it gives way), and foes."""
+        """Whether its vehicles wait for gaps in a permissive green."""
         return bool(self.runs and self.foes)
 
     @property
     def shown_open(self) -> int:
-        """How many seconds of its permissive greens are shown, in all; shown must be set (settle)."""
+        """How many seconds of its permissive greens are shown, in all, once settle has set these."""
         return sum(self.shown[start] for start in self.runs)
 
 
 def movements_of(
-    connections: Sequence[Connection],
-    states: Sequence[str],
-    yields: Mapping[int, Iterable[int]],
-    flows: Mapping[Way, float],
-    limits_of: Mapping[str, int],
-) -> dict[int, Movement]:
+    connections: Sequence[Connection], states: Sequence[str], yields: Mapping[int, Iterable[int]],
+    flows: Mapping[EdgePair, float], limits_of: Mapping[str, int],
+) -> dict[int, Movement]:  # fmt: skip
     """The movements of a junction, by the connections' requests, of which none is None; their shown is set by settle.
-    Connections of the same edges share their flow equally; of those that one gives way to, those without a flow are
-    left out. states: of its light, one for each second; yields: by request those that it gives way to; flows: vehicles
-    an hour by (edge, next edge); limits_of: cells a step, by edge."""
+    Connections of the same edges share their flow equally; of those that one gives way to, foes are those with a flow
+    that do not wait together with it. states: of its light, one for each second; yields: by request those that it gives
+    way to; flows: vehicles an hour by (edge, next edge); limits_of: cells a step, by edge."""
     sharing = Counter((connection.source, connection.target) for connection in connections)
     found = {}
     for connection in connections:
-        way = connection.source, connection.target
-        flow = flows.get(way, 0.0) / sharing[way]
+        pair = connection.source, connection.target
+        flow = flows.get(pair, 0.0) / sharing[pair]
         assert connection.request is not None
         found[connection.request] = movement_of(connection, states, flow, limits_of[connection.source])
     for request, movement in found.items():
@@ -105,19 +100,18 @@ def movements_of(
 
 
 def wait_together(one: int, other: int, found: Mapping[int, Movement], yields: Mapping[int, Iterable[int]]) -> bool:
-    """Whether two requests are turns of permissive greens that face each other: each gives way to others of the other's
-    edge. Neither waits for the other, as both stand inside the junction and wait for those others."""
+    """Whether two requests have permissive greens and each gives way to others of the other's edge, as left turns that
+    face each other do: they stand inside the junction and wait for those, not for each other."""
     return all(
         found[own].runs
-        and any(foe != its and foe in found and found[foe].way[0] == found[its].way[0] for foe in yields.get(own, ()))
+        and any(foe != its and foe in found and found[foe].pair[0] == found[its].pair[0] for foe in yields.get(own, ()))
         for own, its in ((one, other), (other, one))
     )
 
 
 def set_heads(movement: Movement) -> None:
-    """Sets the lane that faces a movement's, and how their heads wait for each other: where each is the only one of its
-    edge, and on both some wait for the other in a permissive green. Sets nothing where no lane or several are such.
-    What all know of their lanes must be set."""
+    """Sets opposite and heads of a movement where, in a permissive green, some on its lane and some on one other alone
+    wait for each other, both the only lanes of their edges. set_lane goes before, for all movements."""
     lanes = {foe.lane: foe for one in movement.sharing for foe in one.foes if foe.green & one.green & ~one.sure}
     facing = [foe for foe in lanes.values() if waiting_share(foe.sharing, movement.sharing)]
     if movement.lanes == 1 and len(facing) == 1 and facing[0].lanes == 1:
@@ -126,7 +120,7 @@ def set_heads(movement: Movement) -> None:
 
 
 def heads_of(own: Sequence[Movement], other: Sequence[Movement]) -> Heads | None:
-    """The heads of two lanes, by the movements of each; None where nobody of one waits for the other."""
+    """The heads of two lanes, by the movements of each; None where on one of them nobody waits for the other."""
     sides = (own, other), (other, own)
     first, second = (waiting_share(*side) for side in sides)
     if not (first and second):
@@ -150,11 +144,10 @@ def waiting_share(own: Sequence[Movement], other: Sequence[Movement]) -> float:
 
 
 def set_lane(movement: Movement, movements: Collection[Movement]) -> None:
-    """Sets what a movement knows of its lane, of all movements of the junction: who shares it, how many lanes of its
-    edge have movements, in how many parts its seconds are shown (two where others on its lane need not wait, at an edge
-    of several lanes), the share that waits for gaps (LEAST_SHARE at least; 1 where the lane has no vehicles), and the
-    seconds between those who do not (its own headway where there are none)."""
-    movement.lanes = len({other.lane for other in movements if other.way[0] == movement.way[0]})
+    """Sets what a movement knows of its lane, of all movements of the junction: sharing, lanes, parts (two where some
+    on its lane have no permissive green, at an edge of several lanes), share (LEAST_SHARE at least; 1 where the lane
+    has no vehicles) and beside (its own headway where all wait)."""
+    movement.lanes = len({other.lane for other in movements if other.pair[0] == movement.pair[0]})
     movement.sharing = [other for other in movements if other.lane == movement.lane]
     movement.parts = 2 if movement.lanes > 1 and any(one.flow and not one.runs for one in movement.sharing) else 1
     going = [one for one in movement.sharing if not one.waits]
@@ -164,41 +157,40 @@ def set_lane(movement: Movement, movements: Collection[Movement]) -> None:
 
 
 def movement_of(connection: Connection, states: Sequence[str], flow: float, limit: int) -> Movement:
-    """The movement of one connection, still without its foes and what it knows of others on its lane; one without a
-    light is green throughout. states: of its light, one for each second; flow: vehicles an hour; limit: of its link,
-    cells a step."""
+    """The movement of one connection, still without others; one without a light is green throughout. states: of its
+    light, one for each second; flow: vehicles an hour; limit: of its link, cells a step."""
     lit, cycle = connection.light is not None, len(states)
     own = "".join(state[connection.index] for state in states) if lit else "G" * cycle
     return Movement(
-        way=(connection.source, connection.target),
+        pair=(connection.source, connection.target),
         lane=(connection.source, connection.source_lane),
         index=connection.index if lit else None,
         cycle=cycle,
-        sure=seconds_of(own, GREEN),
-        green=seconds_of(own, SHOWN),
-        begins=[(start, red_before(own, start)) for start, _ in runs_of(own, SHOWN) if own[start - 1] not in SHOWN],
+        sure=bits_of_states(own, GREEN),
+        green=bits_of_states(own, SHOWN),
+        begins=[(start, red_before(own, start)) for start, _ in spans_of(own, SHOWN) if own[start - 1] not in SHOWN],
         flow=flow,
         passing=flow,
         headway=headway(connection.speed or USUAL_SPEED),
         limit=limit,
-        runs=dict(runs_of(own, OPEN)),
-        stops=dict(runs_of(own, STOPPED)),
+        runs=dict(spans_of(own, OPEN)),
+        stops=dict(spans_of(own, STOPPED)),
     )
 
 
-def seconds_of(states: str, shown: str) -> int:
+def bits_of_states(states: str, shown: str) -> int:
     """The seconds of a cycle, as bits, whose state is one of shown; states: a letter for each second."""
     return sum(1 << second for second, state in enumerate(states) if state in shown)
 
 
 def red_before(states: str, start: int) -> int:
-    """How many seconds without green end where a green begins, at start. Some second must have green."""
+    """How many seconds without green end where a green begins, at start."""
     return next(steps for steps in range(len(states)) if states[start - steps - 1] in SHOWN)
 
 
 def meetings(movement: Movement, start: int, length: int) -> list[Meeting]:
-    """The seconds of a permissive green, or of a red in which one may go after a stop, of length seconds from start
-    (over the cycle's end too), [(seconds as bits, foes that have green in them)]; the movement's foes must be set."""
+    """The seconds of a permissive green, or of a red in which one may go after a stop, of length seconds from start, by
+    which of the movement's foes have green in them."""
     found: defaultdict[tuple[Movement, ...], int] = defaultdict(int)
     for second in range(start, start + length):
         place = second % movement.cycle

@@ -1,17 +1,16 @@
 """Reads SUMO's vehicles, flows and routes (.rou.xml) and makes enter commands of them. All that reads raises Fault,
-with file and element, where an attribute is absent or cannot be read."""
+with file and element, where an attribute that it needs is absent, or one cannot be read."""
 import math
 import random
 from collections import Counter
 from collections.abc import Iterable, Mapping, Sequence
 from dataclasses import astuple, dataclass
 from itertools import pairwise
-from typing import Any
 from xml.etree.ElementTree import Element
 
 from streetsim.base import limits
 from streetsim.base.files import (
-    Fault, FilePath, Json, at_least_zero, attribute, elements, filled, optional, seconds, told,
+    Fault, FilePath, Json, at_least_zero, attribute, element_told, elements, filled, optional, seconds,
 )
 from streetsim.base.report import Report
 from streetsim.model.runs import Command
@@ -19,10 +18,8 @@ from streetsim.model.sources import sum_of_lines
 from streetsim.sumo.flows import departs
 from streetsim.sumo.net import SumoNet
 from streetsim.sumo.network import LaneKey, Network
-from streetsim.sumo.stops import Found, Stop, Stops, stops_in
-from streetsim.sumo.types import Sizes, Types, weights_of
-
-Mix = tuple[list[str], list[float]]  # names and weights
+from streetsim.sumo.stops import FoundStops, Stop, Stops, stops_in
+from streetsim.sumo.types import DEFAULT, Mix, Sizes, Types, named_in, weight_of
 
 READ = {"id", "type", "depart", "route", "edges", "begin", "end"}
 READ |= {"number", "period", "probability", "vehsPerHour", "perHour", "repeat", "line"}
@@ -38,12 +35,12 @@ ROUTED_FIRST = "has no route: streetsim-import --trips FILE finds one for each, 
 
 
 class Unrouted(Fault):
-    """A trip, or a flow between two edges, where routes are asked for."""
+    """A trip, or a vehicle or flow without a route, where routes are asked for."""
 
 
 @dataclass(slots=True)
 class Vehicle:
-    """A vehicle as files tell it, with its route; edges, type and stops are complete when Demand.finish gives it."""
+    """A vehicle as files tell it; its edges, type and stops are final once completed_vehicles has set them."""
 
     name: str
     depart: float  # seconds
@@ -68,26 +65,24 @@ class Demand:
         self.route_stops: dict[str, tuple[Stop, ...]] = {}  # by route, seconds from the departure on
         self.later: list[tuple[Vehicle, str]] = []  # (vehicle, file and element): routes may be told after the vehicles
 
-    def read(self, path: FilePath) -> None:
-        """Adds what a file of routes has; Fault where it cannot be read or is wrong, Unrouted where read_element raises
-        it."""
+    def read_file(self, path: FilePath) -> None:
+        """Adds what a file of routes has; Fault where it cannot be read or read_element raises one."""
         for element in elements(path, ["routes", "additional", "add"]):
             self.read_element(path, element)
 
     def read_element(self, path: FilePath, element: Element) -> None:
-        """Adds an element of a file of routes, which may also stand in an additional file. A trip, or a vehicle or flow
-        without a route, is refused as Unrouted; persons and containers are reported as skipped, unknown elements as
-        ignored."""
+        """Adds an element of a file of routes or an additional file. Unrouted for a trip, or a vehicle or flow without
+        a route; persons and containers are reported as skipped, unknown elements as ignored."""
         readers = {
             "route": self.read_route,
             "routeDistribution": self.read_mix,
             "vehicle": self.read_vehicle,
             "flow": self.read_flow,
-            "vType": self.types.read,
-            "vTypeDistribution": self.types.read,
+            "vType": self.types.read_element,
+            "vTypeDistribution": self.types.read_element,
         }
         if element.tag == "trip":
-            raise Unrouted(f"{told(path, element)} {ROUTED_FIRST}")
+            raise Unrouted(f"{element_told(path, element)} {ROUTED_FIRST}")
         if element.tag in NOT_DRIVEN:
             self.report.skipped[f"{NOT_DRIVEN[element.tag]}, which streetsim does not have"] += 1
         elif element.tag in readers:
@@ -96,204 +91,195 @@ class Demand:
             self.report.ignored[f"<{element.tag}> of route files"] += 1
 
     def read_route(self, path: FilePath, element: Element) -> None:
-        """Adds a route with its stops to routes and route_stops; Fault where another route, or a distribution, has its
-        name, or `edges` or `stops_in` raises one."""
-        name = attribute(path, element, "id", filled)
+        """Adds a route with its stops to routes and route_stops, and reports its attributes that are not in READ."""
+        name = self.new_name(path, element)
         self.note_ignored(element)
-        if name in self.routes or name in self.mixes:
-            raise Fault(f"{told(path, element)}: a second route of this name")
-        self.routes[name] = self.edges(path, element, element)
-        self.route_stops[name] = stops_in(path, element, self.net)
+        self.add_route(path, element, element, name)
 
     def read_mix(self, path: FilePath, element: Element) -> None:
-        """Adds a distribution of routes, and the routes in it; Fault where another one, or a route, has its name, or
-        `mix` raises one."""
+        """Adds a distribution of routes, and the routes in it."""
+        name = self.new_name(path, element)
+        self.add_mix(path, element, element, name)
+
+    def new_name(self, path: FilePath, element: Element) -> str:
+        """The name of a route or a distribution; Fault where another one has it."""
         name = attribute(path, element, "id", filled)
         if name in self.routes or name in self.mixes:
-            raise Fault(f"{told(path, element)}: a second route of this name")
-        self.mixes[name] = self.mix(path, element, element, name)
+            raise Fault(f"{element_told(path, element)}: a second route of this name")
+        return name
 
-    def mix(self, path: FilePath, owner: Element, element: Element, name: str) -> Mix:
-        """The names and weights of the routes of a distribution (element, name). Routes that stand in it are added to
-        `routes` and route_stops, also in place of one of the same name; one without a name is called after the
-        distribution and its place, as in SUMO. owner: the element that faults name. A weight that is not told is 1.
-        Fault for a route that was not read before, none at all, or weights that are all 0."""
-        names, weights = (element.get("routes") or "").split(), []
-        shares = attribute(path, element, "probabilities", weights_of) if element.get("probabilities") else []
-        weights += [shares[place] if place < len(shares) else 1.0 for place in range(len(names))]
+    def add_route(self, path: FilePath, owner: Element, element: Element, name: str) -> None:
+        """Adds a route (element) with its stops by a name. Fault where route_edges, of owner, or stops_in raises it."""
+        self.routes[name] = self.route_edges(path, owner, element)
+        self.route_stops[name] = stops_in(path, element, self.net)
+
+    def add_mix(self, path: FilePath, owner: Element, element: Element, name: str) -> None:
+        """Adds a distribution (element) by a name, and the routes in it, which are called after it and their position
+        there, as in SUMO. Fault, of the element owner, for a route that was not read before, none at all, or weights
+        that are all 0."""
+        names, weights = named_in(path, element, "routes")
         for place, inner in enumerate(element.iter("route")):
-            own = inner.get("refId") or inner.get("id") or f"{name}#{place}"
+            names.append(inner.get("refId") or f"{name}#{place}")
+            weights.append(weight_of(path, inner))
             if not inner.get("refId"):
-                self.routes[own] = self.edges(path, owner, inner)
-                self.route_stops[own] = stops_in(path, inner, self.net)
-            names.append(own)
-            weights += attribute(path, inner, "probability", weights_of) if inner.get("probability") else [1.0]
+                self.add_route(path, owner, inner, names[-1])
         if unknown := [one for one in names if one not in self.routes]:
-            raise Fault(f"{told(path, owner)}: there is no route {unknown[0]!r}")
+            raise Fault(f"{element_told(path, owner)}: there is no route {unknown[0]!r}")
         if not names or sum(weights) <= 0:
-            raise Fault(f"{told(path, owner)}: a distribution without a route")
-        return names, weights
+            raise Fault(f"{element_told(path, owner)}: a distribution without a route")
+        self.mixes[name] = names, weights
 
-    def drawn(self, name: str) -> str:
-        """The name of the route that a vehicle takes: name itself, or where that is a distribution, one drawn from
-        it."""
+    def draw_route(self, name: str) -> str:
+        """The name of the route that a vehicle takes: the one that is named, or one drawn from the distribution."""
         return self.choices.choices(*self.mixes[name])[0] if name in self.mixes else name
 
-    def edges(self, path: FilePath, owner: Element, route: Element) -> tuple[str, ...]:
-        """The edges of a route (its element), once, and again as often as its repeat says. Fault, of the element owner,
-        where it has no edges, or one that the network does not have; edges not for the classes pass."""
+    def route_edges(self, path: FilePath, owner: Element, route: Element) -> tuple[str, ...]:
+        """The edges of a route (its element), once, and again as often as its repeat says, limits.PLAN times at most,
+        as no vehicle drives so many. Fault, of the element owner, where it has no edges, or one that the network does
+        not have; edges not for the classes pass."""
         names = tuple(attribute(path, route, "edges").split())
-        unknown = [name for name in names if name not in self.net.edges and name not in self.net.dropped]
-        if unknown or not names:
-            raise Fault(
-                f"{told(path, owner)}: "
-                + (f"the network has no edge {unknown[0]!r}" if unknown else "a route without edges")
-            )
-        return names * (1 + attribute(path, route, "repeat", at_least_zero(int))) if route.get("repeat") else names
+        if not names:
+            raise Fault(f"{element_told(path, owner)}: a route without edges")
+        if unknown := [name for name in names if name not in self.net.edges and name not in self.net.dropped]:
+            raise Fault(f"{element_told(path, owner)}: the network has no edge {unknown[0]!r}")
+        return names * (1 + min(limits.PLAN, optional(path, route, "repeat", at_least_zero(int), 0)))
 
-    def add(self, path: FilePath, element: Element, departs: Sequence[tuple[str, float]]) -> None:
-        """Adds the vehicles of an element, one for each (name, depart in seconds); Unrouted where it tells no route,
-        Fault where the route inside it is wrong. A route that it names may come later in the files."""
+    def add_vehicles(self, path: FilePath, element: Element, departures: Sequence[tuple[str, float]]) -> None:
+        """Adds an element's vehicles, one for each (name, departure in seconds), and a distribution in it. Unrouted
+        without a route, Fault where one in it, its type or a stop is wrong; one that it names may come later."""
         inner, mix = self.inner_route(path, element)
         if inner is None and mix is None and element.get("route") is None:
-            raise Unrouted(f"{told(path, element)} {ROUTED_FIRST}")
+            raise Unrouted(f"{element_told(path, element)} {ROUTED_FIRST}")
         self.note_ignored(element)
-        route = (
-            element.get("route") or "" if inner is None else f"!{element.get('id')}" if element.tag == "flow" else ""
-        )
-        if mix is not None:
+        route, edges = element.get("route", ""), None
+        if mix is not None or inner is not None and element.tag == "flow":
             route = f"!{element.get('id')}"
-            self.mixes[route] = self.mix(path, element, mix, route)
-        edges = self.edges(path, element, inner) if inner is not None else None
-        kind: Any = optional(path, element, "type", filled, None)  # None until `finish` where the file tells no type
-        for name, depart in departs:
-            riding = self.riding(path, element, depart)
-            vehicle = Vehicle(name, depart, edges or (), kind, route, *riding, unread(element))
+        if mix is not None:
+            self.add_mix(path, element, mix, route)
+        if inner is not None:
+            edges = self.route_edges(path, element, inner)
+        for departure in departures:
+            vehicle = self.vehicle_of(path, element, departure, edges or (), route)
             self.vehicles.append(vehicle)
             if edges is None:
-                self.later.append((vehicle, told(path, element)))
+                self.later.append((vehicle, element_told(path, element)))
 
-    def riding(self, path: FilePath, element: Element, depart: float) -> tuple[tuple[Stop, ...], str]:
-        """(the stops of a vehicle that departs at a second, its line of public transport or an empty text). Stops of a
-        route that it names are left out here; those of a flow are written for a departure at the flow's begin, and are
-        moved. Fault where a stop is not as `stops_in` needs it."""
+    def vehicle_of(
+        self, path: FilePath, element: Element, departure: tuple[str, float], edges: tuple[str, ...], route: str = ""
+    ) -> Vehicle:
+        """A vehicle of an element, of a (name, departure in seconds), with the stops that stand in it and its own
+        route, not in one that it names; of a flow these are told for a departure at its begin, and are moved. edges: ()
+        for completed_vehicles; route: its route's name. Fault where its type is empty, or by stops_in."""
+        name, depart = departure
         begin = optional(path, element, "begin", at_least_zero(seconds), 0.0) if element.tag == "flow" else depart
-        inner = element.find("route")
+        kind, inner = optional(path, element, "type", filled, DEFAULT), element.find("route")
         own = stops_in(path, inner, self.net) if inner is not None and element.get("route") is None else ()
-        stops = (*own, *stops_in(path, element, self.net))
-        return tuple(one.later(depart - begin) for one in stops), element.get("line", "")
+        stops = tuple(one.later(depart - begin) for one in (*own, *stops_in(path, element, self.net)))
+        return Vehicle(name, depart, edges, kind, route, stops, element.get("line", ""), further_attributes(element))
 
     def inner_route(self, path: FilePath, element: Element) -> tuple[Element | None, Element | None]:
-        """(route, distribution) that stand in an element, each None where it has no such element inside. Both are None
-        where its attribute route names a route, which then counts; those inside are reported as ignored. Fault where it
-        has two routes inside."""
+        """(route, distribution) that stand in an element, each None where it has no such element inside, or names a
+        route, which then counts: those inside are reported as ignored. Fault where it has two."""
         routes = [inner for inner in element if inner.tag in ("route", "routeDistribution")]
         if element.get("route") is not None:
             self.report.ignored[f"routes in {element.tag}s that name another one"] += len(routes)
             return None, None
         if len(routes) > 1:
-            raise Fault(f"{told(path, element)}: a second route")
+            raise Fault(f"{element_told(path, element)}: a second route")
         return element.find("route"), element.find("routeDistribution")
 
     def note_ignored(self, element: Element) -> None:
-        """Reports all attributes of an element that are not read."""
+        """Reports all attributes of an element that are not in READ, as ignored."""
         for name in set(element.keys()) - READ:
             self.report.ignored[f"{name} of {element.tag}s"] += 1
 
     def read_vehicle(self, path: FilePath, element: Element) -> None:
-        """Adds a vehicle; one whose depart is a word instead of a time is reported as skipped. Fault where an attribute
-        is missing or no such number, and where its route or stops are."""
+        """Adds a vehicle; one whose depart is one of SUMO's words instead of a time is reported as skipped."""
         text = attribute(path, element, "depart")
         if text in ("triggered", "containerTriggered", "now", "split", "begin"):
             self.report.skipped[f"depart={text!r} is no time"] += 1
         else:
             depart = attribute(path, element, "depart", at_least_zero(seconds))
-            self.add(path, element, [(attribute(path, element, "id", filled), depart)])
+            self.add_vehicles(path, element, [(attribute(path, element, "id", filled), depart)])
 
     def read_flow(self, path: FilePath, element: Element) -> None:
-        """Adds the vehicles of a flow, called NAME.NUMBER from 0 on, at the seconds of flows.departs. Fault where an
-        attribute is missing or no such number, or its edges or rates are none that can be driven."""
-        name = attribute(path, element, "id", filled)
-        self.add(
-            path, element, [(f"{name}.{at}", depart) for at, depart in enumerate(departs(path, element, self.draws))]
-        )
+        """Adds the vehicles of a flow, called NAME.NUMBER from 0 on, at the seconds of flows.departs."""
+        name, found = attribute(path, element, "id", filled), departs(path, element, self.draws)
+        self.add_vehicles(path, element, [(f"{name}.{at}", depart) for at, depart in enumerate(found)])
 
-    def finish(self, end: float | None = None) -> list[Vehicle]:
-        """All vehicles that depart before an end in seconds (None: all), each with its route and its type, in order of
-        departure and then of the files; how many are left out is noted. It draws, so it is called once. Fault where two
-        have one name, or a route is named that no file has."""
+    def completed_vehicles(self, end: float | None = None) -> list[Vehicle]:
+        """All vehicles that depart before an end in seconds (None: all), with routes and types, which are drawn, in
+        order of departure and then of the files; how many are left out is noted. Called once, after all files, as it
+        changes the vehicles. Fault where two have one name, or a route is named that no file has."""
         for vehicle, where in self.later:
-            vehicle.route = self.drawn(vehicle.route)
+            vehicle.route = self.draw_route(vehicle.route)
             if vehicle.route not in self.routes:
                 raise Fault(f"{where}: there is no route {vehicle.route!r}")
             vehicle.edges = self.routes[vehicle.route]
             stops = self.route_stops[vehicle.route]
             vehicle.stops = (*(one.later(vehicle.depart) for one in stops), *vehicle.stops)
         names = Counter(vehicle.name for vehicle in self.vehicles)
-        double = next((name for name, count in names.items() if count > 1), None)
-        if double is not None:
-            raise Fault(f"two vehicles are named {double!r}")
+        if double := [name for name, count in names.items() if count > 1]:
+            raise Fault(f"two vehicles are named {double[0]!r}")
         for vehicle in self.vehicles:
-            vehicle.type = self.types.drawn(vehicle.type)
+            vehicle.type = self.types.draw_type(vehicle.type)
         before = [vehicle for vehicle in self.vehicles if end is None or vehicle.depart < end]
         if after := len(self.vehicles) - len(before):
             self.report.notes.append(f"{after:,} vehicles that depart at the end, {end:,} s, or later are left out")
         return sorted(before, key=lambda vehicle: vehicle.depart)
 
 
-def unread(element: Element) -> tuple[tuple[str, str], ...]:
-    """The attributes of a vehicle, trip or flow that are not in READ and do not say where it begins or ends (ENDS),
-    (name, value)."""
+def further_attributes(element: Element) -> tuple[tuple[str, str], ...]:
+    """The attributes, (name, value), of a vehicle, trip or flow that are neither in READ nor in ENDS."""
     return tuple((name, value) for name, value in element.items() if name not in READ | ENDS)
 
 
 def enters(
     vehicles: Iterable[Vehicle], net: SumoNet, network: Network, types: Types, report: Report
 ) -> tuple[list[Command], list[Vehicle]]:
-    """(the enter commands, the vehicles that they are of), in one order. Vehicles that cannot drive, and stops that
-    cannot be made, are left out and reported by reason; the network gets the stops that can (network.visits), and turns
-    that plans need (Network.route). Fault where why_no_way raises one. A departure is rounded up to a whole second.
-    vehicles: in order of departure."""
+    """(the enter commands, with departures rounded up to whole seconds; the vehicles that they are of), in one order.
+    Vehicles that cannot drive, and stops that cannot be made, are left out and reported by reason, and sizes are
+    reported; the network gets the other stops (visits), and what assign_route adds. Fault where why_no_way or
+    Stops.bus_stop_of raises one. vehicles: in order of departure."""
     sizes, stops = Sizes(types), Stops(net, types, report)
     commands: list[Command] = []
     driven: list[Vehicle] = []
     used: Counter[int] = Counter()
     for vehicle in vehicles:
-        found = stops.on(vehicle.name, vehicle.edges, vehicle.stops)
-        plan, why = plan_of(vehicle, net, network, found.lanes())
+        found = stops.on_route(vehicle.name, vehicle.edges, vehicle.stops)
+        plan, why = plan_or_reason(vehicle, net, network, found.first_lanes())
         if plan is None:
             report.skipped[why] += 1
             continue
-        stops.add((len(driven), vehicle.name, vehicle.type), plan, found, network)
+        stops.add_visits((len(driven), vehicle.name, vehicle.type), plan, found, network)
         command: Command = {
             "cmd": "enter",
             "plan": list(plan),
             "lane": entry_lane(plan, network, used, found),
             "depart": max(0, math.ceil(vehicle.depart)),
         }
-        size = sizes.of(vehicle.type) if network.options.sizes else 1
+        size = sizes.next_size(vehicle.type) if network.options.sizes else 1
         commands.append({**command, "size": size} if size > 1 else command)
         driven.append(vehicle)
-    sizes.tell(report)
-    stops.tell()
+    sizes.report_sizes(report)
+    stops.report_stops()
     network.visits = stops.visits
     return commands, driven
 
 
-def entry_lane(plan: Sequence[int], network: Network, used: Counter[int], found: Found) -> int:
+def entry_lane(plan: Sequence[int], network: Network, used: Counter[int], found: FoundStops) -> int:
     """The lane (0 or 1 of its first link) where a vehicle enters: that of its stop on this link, else one of those that
-    lead on, by turns. used: how many entered each link so far by turns, which it counts on (not for those with a stop
-    there)."""
-    lanes = network.serves(plan[0], plan[1]) if len(plan) > 1 else range(len(network.links[plan[0]].lanes))
-    if 0 in (stops := found.lanes()):
+    lead on, one after the other. used: how many entered each link so, to which it is added."""
+    if 0 in (stops := found.first_lanes()):
         return network.place_of[stops[0]][1]
+    lanes = network.serves(plan[0], plan[1]) if len(plan) > 1 else range(len(network.links[plan[0]].lanes))
     used[plan[0]] += 1
     return lanes[(used[plan[0]] - 1) % len(lanes)]
 
 
 def kinds_of(driven: Sequence[Vehicle], types: Types) -> Json:
     """What a map keeps of vehicles: {"types": [[name, vclass, length, gap, speed]] as in Kind, "type": by vehicle its
-    place in types (0, the usual type, where it is not among them), "route": by vehicle its name (an empty list where
+    position in types (0, the usual type, where it is not among them), "route": by vehicle its route's name (empty where
     none has one), "line": the same, but no key where none has one, "ends": a sum over where all begin and end, by which
     the map of another demand is known}."""
     names = list(types.kinds)
@@ -307,12 +293,11 @@ def kinds_of(driven: Sequence[Vehicle], types: Types) -> Json:
     }
 
 
-def plan_of(
+def plan_or_reason(
     vehicle: Vehicle, net: SumoNet, network: Network, stops: Mapping[int, LaneKey]
 ) -> tuple[tuple[int, ...] | None, str]:
-    """(links of a vehicle, empty text), or (None, why it cannot drive); Fault where why_no_way raises one. The network
-    counts that the links carry it, and gets turns that it needs (Network.route). stops: the lane at which it stops, by
-    the edge's place in its route."""
+    """(links of a vehicle, empty text), as Network.assign_route gives and counts them, or (None, why it cannot drive);
+    Fault where why_no_way raises one. stops: the lane at which it stops, by the edge's position in its route."""
     if any(edge in net.dropped for edge in vehicle.edges):
         return None, "an edge of the route has no lane for the classes"
     if len(vehicle.edges) > limits.PLAN:
@@ -321,7 +306,7 @@ def plan_of(
         return None, "departs before the begin"
     if vehicle.depart > limits.CLOCK:
         return None, f"departs after {limits.CLOCK:,} s"
-    plan = network.route(vehicle.edges, stops)
+    plan = network.assign_route(vehicle.edges, stops)
     return plan, "" if plan else why_no_way(vehicle, net, network)
 
 
@@ -330,7 +315,8 @@ def why_no_way(vehicle: Vehicle, net: SumoNet, network: Network) -> str:
     given; else a Fault, as in SUMO."""
     pairs = pairwise(vehicle.edges)
     source, target = next(
-        (pair for pair in pairs if pair not in network.movements and pair not in net.closed_ways), ("", "")
+        (pair for pair in pairs if pair not in network.connections_between and pair not in net.closed_movements),
+        ("", ""),
     )
     if not source:
         return "two edges of the route have no connection for the classes"

@@ -1,11 +1,11 @@
 """SUMO's induction loops (e1) and lane areas (e2) of additional files, placed on the cells of an import. All that reads
-raises Fault, with file and element, where an attribute is absent or cannot be read."""
+raises Fault, with file and element, where an attribute that it needs is absent, or one cannot be read."""
 from collections.abc import Container, Iterable
 from dataclasses import dataclass
 from xml.etree.ElementTree import Element
 
 from streetsim.base import limits
-from streetsim.base.files import Fault, FilePath, at_least_zero, attribute, number, optional, seconds, told
+from streetsim.base.files import Fault, FilePath, at_least_zero, attribute, element_told, number, optional, seconds
 from streetsim.base.report import Report
 from streetsim.model.detectors import E1, E2, Detector
 from streetsim.model.mapping import Map, MapLink
@@ -31,9 +31,9 @@ class SumoDetector:
 
 
 def read_detector(path: FilePath, element: Element, report: Report) -> SumoDetector | None:
-    """The detector of an element; None for one over several lanes, which is reported. Fault where an attribute is
-    absent or cannot be read, or its period (freq, else period), in whole seconds, is below 1 s; a longer one than a run
-    may have, and one that is not told, becomes the longest."""
+    """The detector of an element; None for one over several lanes, which is reported, as area_metres reports lane
+    areas. Fault where its period (freq, else period), in whole seconds, is below 1 s; a longer one than a run may have,
+    and one that is not told, becomes the longest."""
     kind = KINDS[element.tag]
     if element.get("lanes"):
         report.ignored[f"<{element.tag}> over several lanes"] += 1
@@ -43,19 +43,16 @@ def read_detector(path: FilePath, element: Element, report: Report) -> SumoDetec
     names = [name for name in ("freq", "period") if element.get(name)]
     period = round(attribute(path, element, names[0], seconds)) if names else limits.PERIOD
     if period < 1:
-        raise Fault(f"{told(path, element)}: {names[0]}={element.get(names[0])!r} is no period")
-    name, lane = attribute(path, element, "id"), attribute(path, element, "lane")
-    return SumoDetector(
-        told(path, element), name, kind, lane, begin, end, min(period, limits.PERIOD), friendly, goes_on
-    )
+        raise Fault(f"{element_told(path, element)}: {names[0]}={element.get(names[0])!r} is no period")
+    name, lane, period = attribute(path, element, "id"), attribute(path, element, "lane"), min(period, limits.PERIOD)
+    return SumoDetector(element_told(path, element), name, kind, lane, begin, end, period, friendly, goes_on)
 
 
 def area_metres(path: FilePath, element: Element, report: Report) -> tuple[float, float | None]:
-    """The (begin, end) metres of a lane area, as SumoDetector has them: by its pos, endPos and length, of which SUMO
-    needs two; without endPos and length (0 counts as none) it ends with the lane (end None). Where all three are told,
-    pos and length say where it ends. One that these numbers alone show to reach beyond its lane is reported here;
-    others are reported by cells, which knows the lane's length. Fault where one of them is no number, or too few are
-    told."""
+    """The (begin, end) metres of a lane area, as SumoDetector has them, by its pos, endPos and length; without endPos
+    and length (0 counts as none) it ends with the lane (end None). Where all three are told, pos and length say where
+    it ends. One that these numbers alone show to reach beyond its lane is reported here; others by detector_cells, by
+    the lane's length. Fault where one of them is no number, or pos is not told, but for endPos with length."""
     end = optional(path, element, "endPos", number, None)
     length = optional(path, element, "length", at_least_zero(number), 0.0)
     if not length:
@@ -71,28 +68,27 @@ def area_metres(path: FilePath, element: Element, report: Report) -> tuple[float
 
 
 def tell_beyond(name: str | None, lane: str | None, report: Report) -> None:
-    """Reports that a lane area goes on, in SUMO, on another lane, and here does not. name, lane: of the lane area, as
-    its element writes them."""
+    """Reports that a lane area goes on, in SUMO, on another lane, and here does not; name, lane: of the lane area."""
     told = f"detector {name} reaches beyond {lane}, and sees what is on that lane alone"
     kind = "detectors reach beyond their lane, and see what is on that lane alone"
     report.warn(told, [name or ""], kind=kind)
 
 
-def placed(detectors: Iterable[SumoDetector], mapping: Map, closed: Container[str], report: Report) -> list[Detector]:
-    """Detectors on the cells of a map. Fault where the network does not have a lane, two have one name, or there are
-    more induction loops than a run may have, or `cells` raises one; a detector on a lane of closed (names of lanes left
-    out as they are not for the classes) is left out and reported."""
+def detectors_on_cells(
+    detectors: Iterable[SumoDetector], mapping: Map, closed: Container[str], report: Report
+) -> list[Detector]:
+    """Detectors on the cells of a map; those on lanes that are left out (closed: their names) are reported and left out
+    too. Fault where the network does not have a lane, two have one name, there are more induction loops than a run may
+    have, or `detector_cells` raises one."""
     places = {mapping.lane_name(*place): place for place in mapping.lanes()}
     found = {}
     for one in detectors:
         if one.name in found:
             raise Fault(f"{one.where}: a second detector of this name")
         if one.lane in places:
-            link, lane = places[one.lane]
-            at = mapping.links[link]
-            found[one.name] = Detector(
-                one.name, one.kind, link, lane, *cells(one, at, report), one.period, at.cell_metres
-            )
+            place, at = places[one.lane], mapping.links[places[one.lane][0]]
+            cells = detector_cells(one, at, report)
+            found[one.name] = Detector(one.name, one.kind, *place, *cells, one.period, at.cell_metres)
         elif one.lane in closed:
             told = f"detector {one.name} lies on {one.lane}, which is left out"
             report.warn(told, [one.name], kind="detectors lie on lanes that are left out")
@@ -103,7 +99,7 @@ def placed(detectors: Iterable[SumoDetector], mapping: Map, closed: Container[st
     return list(found.values())
 
 
-def cells(one: SumoDetector, link: MapLink, report: Report) -> tuple[int, int]:
+def detector_cells(one: SumoDetector, link: MapLink, report: Report) -> tuple[int, int]:
     """The (first, last) cell, from 0, both included, of a detector on a link: the one in which a loop lies, or for a
     lane area the one in which it begins and the one whose end is nearest to its own. Fault where it lies beyond its
     lane by more than NEAR and is not friendly, or does not end behind its begin. One that goes on beyond its lane is no

@@ -1,35 +1,40 @@
-"""When the vehicles of a SUMO flow depart. All that reads raises Fault, with file and element, where an attribute is
-absent or cannot be read."""
+"""When the vehicles of a SUMO flow depart. All that reads raises Fault, with file and element, where an attribute that
+it needs is absent, or one cannot be read."""
 import math
-from collections.abc import Iterable, Iterator
+from collections.abc import Iterator
 from itertools import count, islice, takewhile
 from random import Random
 from xml.etree.ElementTree import Element
 
 from streetsim.base import limits
 from streetsim.base.files import (
-    Fault, FilePath, above_zero, at_least_zero, attribute, number, only, optional, seconds, told,
+    Fault, FilePath, above_zero, at_least_zero, attribute, element_told, number, only, optional, seconds,
 )
 
 DAY = 86_400.0
+LARGEST = 2**31 - 1  # of SUMO's whole numbers
 RATES = ("period", "vehsPerHour", "perHour", "probability")
 
 
 def departs(path: FilePath, element: Element, draws: Random) -> list[float]:
-    """The seconds at which the vehicles of a flow depart, rising: begin + k * period while below the end, its number at
-    most (without number and end it ends at 86,400 s); with a probability, or a period exp(RATE), by draws. Fault where
-    there are more than may drive, the flow has no rate or two, ends before it begins, or an attribute cannot be read.
-    element: the <flow>."""
+    """The seconds at which the vehicles of a flow depart, in order: its number spread evenly from its begin to its end;
+    or begin + k * period below its end, its number at most (without number and end it ends at 86,400 s); with a
+    probability, or a period exp(RATE), by draws. Fault where there are more than may drive, it ends before it begins,
+    or refuse_two_rates or moments raises one. element: the <flow>."""
     begin = optional(path, element, "begin", at_least_zero(seconds), 0.0)
-    most = optional(path, element, "number", at_least_zero(int), None)
+    most = optional(path, element, "number", only(int, lambda value: 0 <= value <= LARGEST), None)
     end = optional(path, element, "end", seconds, DAY if most is None else math.inf)
     if end < begin:
-        raise Fault(f"{told(path, element)}: ends at {end:g} s, before it begins at {begin:g} s")
+        raise Fault(f"{element_told(path, element)}: ends at {end:g} s, before it begins at {begin:g} s")
     refuse_two_rates(path, element)
-    times = islice(moments(path, element, begin, end, most, draws), limits.VEHICLES + 1 if most is None else most)
-    found = list(islice(takewhile(lambda time: time < end, times), limits.VEHICLES + 1))
+    if most is None or end == math.inf:
+        times: Iterator[float] = takewhile(lambda time: time < end, islice(moments(path, element, begin, draws), most))
+    else:
+        period = (end - begin) / max(1, most)
+        times = (begin + at * period for at in range(most))
+    found = list(islice(times, limits.VEHICLES + 1))
     if len(found) > limits.VEHICLES:
-        raise Fault(f"{told(path, element)}: more than {limits.VEHICLES:,} vehicles")
+        raise Fault(f"{element_told(path, element)}: more than {limits.VEHICLES:,} vehicles")
     return found
 
 
@@ -37,17 +42,14 @@ def refuse_two_rates(path: FilePath, element: Element) -> None:
     """Fault where a flow has two rates, or an end and a number beside a rate, as in SUMO."""
     rates = [name for name in RATES if element.get(name) is not None]
     if len(rates) > 1:
-        raise Fault(f"{told(path, element)}: {rates[0]} and {rates[1]} are two rates, of which a flow has one")
+        raise Fault(f"{element_told(path, element)}: {rates[0]} and {rates[1]} are two rates, of which a flow has one")
     if rates and element.get("end") is not None and element.get("number") is not None:
-        raise Fault(f"{told(path, element)}: beside {rates[0]} a flow has an end or a number, not both")
+        raise Fault(f"{element_told(path, element)}: beside {rates[0]} a flow has an end or a number, not both")
 
 
-def moments(
-    path: FilePath, element: Element, begin: float, end: float, most: int | None, draws: Random
-) -> Iterable[float]:
-    """The seconds of all departures that the rate of a flow gives from begin on, without regard to its end, so mostly
-    without end; end: counts where the flow has a number alone, which is then spread up to it; most: its number, None:
-    not told. Fault where it has no rate."""
+def moments(path: FilePath, element: Element, begin: float, draws: Random) -> Iterator[float]:
+    """The seconds of all departures that the rate of a flow gives from begin on, mostly without end. Fault where it has
+    no rate."""
     for name in ("vehsPerHour", "perHour"):
         if element.get(name) is not None:
             hourly = attribute(path, element, name, above_zero(number))
@@ -57,17 +59,16 @@ def moments(
         return by_chance(begin, chance, draws)
     if (element.get("period") or "").startswith("exp("):
         return by_rate(begin, attribute(path, element, "period", rate_of), draws)
-    if element.get("period") is not None:
-        period = attribute(path, element, "period", above_zero(seconds))
-    elif most is not None and end < math.inf:
-        period = max(0.0, end - begin) / max(1, most)
-    else:
-        raise Fault(f"{told(path, element)}: no rate (number with end, period, vehsPerHour, perHour or probability)")
+    if element.get("period") is None:
+        raise Fault(
+            f"{element_told(path, element)}: no rate (number with end, period, vehsPerHour, perHour or probability)"
+        )
+    period = attribute(path, element, "period", above_zero(seconds))
     return (begin + at * period for at in count())
 
 
 def rate_of(text: str) -> float:
-    """Vehicles a second, of the text exp(RATE); ValueError where it does not end with ")" or RATE is not above 0."""
+    """Vehicles a second, of a text exp(RATE); ValueError where it ends without ")" or RATE is no number above 0."""
     if not text.endswith(")"):
         raise ValueError(text)
     return above_zero(number)(text.removeprefix("exp(").removesuffix(")"))
@@ -78,7 +79,7 @@ def by_chance(begin: float, chance: float, draws: Random) -> Iterator[float]:
     the next one are drawn at once. It ends where these are limits.CLOCK or more, else never."""
     second = -1
     while True:
-        waited = math.log(1 - draws.random()) / math.log(1 - chance) if chance < 1 else 0.0
+        waited = math.log(1 - draws.random()) / math.log1p(-chance) if chance < 1 else 0.0
         if not waited < limits.CLOCK:
             return
         second += 1 + int(waited)
@@ -86,8 +87,8 @@ def by_chance(begin: float, chance: float, draws: Random) -> Iterator[float]:
 
 
 def by_rate(begin: float, rate: float, draws: Random) -> Iterator[float]:
-    """Seconds of departures, the first a gap after begin, whose gaps are drawn with a mean of 1 / rate seconds, without
-    end."""
+    """Seconds of departures without end; the times between them, and from begin to the first, are drawn with a mean of
+    1 / rate seconds."""
     clock = begin
     while True:
         clock += draws.expovariate(rate)

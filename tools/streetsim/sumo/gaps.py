@@ -21,15 +21,13 @@ def gap_capacity(flow: float) -> float:
 
 
 def gap_wait(flow: float) -> float:
-    """The mean seconds until a gap comes that one vehicle alone can use, in random traffic of flow vehicles an hour; 0
-    without traffic."""
+    """The mean seconds until a gap comes that one vehicle alone can use, in random traffic of flow vehicles an hour."""
     each = flow / 3600
     return (math.exp(each * FIRST_GAP) - 1) / each - FIRST_GAP if each > 0 else 0.0
 
 
 def after_stop(flow: float) -> float:
-    """Vehicles an hour that go after a stop into a stream of flow vehicles an hour (0 or more): straight lines between
-    the values of AFTER_STOP, beyond them the last."""
+    """Vehicles an hour that go after a stop into a stream of flow vehicles an hour (0 or more), by AFTER_STOP."""
     for (low, more), (high, less) in pairwise(AFTER_STOP):
         if flow <= high:
             return more + (less - more) * (flow - low) / (high - low)
@@ -37,6 +35,5 @@ def after_stop(flow: float) -> float:
 
 
 def until_first(vehicles: float, share: float) -> float:
-    """How many of so many vehicles pass before the first one that waits, on average; share: of the vehicles that wait,
-    above 0 to 1."""
+    """How many of some vehicles pass before the first one that waits, on average; share: that waits, above 0 to 1."""
     return (1 - share) * (1 - (1 - share) ** vehicles) / share

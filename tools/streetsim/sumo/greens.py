@@ -18,43 +18,38 @@ def headway(speed: float) -> float:
 
 
 def leaving(green: float, speed: float) -> float:
-    """How many vehicles leave a queue in SUMO in so many seconds of green, one at least; speed: inside the junction,
-    metres a second."""
+    """How many vehicles, one at least, leave a queue in SUMO in some seconds of green; speed: metres a second."""
     return max(1.0, (green - speed / (2 * ACCELERATION) + EARLY) / headway(speed))
 
 
 def green_here(vehicles: float, limit: int) -> int:
-    """The seconds of green in which so many vehicles leave a queue in streetsim, 1 at least; few by SHORT, whatever the
-    limit. limit: of their link, cells a step."""
+    """The seconds of green, 1 at least, in which some vehicles leave a queue in streetsim; limit: cells a step."""
     short = next((second for second, passing in enumerate(SHORT, 1) if passing >= vehicles - 0.1), None)
     return short or round(vehicles * HEADWAYS[limit - 1] - AHEAD)
 
 
 def passing_here(seconds: int, limit: int) -> float:
-    """How many vehicles leave a queue in streetsim in so many seconds of green (1 or more); limit: of their link, cells
-    a step."""
+    """How many vehicles leave a queue in streetsim in some seconds of green (1 or more); limit: cells a step."""
     return SHORT[seconds - 1] if seconds <= len(SHORT) else (seconds + AHEAD) / HEADWAYS[limit - 1]
 
 
 def hidden_start(length: int, speed: float, limit: int) -> int:
-    """How many seconds at the begin of a green of length seconds are not shown, so that as many pass here as in SUMO,
-    where a queue starts later and turns are slower. speed: metres a second; limit: cells a step."""
+    """How many seconds at the begin of a green of length seconds are not shown, so that as many pass here as in SUMO.
+    speed: metres a second; limit: cells a step."""
     return max(0, length - green_here(leaving(length, speed), limit))
 
 
 @cache
 def hidden_middle(length: int, speed: float, limit: int) -> tuple[int, int]:
-    """The seconds that are not shown in a green of length seconds, (begin, end) counted from its begin: from its half
-    on, so that as many pass here as in SUMO; who has waited alone for its begin then goes at once, as in SUMO. As a
-    queue starts twice they are more seconds than at the begin. A green below TWO_PARTS has them at its begin. speed:
-    metres a second; limit: cells a step."""
+    """The seconds that are not shown in a green of length seconds, (begin, end) counted from its begin, the end not
+    included: from its half on, so that about as many pass here as in SUMO, and who has waited alone for its begin goes
+    at once, as there. A green below TWO_PARTS has them at its begin. speed: metres a second; limit: cells a step."""
     if length < TWO_PARTS:
         return 0, hidden_start(length, speed, limit)
     half, vehicles = length // 2, leaving(length, speed)
 
     def off(pause: int) -> float:
-        """How far the vehicles that pass here, with pause seconds in the middle left out, are from SUMO's; not below
-        0."""
+        """How far, 0 or more, the vehicles that pass here, but for pause seconds in the middle, are from SUMO's."""
         passing = passing_here(length, limit)
         if pause:
             passing = passing_here(half, limit) + passing_here(length - half - pause, limit)
@@ -63,17 +58,17 @@ def hidden_middle(length: int, speed: float, limit: int) -> tuple[int, int]:
     return half, half + min((0, *range(2, length - half)), key=off)
 
 
-def places(length: int, seconds: int, parts: int) -> list[tuple[int, int]]:
+def parts_shown(length: int, seconds: int, parts: int) -> list[tuple[int, int]]:
     """Where seconds of a permissive green of length seconds are shown, (begin, end) from its begin, the end not
     included: at its end, as those who are given way to go first; or in parts with equal waits before them, so that a
-    vehicle that waits holds its lane up for less long. Where a part would have less than two seconds, or more than 0.9
-    of the green is shown, parts is not looked at."""
+    vehicle that waits holds its lane up for less long, unless a part would have less than two seconds, or more than 0.9
+    of the green is shown."""
     parts = parts if 2 * parts <= seconds <= 0.9 * length else 1
     wait, shown = (length - seconds) / parts, seconds / parts
     return [(round((at + 1) * wait + at * shown), round((at + 1) * (wait + shown))) for at in range(parts)]
 
 
-def places_in_red(length: int, seconds: int) -> list[tuple[int, int]]:
+def parts_shown_in_red(length: int, seconds: int) -> list[tuple[int, int]]:
     """Where seconds of a red of length seconds are shown to those who may go after a stop, (begin, end) from its begin,
     the end not included: evenly spread, by twos, of which the first gets an odd one; empty for 0 seconds."""
     parts = max(1, seconds // 2)

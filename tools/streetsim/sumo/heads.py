@@ -18,7 +18,7 @@ Pair = tuple[float, float]  # of the own lane and the other
 
 @dataclass(frozen=True, slots=True)
 class Heads:
-    """Two lanes that face each other, the own and the other: chances, each from 0 to 1."""
+    """Two lanes that face each other, the own and the other; waits and freed are chances, each from 0 to 1."""
 
     waits: Pair  # of two that come to the heads together: that the own one waits for the other, and the other for it
     freed: Pair  # that the next of the other lane lets the own one go that waits, and the next of the own the other

@@ -1,17 +1,19 @@
 """Reads SUMO's networks (.net.xml), and the signal programs of additional files. All that reads raises Fault, with file
-and element, where an attribute is absent or cannot be read."""
+and element, where an attribute that it needs is absent, or one cannot be read."""
 from collections import defaultdict
 from collections.abc import Collection, Iterable, Sequence
-from dataclasses import dataclass, field, replace
-from typing import Any
+from dataclasses import dataclass, field
 from xml.etree.ElementTree import Element
 
-from streetsim.base.files import Fault, FilePath, Json, at_least_zero, attribute, elements, number, seconds, told
+from streetsim.base.files import (
+    Fault, FilePath, Json, at_least_zero, attribute, element_told, elements, number, optional, seconds,
+)
 from streetsim.base.report import Report
 from streetsim.sumo.bus_stops import BusStop
 from streetsim.sumo.detectors import SumoDetector
 
 STATIC, NEMA = "static", "NEMA"  # kinds of signal programs: seconds alone, and two rings of phases
+OFF = "off"  # the program by which SUMO has a light blink
 # What phases may have without more effect on actuated lights: type and targetLanes are of other kinds.
 PHASE = ("duration", "state", "minDur", "maxDur", "next", "name", "vehext", "yellow", "red", "type", "targetLanes")
 Point = tuple[float, float]
@@ -55,7 +57,7 @@ class Connection:
     light: str | None
     index: int  # of its letter in the light's state
     state: str  # M: major, m: minor, ..
-    request: int | None = None  # its place among the requests of its junction
+    request: int | None = None  # its position among the requests of its junction
     speed: float | None = None  # metres a second inside the junction
     direction: str = ""  # s: straight on, l: to the left, ..
 
@@ -83,8 +85,8 @@ class Waut:
     over each period (seconds; 0: once)."""
 
     start: str
-    switches: list[tuple[float, str]]  # clock and program, rising
-    period: float
+    switches: list[tuple[int, str]]  # clock, within the period, and program, rising
+    period: int
     lights: list[str] = field(default_factory=list)
 
 
@@ -97,13 +99,15 @@ class SumoNet:
     dropped: set[str] = field(default_factory=set)  # edges without a lane for the classes
     closed_lanes: set[str] = field(default_factory=set)  # names of lanes that are not for the classes
     connections: list[Connection] = field(default_factory=list)  # between kept lanes
-    closed_ways: set[tuple[str, str]] = field(default_factory=set)  # (edge, edge) of those that are not for the classes
+    # (edge, next edge) of connections that are not for the classes.
+    closed_movements: set[tuple[str, str]] = field(default_factory=set)
     roundabouts: set[str] = field(default_factory=set)  # edges
     types: dict[str, str] = field(default_factory=dict)  # by junction
-    programs: dict[str, Program] = field(default_factory=dict)  # by light, the last loaded
-    # By light, those loaded before it: scripts may choose them, or a WAUT.
+    programs: dict[str, Program] = field(default_factory=dict)  # by light: the one in force, mostly the last loaded
+    # By light its others, in the order in which they were loaded: scripts may choose them, or a WAUT.
     earlier: dict[str, list[Program]] = field(default_factory=dict)
     wauts: dict[str, Waut] = field(default_factory=dict)  # by name
+    changing: dict[str, list[Program]] = field(default_factory=dict)  # by light: to which it changes in the run
     detectors: list[SumoDetector] = field(default_factory=list)  # of additional files
     bus_stops: dict[str, BusStop] = field(default_factory=dict)  # of these, by name
     # By junction: for each request those that it gives way to.
@@ -113,6 +117,14 @@ class SumoNet:
     location: Json = field(default_factory=dict)  # where it lies on Earth, as read_location keeps it
     called: dict[str, str] = field(default_factory=dict)  # names of junctions that have one
 
+    def programs_of(self, light: str) -> list[Program]:
+        """The programs of a light that has one: its others, as they were loaded, then the one in force."""
+        return [*self.earlier.get(light, ()), self.programs[light]]
+
+    def programs_in_run(self, light: str) -> list[Program]:
+        """The programs that a light shows in the run, its first one first; days_of goes before. Empty without one."""
+        return [self.programs[light], *self.changing.get(light, ())] if light in self.programs else []
+
     def yields_of(self, connection: Connection) -> set[int]:
         """The requests of its junction that a connection gives way to; empty where its own request is not known."""
         at_junction = self.yields.get(self.edges[connection.source].end, {})
@@ -120,17 +132,16 @@ class SumoNet:
 
 
 def shape(text: str) -> list[Point]:
-    """The points, (x, y) in metres, of a shape's text; heights are left out. ValueError where there are fewer than
-    two, or what is no number."""
-    points: list[Any] = [tuple(number(part) for part in point.split(",")[:2]) for point in text.split()]
-    if len(points) < 2 or any(len(point) < 2 for point in points):
+    """The points of a shape's text, two at least; ValueError otherwise."""
+    points = [plane_point(point) for point in text.split()]
+    if len(points) < 2:
         raise ValueError(text)
     return points
 
 
 def allows(element: Element, classes: Collection[str]) -> bool:
-    """Whether a lane or connection is open to at least one of the vehicle classes, by its allow, or where that is not
-    written by its disallow; open to all where neither is."""
+    """Whether a lane or connection is open to at least one of the vehicle classes, by its allow, else by its
+    disallow."""
     named = element.get("allow")
     if named is not None:
         allowed = named.split()
@@ -140,9 +151,9 @@ def allows(element: Element, classes: Collection[str]) -> bool:
 
 
 def read_net(path: FilePath, classes: Sequence[str], report: Report) -> SumoNet:
-    """The network of a .net.xml, with the lanes that at least one of the classes may use; Fault where the file cannot
-    be read or is wrong, or there are no such lanes. Connections have the states of the file, but for those of
-    spare_main_streets (m for s). Elements that are not read are reported, but for <type> and <request>."""
+    """The network of a .net.xml, with the lanes that at least one of the classes may use, after spare_main_streets;
+    Fault where the file cannot be read or is wrong, or there are no such lanes. Elements that are not read are
+    reported, but for <type> and <request>."""
     net = SumoNet()
     named: set[str] = set()
     readers = {
@@ -161,17 +172,15 @@ def read_net(path: FilePath, classes: Sequence[str], report: Report) -> SumoNet:
         elif element.tag not in ("type", "request"):
             report.ignored[f"<{element.tag}> of the network"] += 1
     if not net.edges:
-        raise Fault(
-            f"{path}: no lane is open to {', '.join(classes)}; "
-            f"lanes are opened to: {', '.join(sorted(named)) or 'none by name'}"
-        )
+        opened = ", ".join(sorted(named)) or "none by name"
+        raise Fault(f"{path}: no lane is open to {', '.join(classes)}; lanes are opened to: {opened}")
     spare_main_streets(net)
     return net
 
 
 def spare_main_streets(net: SumoNet) -> None:
-    """Lets nobody stop at a sign who turns off a main street, where no light is (state s becomes m): netconvert gives
-    its left turns the state of those who stop, but in SUMO they give way without a stop."""
+    """Lets nobody stop at a sign who turns off a main street, where no light is (state s becomes m): netconvert writes
+    its left turns so, but in SUMO they give way without a stop."""
     for connections in connections_of(net).values():
         lit = any(one.light for one in connections)
         main = {one.source for one in connections if one.state == MAJOR and not lit}
@@ -190,7 +199,7 @@ def read_edge(path: FilePath, element: Element, net: SumoNet, classes: Collectio
         return
     name = attribute(path, element, "id")
     if name in net.edges or name in net.dropped:
-        raise Fault(f"{told(path, element)}: a second edge of this name")
+        raise Fault(f"{element_told(path, element)}: a second edge of this name")
     lanes = [
         Lane(
             attribute(path, lane, "index", at_least_zero(int)),
@@ -202,19 +211,14 @@ def read_edge(path: FilePath, element: Element, net: SumoNet, classes: Collectio
         if allows(lane, classes)
     ]
     if len({lane.index for lane in lanes}) < len(lanes):
-        raise Fault(f"{told(path, element)}: two lanes of one index")
+        raise Fault(f"{element_told(path, element)}: two lanes of one index")
     net.closed_lanes.update(f"{name}_{lane.get('index')}" for lane in element.iter("lane") if not allows(lane, classes))
-    if lanes:
-        net.edges[name] = Edge(
-            name,
-            attribute(path, element, "from"),
-            attribute(path, element, "to"),
-            attribute(path, element, "priority", int) if element.get("priority") else -1,
-            lanes,
-            street_of(element),
-        )
-    else:
+    if not lanes:
         net.dropped.add(name)
+        return
+    begin, end = attribute(path, element, "from"), attribute(path, element, "to")
+    priority = optional(path, element, "priority", int, -1)
+    net.edges[name] = Edge(name, begin, end, priority, lanes, street_of(element))
 
 
 def street_of(element: Element) -> str:
@@ -224,9 +228,9 @@ def street_of(element: Element) -> str:
 
 
 def read_location(path: FilePath, element: Element, net: SumoNet, _classes: Collection[str]) -> None:
-    """Keeps in net.location where the network lies: {"projection": as SUMO writes it, "!": none, "offset": (x, y) that
-    was added to its metres}. Fault where the offset is no two numbers."""
-    offset = attribute(path, element, "netOffset", plane_point) if element.get("netOffset") else (0.0, 0.0)
+    """Keeps in net.location where the network lies: {"projection": as SUMO writes it ("!": none), "offset": (x, y) that
+    was added to its metres, (0, 0) where none is told}. Fault where plane_point cannot read it."""
+    offset = optional(path, element, "netOffset", plane_point, (0.0, 0.0))
     net.location = {"offset": offset, "projection": element.get("projParameter", "!")}
 
 
@@ -238,67 +242,49 @@ def plane_point(text: str) -> Point:
 
 def read_junction(path: FilePath, element: Element, net: SumoNet, _classes: Collection[str]) -> None:
     """Adds a junction: its point, type, name, and for each of its requests those that it gives way to and those that it
-    meets; junctions inside others are passed over. Fault where an attribute is missing, or no such number."""
+    meets; junctions inside others are passed over."""
     if element.get("type") != "internal":
         name = attribute(path, element, "id")
         net.junctions[name] = attribute(path, element, "x", number), attribute(path, element, "y", number)
         net.types[name] = element.get("type", "priority")
         if called := element.get("name", "").strip():
             net.called[name] = called
-        net.yields[name] = {
-            attribute(path, request, "index", at_least_zero(int)): bits_of(attribute(path, request, "response"))
-            for request in element.iter("request")
-        }
-        net.foes[name] = {
-            attribute(path, request, "index", at_least_zero(int)): bits_of(request.get("foes", ""))
-            for request in element.iter("request")
-        }
+        requests = {attribute(path, one, "index", at_least_zero(int)): one for one in element.iter("request")}
+        net.yields[name] = {at: bits_of(attribute(path, one, "response")) for at, one in requests.items()}
+        net.foes[name] = {at: bits_of(one.get("foes", "")) for at, one in requests.items()}
 
 
 def bits_of(text: str) -> set[int]:
-    """The places of the ones in a text of bits, counted from 0 from the right."""
+    """The positions of the ones in a text of bits, counted from 0 from the right."""
     return {at for at, bit in enumerate(reversed(text)) if bit == "1"}
 
 
 def read_connection(path: FilePath, element: Element, net: SumoNet, classes: Collection[str]) -> None:
-    """Adds a connection between lanes that are kept; another one is noted in closed_ways, as not for the classes (those
-    of edges inside junctions too). Edges must have been read before. Fault where it names an unknown edge, or joins
-    edges that do not meet."""
+    """Adds a connection between lanes that are kept; another one is noted in closed_movements, as not for the classes.
+    Edges are read before. Fault where it names an unknown edge, or joins edges that do not meet."""
     source, target = attribute(path, element, "from"), attribute(path, element, "to")
     for edge in (source, target):
         if edge not in net.edges and edge not in net.dropped and not edge.startswith(":"):
-            raise Fault(f"{told(path, element)}: the network has no edge {edge!r}")
+            raise Fault(f"{element_told(path, element)}: the network has no edge {edge!r}")
     if source not in net.edges or target not in net.edges or not allows(element, classes):
-        net.closed_ways.add((source, target))
+        net.closed_movements.add((source, target))
         return
     if net.edges[source].end != net.edges[target].begin:
-        raise Fault(f"{told(path, element)}: edge {target!r} does not begin where this one ends")
+        raise Fault(f"{element_told(path, element)}: edge {target!r} does not begin where this one ends")
     source_lane, target_lane = (attribute(path, element, name, at_least_zero(int)) for name in ("fromLane", "toLane"))
-    if has_lane(net.edges[source], source_lane) and has_lane(net.edges[target], target_lane):
-        light = element.get("tl")
-        index = attribute(path, element, "linkIndex", at_least_zero(int)) if light else 0
-        state, inner = element.get("state", "M"), element.get("via", "")
-        net.connections.append(
-            Connection(
-                source,
-                target,
-                source_lane,
-                target_lane,
-                light,
-                index,
-                state,
-                request_of(inner),
-                net.inner_speeds.get(inner),
-                element.get("dir", ""),
-            )
-        )
-    else:
-        net.closed_ways.add((source, target))
+    if not has_lane(net.edges[source], source_lane) or not has_lane(net.edges[target], target_lane):
+        net.closed_movements.add((source, target))
+        return
+    light, inner = element.get("tl"), element.get("via", "")
+    index = attribute(path, element, "linkIndex", at_least_zero(int)) if light else 0
+    shown = light, index, element.get("state", MAJOR)
+    inside = request_of(inner), net.inner_speeds.get(inner), element.get("dir", "")
+    net.connections.append(Connection(source, target, source_lane, target_lane, *shown, *inside))
 
 
 def request_of(inner: str) -> int | None:
-    """A connection's place among its junction's requests, by the name of the lane inside the junction that it runs
-    over, ":junction_N_LANE": N + LANE. None for a name of another form."""
+    """A connection's position among its junction's requests, by the name of its lane inside the junction,
+    ":junction_N_LANE": N + LANE. None for a name of another form."""
     parts = inner.rsplit("_", 2)
     return int(parts[1]) + int(parts[2]) if len(parts) == 3 and all(map(str.isdecimal, parts[1:])) else None
 
@@ -315,46 +301,42 @@ def read_roundabout(path: FilePath, element: Element, net: SumoNet, _classes: Co
 
 def read_program(path: FilePath, element: Element, net: SumoNet, _classes: Collection[str]) -> None:
     """Sets a light's program in net.programs; a later one replaces the one before, which `earlier` keeps. One without
-    phases gives the present program another offset alone; where there is none, it is kept as it is. Fault where an
-    attribute is missing, or no such number."""
-    phases = [
-        (attribute(path, phase, "duration", at_least_zero(seconds)), attribute(path, phase, "state"))
-        for phase in element.iter("phase")
-    ]
-    bounds = [(bound_of(path, phase, "minDur"), bound_of(path, phase, "maxDur")) for phase in element.iter("phase")]
-    offset = attribute(path, element, "offset", seconds) if element.get("offset") else 0.0
-    light = attribute(path, element, "id")
-    if not phases and light in net.programs:  # an offset alone, as SUMO's tlsCoordinator writes it
-        net.programs[light] = replace(net.programs[light], offset=offset)
-    else:
-        if light in net.programs:
-            net.earlier.setdefault(light, []).append(net.programs[light])
-        net.programs[light] = Program(
-            offset,
-            phases,
-            element.get("type", STATIC),
-            bounds,
-            [next_of(path, phase) for phase in element.iter("phase")],
-            {param.get("key", ""): param.get("value", "") for param in element.findall("param")},
-            more_of(element),
-            element.get("programID", "0"),
-            [timing_of(path, phase) for phase in element.iter("phase")] if element.get("type") == NEMA else [],
-        )
-
-
-def next_of(path: FilePath, phase: Element) -> tuple[int, ...]:
-    """The places of the phases that a phase names as its next; empty: the one after it. Fault where it names no
-    numbers."""
-    return tuple(attribute(path, phase, "next", numbers)) if phase.get("next") else ()
+    phases, as SUMO's tlsCoordinator writes it, gives the program of its name another offset alone (Fault where there is
+    none of it); OFF, and one without phases of a light without a program, as railways have, are passed over."""
+    light, name = attribute(path, element, "id"), element.get("programID", "0")
+    offset = optional(path, element, "offset", seconds, 0.0)
+    known = net.programs_of(light) if light in net.programs else []
+    phases = element.findall("phase")
+    if name == OFF or not phases and not known:
+        return
+    if not phases:
+        same = [one for one in known if one.name == name]
+        if not same:
+            raise Fault(f"{element_told(path, element)}: program {name!r} has no phases")
+        same[-1].offset = offset
+        return
+    span = at_least_zero(seconds)
+    program = Program(
+        offset,
+        [(attribute(path, phase, "duration", span), attribute(path, phase, "state")) for phase in phases],
+        element.get("type", STATIC),
+        [(optional(path, one, "minDur", span, None), optional(path, one, "maxDur", span, None)) for one in phases],
+        [tuple(optional(path, phase, "next", numbers, ())) for phase in phases],
+        {param.get("key", ""): param.get("value", "") for param in element.findall("param")},
+        more_of(element),
+        name,
+        [timing_of(path, phase) for phase in phases] if element.get("type") == NEMA else [],
+    )
+    if known:
+        net.earlier[light] = known
+    net.programs[light] = program
 
 
 def timing_of(path: FilePath, phase: Element) -> tuple[str, float, float, float]:
     """(name, extension, yellow, red in seconds) of a phase of a NEMA light; 0 s for what is not written. Fault where
     one is no number from 0 on."""
-    extension, yellow, red = (
-        attribute(path, phase, name, at_least_zero(seconds)) if phase.get(name) else 0.0
-        for name in ("vehext", "yellow", "red")
-    )
+    names = ("vehext", "yellow", "red")
+    extension, yellow, red = (optional(path, phase, name, at_least_zero(seconds), 0.0) for name in names)
     return phase.get("name", ""), extension, yellow, red
 
 
@@ -364,27 +346,19 @@ def numbers(text: str) -> list[int]:
 
 
 def more_of(program: Element) -> tuple[str, ...]:
-    """The names of elements and attributes that a program has beside phases, parameters and the attributes of PHASE."""
+    """The names of a program's elements beside phases and parameters, and of attributes of phases beside PHASE."""
     found = {one.tag for one in program if one.tag not in ("phase", "param")}
     found.update(name for phase in program.iter("phase") for name in phase.keys() if name not in PHASE)
     return tuple(sorted(found))
 
 
-def actuated(net: SumoNet, lights: Iterable[str]) -> list[str]:
-    """The names of lights, among some that have a program, whose present program is of any kind but static: SUMO times
-    them by detectors, or by anything but seconds alone."""
+def lights_not_static(net: SumoNet, lights: Iterable[str]) -> list[str]:
+    """The names of lights, among some that have a program, whose program in force is not static."""
     return [light for light in dict.fromkeys(lights) if net.programs[light].kind != STATIC]
 
 
-def bound_of(path: FilePath, phase: Element, name: str) -> float | None:
-    """The seconds of an attribute of a phase, minDur or maxDur by name; None where it is not written. Fault where it is
-    no number from 0 on."""
-    return attribute(path, phase, name, at_least_zero(seconds)) if phase.get(name) else None
-
-
 def connections_of(net: SumoNet) -> dict[str, list[Connection]]:
-    """The connections of each junction, {its name: those of edges that end there}; a defaultdict, so that others have
-    an empty list."""
+    """The connections of each junction, by its name: those of edges that end there (others have an empty list)."""
     found = defaultdict(list)
     for connection in net.connections:
         found[net.edges[connection.source].end].append(connection)

@@ -1,7 +1,7 @@
 """What a map keeps of lights that SUMO times by detectors, and of lights that buses pass: their programs, the lanes
 before them, who gives way there. The packages actuated and buses read it."""
 from collections import defaultdict
-from collections.abc import Container, Iterable, Sequence
+from collections.abc import Container, Iterable, Mapping, Sequence
 from dataclasses import astuple
 from itertools import pairwise
 from typing import Any
@@ -18,38 +18,36 @@ from streetsim.sumo.types import Kind, Types
 MOST_BEFORE = 4  # lanes before one, on which its detector may lie
 
 
-def kept_programs(
-    net: SumoNet, network: Network, lights: Iterable[tuple[str, int]], flows: Flows
-) -> list[Json]:
+def kept_programs(net: SumoNet, network: Network, lights: Iterable[tuple[str, int]], flows: Flows) -> list[Json]:
     """What a map keeps of each program that is not static: {"light", "program": its name, "idle": True where it is not
     in force (these come last), "kind", "offset": seconds, "phases": [[seconds, state, minDur, maxDur, [next phases]]],
-    "parameters" and "more": as in Program, "ways", "lanes" and "nodes" (of the light): lists of what way_of, lane_of
-    and node_of give, "timing": as in Program, of NEMA lights alone}. lights: (light, node)."""
-    nodes = defaultdict(list)
-    for light, node in lights:
-        if any(one.kind != STATIC for one in (net.programs[light], *net.earlier.get(light, ()))):
-            nodes[light].append(node)
-    at_junction = connections_of(net) if nodes else {}
-    before = lanes_before(net) if nodes else {}
+    "parameters" and "more": as in Program, "ways", "lanes" and "nodes" (of the light): lists of what connection_fields,
+    lane_fields and node_fields give, "timing": as in Program, of NEMA lights alone}. lights: (light, node)."""
+    nodes = nodes_by_light(lights)
+    programs = [
+        (one is not net.programs[light], light, one)
+        for light in sorted(nodes)
+        for one in net.programs_of(light)
+        if one.kind != STATIC
+    ]
+    at_junction = connections_of(net) if programs else {}
+    before = connections_to_lanes(net) if programs else {}
     found = []
-    programs = [(light, net.programs[light]) for light in sorted(nodes) if net.programs[light].kind != STATIC]
-    programs += [(light, one) for light in sorted(nodes) for one in net.earlier.get(light, ()) if one.kind != STATIC]
-    for light, program in programs:
-        numbers, own = nodes[light], [one for one in net.connections if one.light == light]
+    for is_idle, light, program in sorted(programs, key=lambda one: one[0]):
+        own = [one for one in net.connections if one.light == light]
         phases = zip(program.phases, program.bounds, program.following, strict=True)
-        junctions = [(number, network.nodes[number]) for number in numbers]
         found.append({
             "light": light,
             "program": program.name,
-            **({} if program is net.programs[light] else {"idle": True}),
+            **({"idle": True} if is_idle else {}),
             "kind": program.kind,
             "offset": program.offset,
             "phases": [[seconds, state, *bounds, list(then)] for (seconds, state), bounds, then in phases],
             "parameters": program.parameters,
             "more": list(program.more),
-            "ways": [way_of(one, net) for one in own],
-            "lanes": [lane_of(*key, net, before) for key in sorted({(one.source, one.source_lane) for one in own})],
-            "nodes": [node_of(number, at_junction[name], net, flows, name) for number, name in junctions],
+            "ways": [connection_fields(one, net) for one in own],
+            "lanes": [lane_fields(*key, net, before) for key in sorted({(one.source, one.source_lane) for one in own})],
+            "nodes": [node_fields(node, network.nodes[node], net, flows, at_junction) for node in nodes[light]],
             **({"timing": [list(one) for one in program.timing]} if program.timing else {}),
         })
     return found
@@ -59,12 +57,9 @@ def fixed_programs(
     net: SumoNet, network: Network, lights: Iterable[tuple[str, int]], flows: Flows, wanted: Container[str]
 ) -> list[Json]:
     """What a map keeps of each light of wanted whose program in force is static, so that it can wait for buses:
-    {"light", "program": its name, "offset": seconds, "phases": [[seconds, state, minDur, maxDur]], "nodes": as
-    node_of gives each}. lights: (light, node)."""
-    nodes = defaultdict(list)
-    for light, node in lights:
-        if light in wanted and net.programs[light].kind == STATIC:
-            nodes[light].append((node, network.nodes[node]))
+    {"light", "program": its name, "offset": seconds, "phases": [[seconds, state, minDur, maxDur]], "nodes": a list of
+    what node_fields gives}. lights: (light, node)."""
+    nodes = {light: own for light, own in nodes_by_light(lights).items() if light in wanted}
     at_junction = connections_of(net) if nodes else {}
     return [
         {
@@ -72,16 +67,23 @@ def fixed_programs(
             "program": program.name,
             "offset": program.offset,
             "phases": [[seconds, state, *bounds] for (seconds, state), bounds in zip(program.phases, program.bounds)],
-            "nodes": [node_of(number, at_junction[name], net, flows, name) for number, name in numbers],
+            "nodes": [node_fields(node, network.nodes[node], net, flows, at_junction) for node in own],
         }
-        for light, numbers in sorted(nodes.items())
+        for light, own in sorted(nodes.items())
         for program in (net.programs[light],)
+        if program.kind == STATIC
     ]
 
 
-def lights_of_riders(
-    entered: Iterable[Command], driven: Iterable[Vehicle], types: Types, network: Network
-) -> set[str]:
+def nodes_by_light(lights: Iterable[tuple[str, int]]) -> dict[str, list[int]]:
+    """The nodes of each light, of (light, node)."""
+    nodes = defaultdict(list)
+    for light, node in lights:
+        nodes[light].append(node)
+    return nodes
+
+
+def lights_of_riders(entered: Iterable[Command], driven: Iterable[Vehicle], types: Types, network: Network) -> set[str]:
     """The names of lights that vehicles pass which have a line of public transport, or another class than passenger.
     entered: the enter commands of the vehicles driven, in one order."""
     light_at = {(link, following): turn.light for (link, _, following), turn in network.turns.items() if turn.light}
@@ -92,13 +94,13 @@ def lights_of_riders(
     return found
 
 
-def way_of(one: Connection, net: SumoNet) -> list[Any]:
-    """[place in the light's state, lane, next lane, whether it turns back, SUMO's direction] of a connection."""
+def connection_fields(one: Connection, net: SumoNet) -> list[Any]:
+    """[position in the light's state, lane, next lane, whether it turns back, SUMO's direction] of a connection."""
     back = net.edges[one.source].begin == net.edges[one.target].end
     return [one.index, f"{one.source}_{one.source_lane}", f"{one.target}_{one.target_lane}", back, one.direction]
 
 
-def lanes_before(net: SumoNet) -> dict[tuple[str, int], list[Connection]]:
+def connections_to_lanes(net: SumoNet) -> dict[tuple[str, int], list[Connection]]:
     """By lane, (edge, index), the connections that lead to it."""
     found = defaultdict(list)
     for one in net.connections:
@@ -106,10 +108,10 @@ def lanes_before(net: SumoNet) -> dict[tuple[str, int], list[Connection]]:
     return dict(found)
 
 
-def lane_of(edge: str, index: int, net: SumoNet, before: dict[tuple[str, int], list[Connection]]) -> list[Any]:
+def lane_fields(edge: str, index: int, net: SumoNet, before: dict[tuple[str, int], list[Connection]]) -> list[Any]:
     """[name, speed in metres a second, whether it is its edge's only lane, [[name, metres] of it and of those before
     it]] of a lane at a light; a lane before counts where it alone leads there, without a light, and MOST_BEFORE of them
-    at most. before: as lanes_before gives it."""
+    at most. before: as connections_to_lanes gives it."""
     lane = next(one for one in net.edges[edge].lanes if one.index == index)
     stretches: list[list[Any]] = [[f"{edge}_{index}", lane.metres]]
     key = edge, index
@@ -120,13 +122,15 @@ def lane_of(edge: str, index: int, net: SumoNet, before: dict[tuple[str, int], l
     return [f"{edge}_{index}", lane.speed, len(net.edges[edge].lanes) == 1, stretches]
 
 
-def node_of(number: int, connections: Sequence[Connection], net: SumoNet, flows: Flows, name: str) -> Json:
+def node_fields(
+    number: int, name: str, net: SumoNet, flows: Flows, at_junction: Mapping[str, Sequence[Connection]]
+) -> Json:
     """What says who gives way at a node: {"node": its number, "connections": the fields, in a list, of each that its
     light controls or that has no light, "yields": [[request, [those that it gives way to]]], "flows": [[edge, next
-    edge, vehicles an hour]]}. All three lists are empty where one of them is not known. connections: of the node's
-    junction; name: the junction's."""
-    light = light_of(connections, net)
-    own = [one for one in connections if one.light in (light, None)]
+    edge, vehicles an hour]]}. All three lists are empty where one of them is not known. name: of its junction;
+    at_junction: connections by junction."""
+    light = light_of(at_junction[name], net)
+    own = [one for one in at_junction[name] if one.light in (light, None)]
     known = bool(flows) and bool(net.yields.get(name)) and all(one.request is not None for one in own)
     ways = dict.fromkeys((one.source, one.target) for one in own)
     return {

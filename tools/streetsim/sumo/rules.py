@@ -1,9 +1,10 @@
 """Reports what is otherwise here than in SUMO, as far as it concerns a network."""
 from collections import Counter, defaultdict
+from collections.abc import Iterable
 
 from streetsim.base import limits
-from streetsim.base.report import Report, some
-from streetsim.sumo.net import SumoNet
+from streetsim.base.report import Report, first_few
+from streetsim.sumo.net import Program, SumoNet
 from streetsim.sumo.network import OTHER_SPEED, Network
 
 MUCH = 1.1  # times as long as in SUMO
@@ -18,16 +19,16 @@ RING_EDGES, RING_METRES = 12, 400.0  # of a ring, at most
 STATES, SHOWN_STATES = set("Mm=sw-"), set("GgrRyYuUoOs")
 
 
-def warn_of_rules(net: SumoNet, network: Network, report: Report) -> None:
+def warn_of_rules(net: SumoNet, network: Network, programs: Iterable[tuple[str, Program]], report: Report) -> None:
     """Reports what of a network itself is otherwise here than in SUMO, by the functions of this module; called after
     the vehicles have their plans (enters), as these add turns (network.joined). Lights, stops and types report their
-    own."""
+    own. programs: with the name of its light each that is shown at any time."""
     warn_of_classes(net, network, report)
     warn_of_lengths(network, report)
     warn_of_speeds(network, report)
     warn_of_merges(net, report)
     warn_of_lanes(net, network, report)
-    warn_of_unknown(net, report)
+    warn_of_unknown(net, programs, report)
 
 
 def warn_of_classes(net: SumoNet, network: Network, report: Report) -> None:
@@ -43,32 +44,30 @@ def warn_of_classes(net: SumoNet, network: Network, report: Report) -> None:
 
 def warn_of_lengths(network: Network, report: Report) -> None:
     """Reports edges that are shorter than a cell, or become longer by more than a tenth."""
-    short = sorted({link.edge for link in network.links if link.metres < limits.CELL_METRES})
-    if short:
-        report.warn(
-            f"{len(short)} edges are shorter than a cell of {limits.CELL_METRES} m and get one: {some(short)}", short
-        )
-    whole = ((link, limits.cells_of(link.metres) * limits.CELL_METRES) for link in network.links)
+    if short := sorted({link.edge for link in network.links if link.metres < limits.CELL_METRES}):
+        told = f"{len(short)} edges are shorter than a cell of {limits.CELL_METRES} m and get one: {first_few(short)}"
+        report.warn(told, short)
+    whole = ((link, limits.cells_of_length(link.metres) * limits.CELL_METRES) for link in network.links)
     longer = [link for link, metres in whole if limits.CELL_METRES <= MUCH * link.metres < metres]
     if names := sorted({link.edge for link in longer if link.metres >= limits.CELL_METRES}):
         report.warn(
             f"{len(names)} edges are longer here than in SUMO by more than a tenth, "
-            f"as lengths are whole cells: {some(names)}",
+            f"as lengths are whole cells: {first_few(names)}",
             names,
             "netconvert --geometry.remove --junctions.join makes fewer short edges",
         )
 
 
 def warn_of_speeds(network: Network, report: Report) -> None:
-    """Reports speeds near which there is no limit in cells a step: their links have more or fewer cells, so that they
-    take as long as in SUMO, but for those of rings, which keep their length."""
+    """Reports speeds near which there is no limit in cells a step, and how many more or fewer cells their links have
+    for it."""
     links_of = defaultdict(list)
     for link in network.links:
         links_of[link.speed, link.limit].append(link)
     for (speed, limit), links in sorted(links_of.items()):
         free = (limit - network.options.dawdle / 1000) * limits.CELL_METRES
         if abs(free - speed) > OTHER_SPEED * speed:
-            usual = sum(limits.cells_of(link.metres) for link in links)
+            usual = sum(limits.cells_of_length(link.metres) for link in links)
             share = round(100 * (sum(link.cells for link in links) / usual - 1))
             how = f"{abs(share)} % {'fewer' if share < 0 else 'more'} cells, so that it takes as long as in SUMO"
             told = (
@@ -88,61 +87,52 @@ def warn_of_merges(net: SumoNet, report: Report) -> None:
         if edge.lanes[0].speed >= FAST and out[edge.begin] == 1 and into[edge.begin] > 1 and edge.begin not in lit
     ]
     if merged:
-        report.warn(
-            f"{len(merged)} fast roads begin where others merge, and nobody makes room here, so queues may be far too "
-            f"long: {some(sorted(merged))}",
-            sorted(merged),
-            "judge motorways by SUMO",
-        )
+        why = "nobody makes room here, so queues may be far too long"
+        told = f"{len(merged)} fast roads begin where others merge, and {why}: {first_few(sorted(merged))}"
+        report.warn(told, sorted(merged), "judge motorways by SUMO")
 
 
 def warn_of_lanes(net: SumoNet, network: Network, report: Report) -> None:
     """Reports connections that give way, turns and parallel links that SUMO does not have, and lanes that are joint."""
-    minor = sum(connection.state in "m=sw" and not connection.light for connection in net.connections)
-    if minor:
+    if minor := sum(connection.state in "m=sw" and not connection.light for connection in net.connections):
         told = f"{minor} connections have to give way in SUMO; here those that routes use do, by rounds before each run"
         report.warn(told, light=True)
     if network.joined:
-        report.warn(
-            f"{len(network.joined)} turns between parallel links added for routes that change between them", light=True
-        )
-    split = sorted(edge for edge, links in network.links_of.items() if len(links) > 1)
-    if split:
-        report.warn(
-            f"{len(split)} edges became parallel links of one or two lanes, between which nobody changes "
-            f"lane: {some(split)}",
-            split,
-            "--joint EDGES joins their lanes",
-        )
+        told = f"{len(network.joined)} turns between parallel links added for routes that change between them"
+        report.warn(told, light=True)
+    if split := sorted(edge for edge, links in network.links_of.items() if len(links) > 1):
+        links = "parallel links of one or two lanes, between which nobody changes lane"
+        report.warn(f"{len(split)} edges became {links}: {first_few(split)}", split, "--joint EDGES joins their lanes")
     if network.closing:
-        names = some(sorted(network.closing))
+        names = first_few(sorted(network.closing))
         report.warn(f"lanes are joint that lead to different edges, as --joint asks: edges {names}", light=True)
 
 
-def warn_of_unknown(net: SumoNet, report: Report) -> None:
-    """Reports types of junctions where edges end, states of connections without a light, states of lights, and rings,
-    for which nothing is done here."""
+def warn_of_unknown(net: SumoNet, programs: Iterable[tuple[str, Program]], report: Report) -> None:
+    """Reports types of junctions where edges end, states of connections without a light, states of lights (programs as
+    of warn_of_rules), and rings, for which nothing is done here."""
     ends = {edge.end for edge in net.edges.values()}
     junctions = defaultdict(list)
     for name, kind in net.types.items():
         if kind not in TYPES and name in ends:
             junctions[kind].append(name)
     for kind, names in sorted(junctions.items()):
-        told = f"{len(names)} junctions are of type {kind}, which does nothing here: {some(names)}"
+        told = f"{len(names)} junctions are of type {kind}, which does nothing here: {first_few(names)}"
         report.warn(told, names, "judge them by SUMO")
     edges = defaultdict(list)
     for one in net.connections:
         if not one.light and one.state not in STATES:
             edges[one.state].append(one.source)
     for state, names in sorted(edges.items()):
-        told = f"{len(names)} connections have the state {state!r}, which does nothing here: edges {some(set(names))}"
+        sources = first_few(set(names))
+        told = f"{len(names)} connections have the state {state!r}, which does nothing here: edges {sources}"
         report.warn(told, dict.fromkeys(names), "judge them by SUMO")
-    for light, program in net.programs.items():
+    for light, program in programs:
         if unknown := set().union(*(state for _, state in program.phases)) - SHOWN_STATES:
             told = f"light {light!r}: states {' '.join(sorted(unknown))} are shown red"
             report.warn(told, [light], "judge by SUMO", kind="lights have states that are shown red")
     for names in rings_that_yield(net):
-        told = f"a ring whose entries go first, which fills and locks as in SUMO: edges {some(names)}"
+        told = f"a ring whose entries go first, which fills and locks as in SUMO: edges {first_few(names)}"
         do = "netconvert --roundabouts.guess, or a <roundabout> of them, lets the ring go first"
         report.warn(told, names, do, kind="rings have entries that go first, which fill and lock as in SUMO, on edges")
 

@@ -4,7 +4,7 @@ A limit is a link's own, for the whole run. So the edge is cut into up to three 
 the limit. The first keeps the edge's name; the others are called after it and the metre at which they begin.
 """
 import re
-from collections.abc import Iterable, Sequence
+from collections.abc import Iterable, Mapping, Sequence
 from dataclasses import dataclass, replace
 from itertools import accumulate, pairwise
 from math import dist
@@ -12,6 +12,7 @@ from math import dist
 from streetsim.base.files import Fault
 from streetsim.base.report import Report
 from streetsim.model.detectors import E2
+from streetsim.sumo.bus_stops import BusStop, begin_and_end_on_lane
 from streetsim.sumo.demand import Vehicle
 from streetsim.sumo.detectors import SumoDetector, tell_beyond
 from streetsim.sumo.net import Connection, Edge, Lane, Point, SumoNet
@@ -38,7 +39,7 @@ class Slow:
 
 @dataclass(slots=True, frozen=True)
 class Part:
-    """The part of an edge between two places, as it is cut for a lower limit."""
+    """A part of an edge, as it is cut for a lower limit."""
 
     name: str
     begin: float  # metres
@@ -57,40 +58,39 @@ def slow_of(text: str) -> Slow:
 
 
 def parts_of(slow: Slow, metres: float) -> list[Part]:
-    """The parts of an edge of so many metres, in order; a part before or behind the slow one that would be shorter than
-    LEAST belongs to the slow one. None is slow where the stretch begins at the edge's end."""
+    """The parts of an edge of some metres, on which the stretch begins; one before or behind the slow part that would
+    be shorter than LEAST belongs to it."""
     begin = slow.begin if slow.begin >= LEAST else 0
     end = slow.end if metres - slow.end >= LEAST else metres
     places = list(dict.fromkeys((0, begin, end, metres)))
     return [Part(f"{slow.edge}.{at}" if at else slow.edge, at, to, at == begin) for at, to in pairwise(places)]
 
 
-def slowed(
+def with_lower_limits(
     net: SumoNet, vehicles: Sequence[Vehicle], texts: Iterable[str], report: Report
 ) -> tuple[SumoNet, list[Vehicle]]:
     """(a new network with edges in parts, the vehicles with these parts in their routes); net and vehicles stay as they
-    are. texts: limits, EDGE:METRES-METRES:KMH, one for an edge at most; Fault where one has another form or cannot be
-    had. Detectors that are cut are reported. Bus stops and stops of vehicles keep their lane and metres, so they lie on
-    the first part: those beyond it at its end, those that are told from the lane's end as far from its end."""
+    are. texts: EDGE:METRES-METRES:KMH; Fault where slow_of or refuse_limit raises it. Detectors that are cut are
+    reported."""
     made, parts = net, dict[str, list[Part]]()
     for slow in map(slow_of, texts):
-        check(slow, net, parts)
+        refuse_limit(slow, net, parts)
         parts[slow.edge] = parts_of(slow, net.edges[slow.edge].lanes[0].metres)
         made = with_parts(made, slow, parts[slow.edge], report)
-    names = {edge: tuple(part.name for part in some) for edge, some in parts.items()}
-    return made, [driven_over(one, names) for one in vehicles]
+    stops = {name: stop_on_part(stop, parts) for name, stop in net.bus_stops.items()}
+    return replace(made, bus_stops=stops), [vehicle_over_parts(one, parts) for one in vehicles]
 
 
-def check(slow: Slow, net: SumoNet, known: Iterable[str]) -> None:
-    """Fault where a network cannot have a limit: no such edge, a stretch that ends more than 1 m beyond it, a limit
-    above its own, a second limit (known: edges that have one), or a name of a part that is taken."""
+def refuse_limit(slow: Slow, net: SumoNet, known: Iterable[str]) -> None:
+    """Fault where a network cannot have a limit: no such edge, a stretch that does not begin on it or ends over 1 m
+    beyond, a limit above its own, a second limit (known: edges that have one), or a name of a part that is taken."""
     where = f"{slow.kmh} km/h on {slow.edge}"
     if slow.edge not in net.edges:
         raise Fault(f"{where}: the import has no edge {slow.edge!r}")
     if slow.edge in known:
         raise Fault(f"{where}: it has another lower limit")
     lane = net.edges[slow.edge].lanes[0]
-    if slow.end > lane.metres + 1:
+    if slow.begin >= lane.metres or slow.end > lane.metres + 1:
         raise Fault(f"{where}: the edge ends at {lane.metres:g} m")
     if slow.kmh > round(KMH * lane.speed, 1):
         raise Fault(f"{where}: its limit is {KMH * lane.speed:.0f} km/h, which is lower")
@@ -98,16 +98,30 @@ def check(slow: Slow, net: SumoNet, known: Iterable[str]) -> None:
         raise Fault(f"{where}: the network has a {taken[0]!r} already")
 
 
-def driven_over(vehicle: Vehicle, parts: dict[str, tuple[str, ...]]) -> Vehicle:
-    """The vehicle whose route has, in place of each edge, the parts that it has; parts: names by edge."""
+def vehicle_over_parts(vehicle: Vehicle, parts: Mapping[str, Sequence[Part]]) -> Vehicle:
+    """The vehicle with the parts of edges, by edge, in place of these in its route, and with its stops on these."""
     if parts.keys().isdisjoint(vehicle.edges):
         return vehicle
-    return replace(vehicle, edges=tuple(name for edge in vehicle.edges for name in parts.get(edge, (edge,))))
+    names = {edge: [part.name for part in own] for edge, own in parts.items()}
+    stops = [replace(one, bus_stop=stop_on_part(one.bus_stop, parts)) if one.bus_stop else one for one in vehicle.stops]
+    edges = tuple(name for edge in vehicle.edges for name in names.get(edge, (edge,)))
+    return replace(vehicle, edges=edges, stops=tuple(stops))
+
+
+def stop_on_part(bus_stop: BusStop, parts: Mapping[str, Sequence[Part]]) -> BusStop:
+    """A bus stop put on the part on which it ends, where its edge has parts (by edge); it begins with
+    that part at the earliest."""
+    edge, _, index = bus_stop.lane.rpartition("_")
+    if edge not in parts:
+        return bus_stop
+    begin, end = begin_and_end_on_lane(bus_stop, parts[edge][-1].end, True, "")
+    part = next(part for part in parts[edge] if end <= part.end)
+    return BusStop(f"{part.name}_{index}", max(0.0, begin - part.begin), end - part.begin)
 
 
 def with_parts(net: SumoNet, slow: Slow, parts: Sequence[Part], report: Report) -> SumoNet:
-    """A new network with one edge (slow.edge) in parts, which are joined by connections; the names of the parts must be
-    free, as check sees to. Detectors that are cut are reported."""
+    """A new network with one edge (slow.edge) in parts, which are joined by connections. Detectors that are cut are
+    reported."""
     whole, last = net.edges[slow.edge], parts[-1].name
     made = {part.name: part_edge(part, parts, whole, slow) for part in parts}
     edges: dict[str, Edge] = {}
@@ -129,10 +143,10 @@ def with_parts(net: SumoNet, slow: Slow, parts: Sequence[Part], report: Report) 
         yields={**net.yields, **{name: {} for name in inner}},
         edges=edges,
         connections=[*connections, *between],
-        closed_ways={(last if one == slow.edge else one, other) for one, other in net.closed_ways},
+        closed_movements={(last if one == slow.edge else one, other) for one, other in net.closed_movements},
         closed_lanes=net.closed_lanes | {f"{part}_{name.rpartition('_')[2]}" for name in left_out for part in more},
         roundabouts=net.roundabouts | more if slow.edge in net.roundabouts else net.roundabouts,
-        detectors=[moved(one, slow.edge, parts, report) for one in net.detectors],
+        detectors=[detector_on_part(one, slow.edge, parts, report) for one in net.detectors],
     )
 
 
@@ -148,10 +162,10 @@ def part_lane(lane: Lane, part: Part, metres: float, slow: Slow) -> Lane:
     """The lane of a part, of a lane of the whole edge; metres: of the whole edge."""
     speed = min(lane.speed, slow.kmh / KMH) if part.slow else lane.speed
     begin, end = part.begin / metres, part.end / metres
-    return Lane(lane.index, speed, (end - begin) * lane.metres, cut(lane.shape, begin, end))
+    return Lane(lane.index, speed, (end - begin) * lane.metres, piece_of_line(lane.shape, begin, end))
 
 
-def cut(shape: Sequence[Point], begin: float, end: float) -> list[Point]:
+def piece_of_line(shape: Sequence[Point], begin: float, end: float) -> list[Point]:
     """The piece of a line between two shares, begin and end (0 to 1), of its length."""
     ways = list(accumulate((dist(*pair) for pair in pairwise(shape)), initial=0.0))
     first, last = begin * ways[-1], end * ways[-1]
@@ -167,9 +181,9 @@ def point_at(shape: Sequence[Point], ways: Sequence[float], way: float) -> Point
     return x + share * (other_x - x), y + share * (other_y - y)
 
 
-def moved(one: SumoDetector, edge: str, parts: Sequence[Part], report: Report) -> SumoDetector:
+def detector_on_part(one: SumoDetector, edge: str, parts: Sequence[Part], report: Report) -> SumoDetector:
     """A detector, put on the part on which it begins where it lies on the edge; one that reaches beyond that part is
-    cut, which is reported. parts: of the edge, in order."""
+    cut, which is reported."""
     name, _, index = one.lane.rpartition("_")
     if name != edge:
         return one

@@ -1,5 +1,5 @@
 """SUMO's stops: bus stops, which vehicle stops where and for how long, and their places on the cells of an import. All
-that reads raises Fault, with file and element, where an attribute is absent or cannot be read."""
+that reads raises Fault, with file and element, where an attribute that it needs is absent, or one cannot be read."""
 from __future__ import annotations
 
 from collections import defaultdict
@@ -8,38 +8,39 @@ from dataclasses import dataclass, field, replace
 from xml.etree.ElementTree import Element
 
 from streetsim.base.files import (
-    Fault, FilePath, attribute, attributes_of, filled, number, optional, seconds, told,
+    Fault, FilePath, at_least_zero, attribute, attributes_of, element_told, filled, number, optional, seconds,
 )
-from streetsim.base.report import Report, some
+from streetsim.base.report import Report, first_few
 from streetsim.model.stops import Visit
-from streetsim.sumo.bus_stops import BusStop, stretch
+from streetsim.sumo.bus_stops import BusStop, begin_and_end_on_lane
+from streetsim.sumo.detectors import TRUE
 from streetsim.sumo.net import SumoNet
 from streetsim.sumo.network import Link, Network
 from streetsim.sumo.types import PACE, Kind, Types
 
-TRUE = ("true", "yes", "on", "1", "x", "t")  # as SUMO reads it
 BUS_STOPS = ("busStop", "trainStop")
 ELSEWHERE = ("containerStop", "chargingStation", "parkingArea", "overheadWireSegment")
-POINT = 0.2  # metres of a place that tells its end alone
+POINT = 0.2  # metres of a bus stop that tells its end alone
 WAITS = ("triggered", "containerTriggered", "joinTriggered")
 NO_SECONDS = "without duration and until, with which SUMO's vehicle stands for good"
 IN_BAY = "in a bay beside the lane (parking)"
 SHORT = "the lane is shorter than two cells"
 NOT_ON_WAY = "not on the vehicle's way, behind its stops before"
+OTHER_LANE = "another stop of the edge is on a lane from which nobody changes to this one"
 LEFT_OUT = "its lane is left out, as it is closed to the classes"
 
 
 @dataclass(slots=True, frozen=True)
 class Stop:
-    """A stop of a vehicle, as its file tells it: at least duration seconds, and not before the clock until (None: not
-    told). why: the reason why it cannot be made; empty where it can."""
+    """A stop of a vehicle, as its file tells it: of duration seconds at least, ending at the clock until or later
+    (None: not told)."""
 
     where: str  # file and element, for what is told
-    name: str  # of the bus stop; none where the lane is told
-    place: BusStop | None  # where the lane is told
+    name: str  # of the bus stop, or of what one that cannot be made names; else empty
+    bus_stop: BusStop | None  # where the lane is told
     duration: int
     until: int | None
-    why: str = ""  # it can not be made
+    why: str = ""  # it cannot be made; empty where it can
     told: tuple[tuple[str, str], ...] = ()  # its attributes in the file
 
     def text(self) -> str:
@@ -54,9 +55,9 @@ class Stop:
 
 @dataclass(slots=True, frozen=True)
 class Spot:
-    """Where a stop lies: the edge's place in a route, the lane, and metres from its begin."""
+    """Where a stop lies; begin and end in metres from the lane's begin."""
 
-    at: int
+    at: int  # the edge's position in a route
     edge: str
     index: int  # of the lane
     begin: float
@@ -64,13 +65,13 @@ class Spot:
 
 
 @dataclass(slots=True)
-class Found:
-    """The stops of a vehicle that have a place on its way, each with this place."""
+class FoundStops:
+    """The stops of a vehicle that lie on its way, each with its spot there."""
 
     stops: list[tuple[Stop, Spot]] = field(default_factory=list)
 
-    def lanes(self) -> dict[int, tuple[str, int]]:
-        """The lane, (edge, index), at which the vehicle stops first on an edge, by the edge's place in its route."""
+    def first_lanes(self) -> dict[int, tuple[str, int]]:
+        """The lane, (edge, index), of the first stop on each edge with one, by the edge's position in the route."""
         found: dict[int, tuple[str, int]] = {}
         for _, spot in self.stops:
             found.setdefault(spot.at, (spot.edge, spot.index))
@@ -78,24 +79,15 @@ class Found:
 
 
 def read_bus_stop(path: FilePath, element: Element, net: SumoNet) -> None:
-    """Adds a bus stop to the network (bus_stops); Fault where another one has its name, the network has no such lane,
-    or it lies beyond its lane and is not friendly (not looked at where the lane is left out)."""
+    """Adds a bus stop to the network (bus_stops); Fault where another has its name, or checked_bus_stop raises one."""
     name, lane = attribute(path, element, "id", filled), attribute(path, element, "lane", filled)
     if name in net.bus_stops:
-        raise Fault(f"{told(path, element)}: a second stop of this name")
-    stop = BusStop(lane, metres_of(path, element, "startPos"), metres_of(path, element, "endPos"))
-    if length := length_of(lane, net, told(path, element)):
-        is_friendly = element.get("friendlyPos", "").lower() in TRUE
-        stretch(stop, length, is_friendly, told(path, element))
-    net.bus_stops[name] = stop
+        raise Fault(f"{element_told(path, element)}: a second stop of this name")
+    ends = (optional(path, element, key, number, None) for key in ("startPos", "endPos"))
+    net.bus_stops[name] = checked_bus_stop(BusStop(lane, *ends), element, net, element_told(path, element))
 
 
-def metres_of(path: FilePath, element: Element, name: str) -> float | None:
-    """An attribute of an element as a number of metres; None where it is not written. Fault where it is no number."""
-    return optional(path, element, name, number, None)
-
-
-def length_of(lane: str, net: SumoNet, where: str) -> float:
+def metres_of_lane(lane: str, net: SumoNet, where: str) -> float:
     """The metres of a lane; 0 where it is left out, as it is not for the classes. Fault where the network has no lane
     of this name; where: the element, for the Fault."""
     edge, _, index = lane.rpartition("_")
@@ -108,36 +100,41 @@ def length_of(lane: str, net: SumoNet, where: str) -> float:
     return found
 
 
+def checked_bus_stop(bus_stop: BusStop, element: Element, net: SumoNet, where: str) -> BusStop:
+    """The bus stop itself, which an element tells. Fault where the network has no such lane, or
+    `begin_and_end_on_lane` raises one (not called where the lane is left out); where: the element, for the Fault."""
+    if length := metres_of_lane(bus_stop.lane, net, where):
+        begin_and_end_on_lane(bus_stop, length, element.get("friendlyPos", "").lower() in TRUE, where)
+    return bus_stop
+
+
 def stops_in(path: FilePath, owner: Element, net: SumoNet) -> tuple[Stop, ...]:
-    """The stops that stand directly in an element (owner), as stop_of gives them, with its Faults; those of a route
-    inside it are not among them."""
+    """The stops that stand directly in an element (owner), not those of a route inside it."""
     return tuple(stop_of(path, owner, one, net) for one in owner if one.tag == "stop")
 
 
 def stop_of(path: FilePath, owner: Element, element: Element, net: SumoNet) -> Stop:
-    """The stop of a <stop> in an element (owner); one that cannot be made has the reason (why) and no place. Its
-    seconds are rounded to whole ones, and a duration below 1 counts as 1. Fault where it names a lane or edge that the
-    network does not have, a place beyond its lane, or no place at all. Whether there is a bus stop of its name is
-    looked at later (Stops.place)."""
-    where = f"{told(path, owner)}: <stop>"
+    """The stop of a <stop> in an element (owner); one that cannot be made has the reason (why) and no bus_stop. Its
+    seconds are whole ones, a duration is 1 at least. Fault where unnamed_bus_stop raises one; whether there is a bus
+    stop of its name is looked at later (Stops.bus_stop_of)."""
+    where = f"{element_told(path, owner)}: <stop>"
     name = next((element.get(kind, "") for kind in BUS_STOPS if element.get(kind)), "")
-    duration = optional(path, element, "duration", seconds, None)
-    until = optional(path, element, "until", seconds, None)
-    why, place = why_not(element), None
+    duration, until = (optional(path, element, key, at_least_zero(seconds), None) for key in ("duration", "until"))
+    why, bus_stop = why_cannot_be_made(element), None
     if duration is None and until is None:
         why = why or NO_SECONDS
     if why:
         kinds = (*BUS_STOPS, *ELSEWHERE, "lane", "edge")
         name = next((element.get(kind, "") for kind in kinds if element.get(kind)), "")
     elif not name:
-        place = place_of(path, element, net, where)
+        bus_stop = unnamed_bus_stop(path, element, net, where)
     return Stop(
-        where, name, place, max(1, round(duration or 0)), None if until is None else round(until), why,
+        where, name, bus_stop, max(1, round(duration or 0)), None if until is None else round(until), why,
         tuple(element.items()),
     )  # fmt: skip
 
 
-def why_not(element: Element) -> str:
+def why_cannot_be_made(element: Element) -> str:
     """Why a stop (its <stop> element) cannot be made, by its attributes other than times; empty where it can."""
     if element.get("parking", "false").lower() in (*TRUE, "opportunistic"):
         return IN_BAY
@@ -150,35 +147,26 @@ def why_not(element: Element) -> str:
     return ""
 
 
-def place_of(path: FilePath, element: Element, net: SumoNet, where: str) -> BusStop:
-    """The place of a stop that names a lane, or an edge: then the first lane of it that is kept. An end that is not
+def unnamed_bus_stop(path: FilePath, element: Element, net: SumoNet, where: str) -> BusStop:
+    """The bus stop of a stop that names a lane, or an edge: then the first lane of it that is kept. An end that is not
     told is the lane's, a begin that is not told POINT before the end. Fault where it names neither, the network does
-    not have it, or the place lies beyond the lane and is not friendly (not looked at where the lane is left out);
-    where: the element, for the Fault."""
-    lane = element.get("lane", "")
-    if not lane:
-        edge = element.get("edge", "")
-        if not edge:
-            raise Fault(f"{where}: without busStop, lane or edge")
-        if edge not in net.edges and edge not in net.dropped:
-            raise Fault(f"{where}: the network has no edge {edge!r}")
-        lane = f"{edge}_{net.edges[edge].lanes[0].index if edge in net.edges else 0}"
-    begin, end = (metres_of(path, element, name) for name in ("startPos", "endPos"))
-    length = length_of(lane, net, where)
-    if end is None:
-        end = length
-    if begin is None:
-        begin = max(0.0, end - POINT) if end >= 0 else end - POINT
-    stop = BusStop(lane, begin, end)
-    if length:
-        stretch(stop, length, element.get("friendlyPos", "").lower() in TRUE, where)
-    return stop
+    not have the edge, or `checked_bus_stop` raises one; where: the element, for the Fault."""
+    lane, edge = element.get("lane", ""), element.get("edge", "")
+    if not lane and not edge:
+        raise Fault(f"{where}: without busStop, lane or edge")
+    if not lane and edge not in net.edges and edge not in net.dropped:
+        raise Fault(f"{where}: the network has no edge {edge!r}")
+    lane = lane or f"{edge}_{net.edges[edge].lanes[0].index if edge in net.edges else 0}"
+    end = optional(path, element, "endPos", number, None)
+    end = metres_of_lane(lane, net, where) if end is None else end
+    begin = optional(path, element, "startPos", number, max(0.0, end - POINT) if end >= 0 else end - POINT)
+    return checked_bus_stop(BusStop(lane, begin, end), element, net, where)
 
 
 def edge_of(stop: Stop, net: SumoNet) -> str:
     """The name of the edge where a stop lies; empty where neither it nor its bus stop tells a lane or edge."""
-    place, told = net.bus_stops.get(stop.name) if stop.name else stop.place, dict(stop.told)
-    lane = place.lane if place else told.get("lane", "")
+    bus_stop, told = net.bus_stops.get(stop.name) if stop.name else stop.bus_stop, dict(stop.told)
+    lane = bus_stop.lane if bus_stop else told.get("lane", "")
     return lane.rpartition("_")[0] or told.get("edge", "")
 
 
@@ -192,75 +180,72 @@ class Stops:
         self.visits: list[Visit] = []
         self.kinds: set[str] = set()  # types of the vehicles that make them
 
-    def on(self, name: str, edges: Sequence[str], stops: Iterable[Stop]) -> Found:
-        """The stops of a vehicle that have a place on its route (edges), each on the edge of the stop before it or on a
-        later one; the others are kept in unmade, by reason. name: of the vehicle. Fault where `place` raises one."""
-        found, at, before = Found(), 0, 0.0
+    def on_route(self, name: str, edges: Sequence[str], stops: Iterable[Stop]) -> FoundStops:
+        """The stops of a vehicle (name) that lie on its route (edges), each behind the stop before it; the others are
+        kept in unmade, by reason. Fault where `bus_stop_of` raises one."""
+        found, at, before = FoundStops(), 0, 0.0
         for stop in stops:
-            place = self.place(stop)
-            why, edge = stop.why, place.lane.rpartition("_")[0] if place else ""
-            if place and not why and place.lane in self.net.closed_lanes:
+            bus_stop = self.bus_stop_of(stop)
+            why, edge = stop.why, bus_stop.lane.rpartition("_")[0] if bus_stop else ""
+            if bus_stop and not why and bus_stop.lane in self.net.closed_lanes:
                 why = LEFT_OUT
-            if place and not why:
-                begin, end = stretch(place, length_of(place.lane, self.net, stop.where), True, stop.where)
+            if bus_stop and not why:
+                begin, end = begin_and_end_on_lane(
+                    bus_stop, metres_of_lane(bus_stop.lane, self.net, stop.where), True, stop.where
+                )
                 first = at + (end < before and at < len(edges) and edges[at] == edge)
                 further = next((here for here in range(first, len(edges)) if edges[here] == edge), None)
                 if further is None:
                     why = NOT_ON_WAY
                 else:
                     at, before = further, end
-                    spot = Spot(at, edge, int(place.lane.rpartition("_")[2]), begin, end)
+                    spot = Spot(at, edge, int(bus_stop.lane.rpartition("_")[2]), begin, end)
                     found.stops.append((stop, spot))
             if why:
                 self.unmade[why].append(f"{name} at {called(stop)}")
         return found
 
-    def place(self, stop: Stop) -> BusStop | None:
-        """The place of a stop; None for a stop without one. Fault where it names a bus stop that no file has."""
+    def bus_stop_of(self, stop: Stop) -> BusStop | None:
+        """The bus stop of a stop, if any. Fault where it can be made, but no file has the bus stop that it names."""
         if stop.name and stop.name not in self.net.bus_stops and not stop.why:
             raise Fault(f"{stop.where}: there is no busStop {stop.name!r}")
-        return self.net.bus_stops.get(stop.name) if stop.name else stop.place
+        return self.net.bus_stops.get(stop.name) if stop.name else stop.bus_stop
 
-    def add(self, vehicle: tuple[int, str, str], plan: Sequence[int], found: Found, network: Network) -> None:
+    def add_visits(self, vehicle: tuple[int, str, str], plan: Sequence[int], found: FoundStops, net: Network) -> None:
         """Adds to visits those of a vehicle (its number in the run file, name and type) on the links of its plan;
-        found: as `on` gives it. Stops that these links do not reach, or on links of one cell, are kept in unmade, by
-        reason."""
+        found: as on_route gives it. Stops that these links do not reach, or on links of one cell, go to unmade."""
         number, name, kind = vehicle
         for stop, spot in found.stops:
-            link, lane = network.place_of[spot.edge, spot.index]
-            if plan[spot.at] != link:
-                self.unmade["another stop of the edge is on a lane from which nobody changes to this one"].append(
-                    f"{name} at {called(stop)}"
-                )
-                continue
-            cells = cells_of(network.links[link], spot)
-            if cells is None:
-                self.unmade[SHORT].append(f"{name} at {called(stop)}")
-                continue
-            losses = self.losses(kind, network.links[link])
-            visit = Visit(number, spot.at, called(stop), link, lane, *cells, stop.duration, stop.until, *losses)
-            self.visits.append(visit)
-            self.kinds.add(kind)
+            link, lane = net.place_of[spot.edge, spot.index]
+            cells = stopping_cells(net.links[link], spot)
+            if cells and plan[spot.at] == link:
+                losses = self.stop_losses(kind, net.links[link])
+                visit = Visit(number, spot.at, called(stop), link, lane, *cells, stop.duration, stop.until, *losses)
+                self.visits.append(visit)
+                self.kinds.add(kind)
+            else:
+                self.unmade[SHORT if plan[spot.at] == link else OTHER_LANE].append(f"{name} at {called(stop)}")
 
-    def losses(self, kind: str, link: Link) -> tuple[float, float]:
-        """(seconds that SUMO's vehicle of a type loses as it brakes; seconds that it loses as it starts beyond one of
-        streetsim's, which gains a cell a second in each second) on a link."""
+    def stop_losses(self, kind: str, link: Link) -> tuple[float, float]:
+        """(seconds that SUMO's vehicle of a type loses as it brakes on a link; seconds that it loses as it starts
+        there, beyond one of streetsim's)."""
         speed = min(link.speed, self.types.kinds.get(kind, Kind()).speed or link.speed)
         accel, decel = self.types.pace.get(kind, PACE)
         return round(speed / 2 / decel, 2), max(0.0, round(speed / 2 / accel - (link.limit - 1) / 2, 2))
 
-    def tell(self) -> None:
-        """Reports how many stops are made, by reason those that are not, and accelerations that had no effect. Called
-        once, after all vehicles."""
+    def report_stops(self) -> None:
+        """Reports, after all vehicles, how many stops are made, by reason those that are not, and accelerations that
+        had no effect."""
         self.types.note_paces(self.kinds, self.report)
         for why, names in self.unmade.items():
-            self.report.warn(f"{len(names):,} stops of vehicles are not made, {why}: {some(names)}", names, do_of(why))
+            text = f"{len(names):,} stops of vehicles are not made, {why}: {first_few(names)}"
+            self.report.warn(text, names, advice_on(why))
         if self.visits:
             count = len({one.vehicle for one in self.visits})
             self.report.notes.append(f"{len(self.visits):,} stops of {count:,} vehicles")
 
 
-def do_of(why: str) -> str:
+def advice_on(why: str) -> str:
     """What the user can do where stops are not made for a reason."""
     if why == LEFT_OUT:
         return "--classes NAMES keeps lanes of other classes too"
@@ -269,14 +254,14 @@ def do_of(why: str) -> str:
 
 def called(stop: Stop) -> str:
     """How a stop is named to the user: by its name, or by lane and metres."""
-    if stop.name or stop.place is None:
+    if stop.name or stop.bus_stop is None:
         return stop.name or "a stop"
-    return f"{stop.place.lane}:{stop.place.end:g}"
+    return f"{stop.bus_stop.lane}:{stop.bus_stop.end:g}"
 
 
-def cells_of(link: Link, spot: Spot) -> tuple[int, int] | None:
-    """The (first, last) cell, from 0, both included, in which the front of a vehicle stands at a stop: one cell always
-    lies beyond them, which is closed meanwhile. None where the link has fewer than two cells."""
+def stopping_cells(link: Link, spot: Spot) -> tuple[int, int] | None:
+    """The (first, last) cell, from 0, both included, in which the front of a vehicle stands at a stop, short of the
+    link's last one. None where the link has fewer than two cells."""
     size = link.metres / link.cells
     if link.cells < 2:
         return None

@@ -2,34 +2,35 @@
 (G) together."""
 from collections import defaultdict
 from collections.abc import Iterable, Iterator, Sequence
+from itertools import combinations
 
 from streetsim.base.files import elements
-from streetsim.base.report import Report, some
-from streetsim.model.timing import Movement, Timing, together
-from streetsim.sumo.net import SumoNet, read_net, read_program
+from streetsim.base.report import Report, first_few
+from streetsim.model.timing import Movement, Timing, movements_by_edges
+from streetsim.sumo.net import Connection, SumoNet, read_net, read_program
 
 
-def timings_of(net: SumoNet) -> Iterator[Timing]:
-    """The program in force of each light that connections name, in the order of the lights' names; lights without
-    phases, or with states that are too short for their connections, are left out. Of a light of several junctions, the
-    junction is that of its first connection."""
+def timings_of(net: SumoNet, in_run: bool = False) -> Iterator[Timing]:
+    """The program in force of each light that connections name, or all that it shows in the run (in_run), in the order
+    of the lights' names; programs with states that are too short for the connections are left out. Of a light of
+    several junctions, the junction is that of its first connection."""
     at_light = defaultdict(list)
     for connection in net.connections:
         if connection.light:
             at_light[connection.light].append(connection)
     for light, connections in sorted(at_light.items()):
-        program = net.programs.get(light)
-        places = max(one.index for one in connections)
-        if program is None or not program.phases or any(len(state) <= places for _, state in program.phases):
+        last = max(one.index for one in connections)
+        programs = net.programs_in_run(light)[: None if in_run else 1]
+        if not (whole := [one for one in programs if all(len(state) > last for _, state in one.phases)]):
             continue
-        conflicts = set()
-        for one in connections:
-            for other in connections:
-                if one is not other and one.source != other.source and conflict(net, light, (one, other)):
-                    conflicts.add(frozenset((one.index, other.index)))
+        conflicts = {
+            frozenset((one.index, other.index))
+            for one, other in combinations(connections, 2)
+            if one.source != other.source and do_conflict(net, one, other)
+        }
         junction = net.edges[connections[0].source].end
-        movements = together((one.source, one.target, one.index) for one in connections)
-        yield Timing(light, junction, program.offset, program.phases, program.kind, movements, conflicts)
+        movements = movements_by_edges((one.source, one.target, one.index) for one in connections)
+        yield from (Timing(light, junction, one.offset, one.phases, one.kind, movements, conflicts) for one in whole)
 
 
 def timings_of_files(net_path: str, additional: Iterable[str], classes: Sequence[str]) -> list[Timing]:
@@ -37,16 +38,14 @@ def timings_of_files(net_path: str, additional: Iterable[str], classes: Sequence
     light counts. classes: whose lanes are kept. Fault where a file cannot be read; warnings of reading are not told."""
     net = read_net(net_path, classes, Report())
     for path in additional:
-        for element in elements(path, None):
+        for element in elements(path):
             if element.tag == "tlLogic":
                 read_program(path, element, net, ())
     return list(timings_of(net))
 
 
-def conflict(net: SumoNet, light: str, pair: tuple) -> bool:
-    """Whether two connections (pair), both of one light, meet at one junction, as the network's foes say. False where
-    they end at different junctions, or a request is not known."""
-    one, other = pair
+def do_conflict(net: SumoNet, one: Connection, other: Connection) -> bool:
+    """Whether two connections meet at one junction, as the network's foes say. False where a request is not known."""
     junction = net.edges[one.source].end
     if net.edges[other.source].end != junction or one.request is None or other.request is None:
         return False
@@ -55,19 +54,22 @@ def conflict(net: SumoNet, light: str, pair: tuple) -> bool:
 
 
 def warn_of_clashes(net: SumoNet, report: Report) -> None:
-    """Reports lights that show main green (G) to movements that conflict: here both go at once."""
-    for timing in timings_of(net):
-        told = [f"{called(net, one)} and {called(net, other)}" for one, other, _ in timing.clashes()]
-        if told:
+    """Reports lights that show main green (G), in any program of the run, to movements that conflict: both go here."""
+    pairs = defaultdict[str, dict[str, None]](dict)
+    for timing in timings_of(net, True):
+        told = (f"{movement_named(net, one)} and {movement_named(net, other)}" for one, other, _ in timing.clashes())
+        pairs[timing.light].update(dict.fromkeys(told))
+    for light, both in pairs.items():
+        if both:
             report.warn(
-                f"light {timing.light!r}: movements that conflict have main green together: {some(told, 3)}",
-                [timing.light],
+                f"light {light!r}: movements that conflict have main green together: {first_few(both, 3)}",
+                [light],
                 "show one of each pair as g, or after the other",
                 kind="lights show main green together to movements that conflict",
             )
 
 
-def called(net: SumoNet, movement: Movement) -> str:
+def movement_named(net: SumoNet, movement: Movement) -> str:
     """How a movement is named to the user: by its streets, and where these have names by its edges too."""
     streets = [net.edges[edge].street or edge for edge in (movement.edge, movement.to)]
     ids = f" ({movement.edge} to {movement.to})"

@@ -1,5 +1,5 @@
 """Reads SUMO's vehicle types, and gives vehicles their sizes: how many cells each takes. All that reads raises Fault,
-with file and element, where an attribute is absent or cannot be read."""
+with file and element, where an attribute that it needs is absent, or one cannot be read."""
 import random
 from collections import Counter, defaultdict
 from collections.abc import Collection
@@ -7,27 +7,27 @@ from dataclasses import dataclass
 from xml.etree.ElementTree import Element
 
 from streetsim.base import limits
-from streetsim.base.files import Fault, FilePath, above_zero, at_least_zero, attribute, filled, number, optional, told
-from streetsim.base.report import Report, some
+from streetsim.base.files import (
+    Fault, FilePath, above_zero, at_least_zero, attribute, element_told, filled, number, optional,
+)
+from streetsim.base.report import Report, first_few
 
 # SUMO's vehicle classes.
 CLASSES = (
     *("private", "emergency", "authority", "army", "vip", "passenger", "hov", "taxi", "bus", "coach", "delivery"),
     *("truck", "trailer", "tram", "rail_urban", "rail", "rail_electric", "rail_fast", "motorcycle", "moped", "bicycle"),
-    *(
-        "pedestrian", "evehicle", "ship", "container", "cable_car", "subway", "aircraft", "wheelchair", "scooter",
-        "drone",
-    ),
-    *("custom1", "custom2"),
+    *("pedestrian", "evehicle", "ship", "container", "cable_car", "subway", "aircraft", "wheelchair", "scooter"),
+    *("drone", "custom1", "custom2"),
 )
 FORMER = {  # names that SUMO still takes for them
-    **{
-        "public_emergency": "emergency",
-        "public_authority": "authority",
-        "public_army": "army",
-        "public_transport": "bus",
-    },
-    **{"transport": "truck", "lightrail": "tram", "cityrail": "rail_urban", "rail_slow": "rail"},
+    "public_emergency": "emergency",
+    "public_authority": "authority",
+    "public_army": "army",
+    "public_transport": "bus",
+    "transport": "truck",
+    "lightrail": "tram",
+    "cityrail": "rail_urban",
+    "rail_slow": "rail",
 }
 FREE = "ignoring"  # the class that may use every lane
 DEFAULT = "DEFAULT_VEHTYPE"
@@ -67,6 +67,7 @@ PACE_BY_CLASS = {  # where SUMO's defaults are other ones
 READ = {"id", "length", "minGap", "vClass", "probability", "probabilities", "vTypes"}
 PACES = {"accel", "decel"}  # which count for vehicles that stop, as buses do
 TAGS = ("vType", "vTypeDistribution")
+Mix = tuple[list[str], list[float]]  # names, of types or of routes, and their weights
 
 
 @dataclass(slots=True, frozen=True)
@@ -82,11 +83,19 @@ class Kind:
 def class_of(path: FilePath, element: Element) -> str:
     """The vehicle class of a type, under SUMO's present name; passenger where none is written. Fault where SUMO has no
     such class."""
-    name = element.get("vClass") or "passenger"
+    name = element.get("vClass", "passenger")
     name = FORMER.get(name, name)
     if name not in CLASSES and name != FREE:
-        raise Fault(f"{told(path, element)}: SUMO has no vehicle class {name!r}")
+        raise Fault(f"{element_told(path, element)}: SUMO has no vehicle class {name!r}")
     return name
+
+
+def named_in(path: FilePath, element: Element, kind: str) -> Mix:
+    """The members that a distribution (element) names in its attribute kind, with the weights of its probabilities; one
+    without a probability weighs 1. Fault where a weight is no number of 0 or more."""
+    names = element.get(kind, "").split()
+    weights: list[float] = optional(path, element, "probabilities", weights_of, [])
+    return names, (weights + [1.0] * len(names))[: len(names)]
 
 
 def weights_of(text: str) -> list[float]:
@@ -94,33 +103,39 @@ def weights_of(text: str) -> list[float]:
     return [at_least_zero(number)(part) for part in text.split()]
 
 
+def weight_of(path: FilePath, element: Element) -> float:
+    """The weight of a member that stands in a distribution, 1 where it tells none. Fault where it is no number of 0 or
+    more."""
+    return optional(path, element, "probability", at_least_zero(number), 1.0)
+
+
 class Types:
-    """The vehicle types that files tell, with the metres of road that a vehicle takes together with the gap ahead of
-    it, and the distributions from which the type of a vehicle is drawn."""
+    """The vehicle types that files tell, and the distributions from which the type of a vehicle is drawn."""
 
     def __init__(self, seed: int, report: Report) -> None:
         """seed: of the draws from distributions."""
         self.report = report
+        # By name: of road that a vehicle takes, with the gap ahead of it.
         self.metres = {DEFAULT: sum(USUAL), "DEFAULT_TAXITYPE": sum(USUAL)}
         self.metres["DEFAULT_BIKETYPE"] = sum(BY_CLASS["bicycle"])
         self.kinds = {DEFAULT: Kind()}  # by name; those that files tell, and the usual one
         self.pace = {DEFAULT: PACE}  # by name
         self.paced: dict[str, set[str]] = {}  # by name, those of PACES that its type tells
-        self.mixes: dict[str, tuple[list[str], list[float]]] = {}  # distribution: types and their weights
+        self.mixes: dict[str, Mix] = {}  # by distribution
         self.draws = random.Random(f"types {seed}")
         self.named: set[str] = set()  # types and distributions of the files
         self.unknown: set[str] = set()
 
-    def read(self, path: FilePath, element: Element) -> None:
-        """Adds a <vType> or a <vTypeDistribution>; Fault where read_type or read_mix raises one."""
+    def read_element(self, path: FilePath, element: Element) -> None:
+        """Adds a <vType>, or a <vTypeDistribution> with the types in it."""
         if element.tag == "vType":
             self.read_type(path, element)
         else:
             self.read_mix(path, element)
 
     def read_type(self, path: FilePath, element: Element) -> None:
-        """Adds a type; what it does not tell is as SUMO's defaults for its class. Attributes that are not in READ
-        or PACES are reported as ignored. Fault where another one has its name, or SUMO has no such class."""
+        """Adds a type; what it does not tell is as SUMO's defaults for its class. Attributes beside READ and PACES are
+        reported as ignored. Fault where another one has its name, or SUMO has no such class."""
         vclass = class_of(path, element)
         length, gap = BY_CLASS.get(vclass, USUAL)
         length = optional(path, element, "length", above_zero(number), length)
@@ -137,8 +152,8 @@ class Types:
             self.report.ignored[f"{other} of vTypes"] += 1
 
     def note_paces(self, used: Collection[str], report: Report) -> None:
-        """Reports how many types tell an acceleration that had no effect, as none of their vehicles stops; used: the
-        types whose vehicles do. A second call replaces what the first reported."""
+        """Reports how many types tell an accel or decel that has no effect, as none of their vehicles stops; used: the
+        types whose vehicles do."""
         for told in PACES:
             unused = sum(told in paces for name, paces in self.paced.items() if name not in used)
             report.ignored[f"{told} of vTypes"] = unused
@@ -148,36 +163,33 @@ class Types:
         it."""
         name = attribute(path, element, "id", filled)
         if name in self.named:
-            raise Fault(f"{told(path, element)}: a second vehicle type of this name")
+            raise Fault(f"{element_told(path, element)}: a second vehicle type of this name")
         self.named.add(name)
         return name
 
     def read_mix(self, path: FilePath, element: Element) -> None:
         """Adds a distribution, with the types that stand in it; Fault where it names a type that was not read before,
-        has no type, weights that are all 0, or a name that is taken. A weight that is not told is 1."""
-        names, weights = (element.get("vTypes") or "").split(), []
-        shares = attribute(path, element, "probabilities", weights_of) if element.get("probabilities") else []
-        for place, name in enumerate(names):
-            if name not in self.metres:
-                raise Fault(f"{told(path, element)}: there is no type {name!r}")
-            weights.append(shares[place] if place < len(shares) else 1.0)
+        has no type, weights that are all 0, or a name that is taken."""
+        names, weights = named_in(path, element, "vTypes")
+        if unknown := [name for name in names if name not in self.metres]:
+            raise Fault(f"{element_told(path, element)}: there is no type {unknown[0]!r}")
         for inner in element.iter("vType"):
             self.read_type(path, inner)
             names.append(attribute(path, inner, "id"))
-            weights += attribute(path, inner, "probability", weights_of) if inner.get("probability") else [1.0]
+            weights.append(weight_of(path, inner))
         if not names or sum(weights) <= 0:
-            raise Fault(f"{told(path, element)}: a distribution without a type")
+            raise Fault(f"{element_told(path, element)}: a distribution without a type")
         self.mixes[self.new_name(path, element)] = names, weights
 
-    def drawn(self, name: str | None) -> str:
-        """The type that a vehicle has: the one that is named, or one drawn from the distribution that is named. DEFAULT
-        where name is None, or no file tells it, which is noted in unknown. Each call for a distribution draws anew."""
+    def draw_type(self, name: str) -> str:
+        """The type that a vehicle has: the one that is named, or one drawn anew from the distribution that is named.
+        DEFAULT where no file tells it, which is noted in unknown."""
         if name in self.mixes:
-            names, weights = self.mixes[name]
-            return self.draws.choices(names, weights)[0]
-        if name is not None and name not in self.metres:
-            self.unknown.add(name)
-        return name if name in self.metres else DEFAULT
+            return self.draws.choices(*self.mixes[name])[0]
+        if name in self.metres:
+            return name
+        self.unknown.add(name)
+        return DEFAULT
 
 
 class Sizes:
@@ -192,9 +204,8 @@ class Sizes:
         self.metres = 0.0  # of all vehicles, in SUMO
         self.too_long: Counter[str] = Counter()  # vehicles by type
 
-    def of(self, name: str) -> int:
-        """The cells, 1 to limits.SIZE, that the next vehicle of a type takes; it is counted. name: of the type, as
-        Types.drawn gives it."""
+    def next_size(self, name: str) -> int:
+        """The cells, 1 to limits.SIZE, that the next vehicle of a type takes, which is counted; name: of the type."""
         metres = self.types.metres[name]
         wished = min(limits.SIZE, max(1.0, metres / limits.CELL_METRES)) + self.rests[name]
         size = int(wished + 0.5)
@@ -205,15 +216,15 @@ class Sizes:
             self.too_long[name] += 1
         return size
 
-    def tell(self, report: Report) -> None:
+    def report_sizes(self, report: Report) -> None:
         """Reports how many vehicles took which size, where some take more than a cell; types that no file tells; and
         vehicles that are too long for the most cells."""
         if self.types.unknown:
-            report.warn(f"vehicle types that no file tells are taken for cars: {some(sorted(self.types.unknown))}")
+            report.warn(f"vehicle types that no file tells are taken for cars: {first_few(sorted(self.types.unknown))}")
         if self.too_long:
             report.warn(
                 f"{self.too_long.total()} vehicles are longer than {limits.SIZE} cells of {limits.CELL_METRES} m and "
-                f"take {limits.SIZE}: types {some(sorted(self.too_long))}"
+                f"take {limits.SIZE}: types {first_few(sorted(self.too_long))}"
             )
         if set(self.count) - {1}:
             sizes = ", ".join(f"{count:,} of {size}" for size, count in sorted(self.count.items()))

@@ -1,46 +1,49 @@
-"""Programs of lights that change by the time of day, as SUMO's WAUT has them: read, and as lines of a run with "at".
-All that reads raises Fault, with file and element, where an attribute is absent or cannot be read."""
-from collections import defaultdict
-from collections.abc import Iterator, Mapping, Sequence
+"""Programs of lights by the time of day, as in SUMO's WAUT: read, and as lines of a run with "at". All that reads
+raises Fault, with file and element, where an attribute that it needs is absent, or one cannot be read."""
+from collections.abc import Iterable, Iterator, Mapping
 from dataclasses import replace
-from itertools import count, pairwise, takewhile
+from itertools import count, islice, pairwise, takewhile
+from math import floor
 from xml.etree.ElementTree import Element
 
-from streetsim.base.files import Fault, FilePath, at_least_zero, attribute, seconds, told
-from streetsim.base.report import Report, some
+from streetsim.base.files import Fault, FilePath, at_least_zero, attribute, element_told, optional, seconds
+from streetsim.base.report import Report, first_few
 from streetsim.model.runs import Command
 from streetsim.sumo.losses import Flows
-from streetsim.sumo.net import STATIC, Program, SumoNet, Waut, connections_of
+from streetsim.sumo.net import OFF, Program, SumoNet, Waut, connections_of
 from streetsim.sumo.network import Network
-from streetsim.sumo.signals import AFTER, lit_node, movements_of_junction, signal_lines, turns_at
+from streetsim.sumo.signals import (
+    AFTER, light_of, lit_node, movements_of_junction, signal_lines, turns_at, warn_of_kind,
+)
 
-OFF = "off"  # the program by which SUMO has a light blink
 AT_ONCE = "", "JustSwitch"  # procedures by which a light changes at once
+MOST_SWITCHES = 10_000  # of a WAUT in a run; one each 17 s of a day
 
 Day = list[tuple[int, str]]  # the clocks from which on a light shows a program; the first is that of the run's begin
 
 
 def read_waut(path: FilePath, element: Element, net: SumoNet) -> None:
-    """Keeps a <WAUT> in the network (wauts), its switches by the clock: their times and its refTime. One of the same
-    name is replaced, and its lights are forgotten. Fault where an attribute is absent or cannot be read."""
+    """Keeps a <WAUT> in the network (wauts). Its clocks are refTime and time together, rounded down, within its period,
+    as in SUMO; of two switches at one clock the first counts. Fault where another one has its name."""
     name = attribute(path, element, "id")
-    begin, period = (
-        attribute(path, element, key, at_least_zero(seconds)) if element.get(key) else 0.0
-        for key in ("refTime", "period")
-    )
-    found = element.findall("wautSwitch")
-    changes = [(begin + attribute(path, one, "time", seconds), attribute(path, one, "to")) for one in found]
-    net.wauts[name] = Waut(attribute(path, element, "startProg"), sorted(changes), period)
+    if name in net.wauts:
+        raise Fault(f"{element_told(path, element)}: a second WAUT of this name")
+    begin, period = (optional(path, element, key, at_least_zero(seconds), 0.0) for key in ("refTime", "period"))
+    switches: dict[int, str] = {}
+    for one in element.findall("wautSwitch"):
+        clock = begin + attribute(path, one, "time", seconds)
+        switches.setdefault(floor(clock % period if period else clock), attribute(path, one, "to"))
+    net.wauts[name] = Waut(attribute(path, element, "startProg"), sorted(switches.items()), floor(period))
 
 
 def read_waut_junction(path: FilePath, element: Element, net: SumoNet, report: Report) -> None:
-    """Adds a light to its WAUT in the network. Fault where the network has not this WAUT, read before, or no such
-    light. A procedure other than at once is reported."""
+    """Adds a light to its WAUT in the network. Fault where the network has not this WAUT, read before, or no program of
+    the light. A procedure other than at once is reported."""
     name, light = (attribute(path, element, key) for key in ("wautID", "junctionID"))
     if name not in net.wauts:
-        raise Fault(f"{told(path, element)}: there is no WAUT {name!r} before it")
+        raise Fault(f"{element_told(path, element)}: there is no WAUT {name!r} before it")
     if light not in net.programs:
-        raise Fault(f"{told(path, element)}: the network has no light {light!r}")
+        raise Fault(f"{element_told(path, element)}: the network has no light {light!r}")
     procedure = element.get("procedure", "")
     if procedure not in AT_ONCE:
         report.warn(f"lights of WAUT {name!r} change at once, not by procedure {procedure}", [light])
@@ -49,31 +52,37 @@ def read_waut_junction(path: FilePath, element: Element, net: SumoNet, report: R
 
 def days_of(net: SumoNet, begin: int, last: int, report: Report) -> dict[str, Day]:
     """By light with a WAUT the programs that it shows from the clock begin to last, both included, [(clock, program's
-    name)]; in the network the first then becomes the light's program, and the others stand in earlier. Of several WAUTs
-    of a light the last counts. Lights whose WAUT has them blink (off) keep their program, and are reported. Fault where
-    a light has not a program that its WAUT names."""
+    name)]; in the network the first then becomes the light's program, those that follow stand in changing, all but the
+    first in earlier. Of several WAUTs of a light the last counts. Lights whose WAUT has them blink (off) keep their
+    program, and are reported. Fault where a light has not a program that its WAUT names, or day_of raises one."""
     found: dict[str, Day] = {}
     for name, waut in net.wauts.items():
         for light in waut.lights:
             wanted = {waut.start, *(program for _, program in waut.switches)}
             if OFF in wanted:
-                report.warn(f"WAUT {name!r} does nothing here, as it switches lights off: {some(waut.lights)}", [light])
+                report.warn(
+                    f"WAUT {name!r} does nothing here, as it switches lights off: {first_few(waut.lights)}", [light]
+                )
                 continue
-            known = {one.name: one for one in (*net.earlier.get(light, ()), net.programs[light])}
+            known = {one.name: one for one in net.programs_of(light)}
             if missing := sorted(wanted - known.keys()):
                 raise Fault(f"WAUT {name!r}: light {light!r} has no program {missing[0]!r}")
-            found[light] = day_of(waut, begin, last)
+            found[light] = day_of(name, waut, begin, last)
             first = known[found[light][0][1]]
             net.programs[light], net.earlier[light] = first, [one for one in known.values() if one is not first]
+            net.changing[light] = [known[to] for to in {to: 0 for _, to in found[light]} if known[to] is not first]
     return found
 
 
-def day_of(waut: Waut, begin: int, last: int) -> Day:
-    """The programs of a WAUT from the clock begin to last, both included, [(clock, program's name)], the first at
-    begin; those that follow an equal one are left out."""
-    changes = takewhile(lambda one: one[0] <= last, changes_of(waut, begin))
+def day_of(name: str, waut: Waut, begin: int, last: int) -> Day:
+    """The programs of a WAUT (name) from the clock begin to last, both included, [(clock, program's name)], the first
+    at begin; those that follow an equal one are left out. Fault where it switches more than MOST_SWITCHES times."""
+    switches = list(islice(takewhile(lambda one: one[0] <= last, switches_from(waut, begin)), MOST_SWITCHES + 1))
+    if len(switches) > MOST_SWITCHES:
+        until = f"until {last:,} s, a day after the last departure"
+        raise Fault(f"WAUT {name!r}: more than {MOST_SWITCHES:,} switches {until}")
     found: Day = [(begin, waut.start)]
-    for clock, program in changes:
+    for clock, program in switches:
         if clock <= begin:
             found = [(begin, program)]
         elif program != found[-1][1]:
@@ -81,56 +90,41 @@ def day_of(waut: Waut, begin: int, last: int) -> Day:
     return found
 
 
-def changes_of(waut: Waut, begin: int) -> Iterator[tuple[int, str]]:
-    """The changes of a WAUT, (clock, program), rising within a period, over and over without end where it has a period;
-    those of periods that are over by the clock begin are left out but for the last."""
-    first = max(0, int((begin - waut.switches[-1][0]) // waut.period)) if waut.period and waut.switches else 0
-    for turn in count(first) if waut.period and waut.switches else (0,):
-        for clock, program in waut.switches:
-            yield round(clock + turn * waut.period), program
+def switches_from(waut: Waut, begin: int) -> Iterable[tuple[int, str]]:
+    """The switches of a WAUT, (clock, program), rising, without end where it has a period: of one without a period all,
+    else those from about the clock begin on, the last at begin or before it among them."""
+    if not waut.period or not waut.switches:
+        return waut.switches
+    first = max(0, (begin - waut.switches[-1][0]) // waut.period)
+    return ((clock + turn * waut.period, program) for turn in count(first) for clock, program in waut.switches)
+
+
+def programs_shown(net: SumoNet, days: Mapping[str, Day]) -> Iterator[tuple[str, Program]]:
+    """(light, program) of all programs that lights show from the run's begin on; days: as days_of gives them, of the
+    lights that change."""
+    for light, program in net.programs.items():
+        names = {name for _, name in days.get(light, ())}
+        yield from ((light, one) for one in net.programs_of(light) if one is program or one.name in names)
 
 
 def day_lines(
     net: SumoNet, network: Network, days: Mapping[str, Day], flows: Flows, report: Report
 ) -> list[tuple[str, Command]]:
     """The signal lines, (light, command with "at"), by which lights show the listed seconds of the programs to which
-    they change after the first; days: as days_of gives them; flows: vehicles an hour by (edge, next edge). Fault where
-    each_second or check_states raises one. network.last must be set."""
+    they change after the first, the last until AFTER seconds behind network.last, which must be set; reported as by
+    signal_commands. days: of days_of; flows: vehicles an hour by (edge, next edge). Fault where each_second or
+    check_states raises one."""
     made: list[tuple[str, Command]] = []
-    places, at_junction = turns_at(network), connections_of(net) if days else {}
-    limits_of = {link.edge: link.limit for link in network.links}
-    for light, node, spans in nodes_of(net, network, days, places):
-        for clock, end, program in spans:
-            changed = replace(net, programs={**net.programs, light: program})
-            junction = network.nodes[node]
-            own = junction, at_junction.get(junction, []), changed, flows, limits_of
+    turns = turns_at(network)
+    lights = {node: light_of((turn for *_, turn in own), net) for node, own in turns.items()}
+    at_junction, limits_of = connections_of(net), {link.edge: link.limit for link in network.links}
+    for light, node in sorted((light, node) for node, light in lights.items() if light and light in days):
+        known = {one.name: one for one in net.programs_of(light)}
+        for (clock, name), (end, _) in list(pairwise([*days[light], (network.last + AFTER, "")]))[1:]:
+            changed = replace(net, programs={**net.programs, light: known[name]})
+            own = network.nodes[node], at_junction[network.nodes[node]], changed, flows, limits_of
             found = movements_of_junction(*own) if flows and network.options.permissive is None else {}
-            lit = lit_node(changed, network, node, places[node], light, found, report)
-            lines = signal_lines(lit, clock, end - 1)
-            made += [(light, {"at": clock, **command}) for command in lines]
+            lit = lit_node(changed, network, node, turns[node], light, found, report)
+            made += [(light, {"at": clock, **command}) for command in signal_lines(lit, clock, end - 1)]
+            warn_of_kind(light, known[name], report)
     return made
-
-
-def nodes_of(
-    net: SumoNet, network: Network, days: Mapping[str, Day], places: Mapping[int, Sequence]
-) -> Iterator[tuple[str, int, list[tuple[int, int, Program]]]]:
-    """(light, node, [(clock, clock of the next change, program)] but for the first program) of lights that change, for
-    each node at which the light is the first by name; places: by node its turns, as signals.turns_at gives them. The
-    last program ends AFTER seconds behind network.last."""
-    for light, day in sorted(days.items()):
-        known = {one.name: one for one in (*net.earlier.get(light, ()), net.programs[light])}
-        ends = [*day, (network.last + AFTER, "")]
-        spans = [(clock, end, known[program]) for (clock, program), (end, _) in pairwise(ends)][1:]
-        for node, turns in sorted(places.items()) if spans else ():
-            if min((turn.light for *_, turn in turns if turn.light), default=None) == light:
-                yield light, node, spans
-
-
-def sensing(net: SumoNet, days: Mapping[str, Day]) -> list[str]:
-    """The lights with a WAUT of whose programs, the first and those to which they change, SUMO times one by anything
-    but seconds alone (not static)."""
-    kinds: defaultdict[str, set[str]] = defaultdict(set)
-    for light, day in days.items():
-        names = {program for _, program in day}
-        kinds[light].update(one.kind for one in (*net.earlier.get(light, ()), net.programs[light]) if one.name in names)
-    return [light for light, own in kinds.items() if own - {STATIC}]

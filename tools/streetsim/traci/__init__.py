@@ -1,10 +1,6 @@
-"""TraCI's calls over streetsim: `import streetsim.traci as traci` in place of `import traci`.
-
-`start` takes the words of SUMO's command line, imports the network and its routes as streetsim-import does, and runs
-them with the program that STREETSIM_PROGRAM names, else the one that is installed with the tools. Steps are of one
-second. Calls on the run raise FatalTraCIError where none is under way. What streetsim has nothing for raises NotHere,
-which says what to do instead.
-"""
+"""TraCI's calls over streetsim: `import streetsim.traci as traci` in place of `import traci`. `start` imports as
+streetsim-import does, and runs the program that STREETSIM_PROGRAM names, else the installed one. Calls raise
+FatalTraCIError where no run is under way, and NotHere, which says what to do instead, where they are not here."""
 import sys
 from collections.abc import Sequence
 from types import ModuleType
@@ -40,12 +36,9 @@ def start(
     cmd: Sequence[str], port: object = None, numRetries: object = None, label: str = "default", *_: object,
     **__: object,
 ) -> tuple[int, str]:
-    """Starts a run, by the words of SUMO's command line (the first, SUMO's name, is passed over): -c, or -n, -r and -a,
-    --seed and --begin, the outputs --tripinfo-output, --summary-output, --fcd-output and --queue-output, and the words
-    of streetsim-import (--classes, --dawdle, --joint, ..). label: what getLabel gives; all other arguments have no
-    effect. Warnings of the import, and options of SUMO's that are not done here, are told on standard error. Gives what
-    getVersion gives, as SUMO does; FatalTraCIError where the run cannot start, TraCIException where one is under
-    way."""
+    """Starts a run, by the words of SUMO's command line (the first, SUMO's name, is passed over) and those of
+    streetsim-import. label: what getLabel gives; other arguments have no effect. Warnings go to standard error. Gives
+    what getVersion gives; FatalTraCIError where the run cannot start, TraCIException where one is under way."""
     if _running:
         raise TraCIException("a run is under way: close() it first; there is one at a time")
     try:
@@ -64,27 +57,26 @@ def _now() -> Session:
 
 
 def simulationStep(step: float = 0) -> None:
-    """Makes one step (step 0), or all steps until the clock is at step seconds, rounded up (none where it is there
-    already); then calls the step listeners, once."""
+    """Makes one step (step 0), or all until the clock is at step seconds; then calls the step listeners, once."""
     _now().step(step)
-    _listeners.step(step)
+    _listeners.call_all(step)
 
 
 def close(wait: bool = True) -> None:
-    """Ends the run: output files are written under their names, and all subscriptions, parameters and listeners are
-    forgotten. wait has no effect. FatalTraCIError where no run is under way; ProgramEnded (streetsim.client) where the
-    status of the program is not 0."""
+    """Ends the run: output files get their names; subscriptions, parameters and listeners are forgotten. wait has no
+    effect. FatalTraCIError where no run is under way; ProgramEnded (streetsim.client) where the program failed."""
     session = _now()
-    _running.clear()
-    for domain in _domains:
-        domain.forget()
-    _listeners.clean_up()
-    session.close()
+    try:
+        _listeners.clean_up()
+    finally:
+        _running.clear()
+        for domain in _domains:
+            domain.forget()
+        session.close()
 
 
 def load(args: Sequence[str]) -> None:
-    """Ends the run and starts another one, as close and start do, with the label "default"; args: the words of SUMO's
-    command line without SUMO's name. FatalTraCIError where no run is under way, or the other one cannot start."""
+    """As close and then start, with the label "default"; args: the words without SUMO's name."""
     close()
     start(["sumo", *args])
 
@@ -106,7 +98,7 @@ def getLabel() -> str:
 
 
 def switch(label: str) -> None:
-    """TraCIException where no run of this label is under way; there is one run at a time, so nothing is switched."""
+    """TraCIException where no run of this label is under way; there is one at a time, so nothing is switched."""
     if not _running or label != _label[0]:
         raise TraCIException(f"connection '{label}' is not known.")
 
@@ -118,14 +110,14 @@ def getConnection(label: str = "default") -> ModuleType:
 
 
 def addStepListener(listener: StepListener) -> int | None:
-    """Has listener.step(time) called after each simulationStep, time: that call's argument, as long as it gives True.
-    Gives the listener's number; None where it is no StepListener, which is then not called."""
+    """Has listener.step called with the argument of each simulationStep, as long as it gives True. Tells it its number,
+    and gives it; None where it is no StepListener, which is then not called."""
     _now()
     return _listeners.add(listener)
 
 
 def removeStepListener(listenerID: int) -> bool:
-    """Takes off the listener of a number (listenerID); gives whether there was one."""
+    """Takes off the listener of a number (listenerID), after its cleanUp; gives whether there was one."""
     _now()
     return _listeners.remove(listenerID)
 
@@ -144,17 +136,13 @@ def isLibsumo() -> bool:
     return False
 
 
-def isLibtraci() -> bool:
-    """False: this is neither libsumo nor libtraci."""
-    return False
-
+isLibtraci = isLibsumo
 
 simulation, vehicle, vehicletype, route = Simulation(_now), Vehicle(_now), VehicleType(_now), Route(_now)
 lane, edge, junction, trafficlight = Lane(_now), Edge(_now), Junction(_now), TrafficLight(_now)
 inductionloop, lanearea = InductionLoop(_now), LaneArea(_now)
 gui, poi, polygon = Quiet("gui", GUI), Quiet("poi", SHAPES), Quiet("polygon", SHAPES)
-_domains: tuple[Domain | Quiet, ...]
-_domains = (
+_domains: tuple[Domain | Quiet, ...] = (
     simulation, vehicle, vehicletype, route, lane, edge, junction, trafficlight, inductionloop, lanearea, gui, poi,
     polygon,
 )

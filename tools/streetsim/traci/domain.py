@@ -17,20 +17,20 @@ class Domain(Calls[Session]):
 
     kind = "Object"
     variables: Mapping[int, str] = {}  # the calls that tell them
-    first: tuple[int, ...] = ()  # that are subscribed to where none is told
+    usual: tuple[int, ...] = ()  # that are subscribed to where none is told
 
     def __init__(self, now: Callable[[], Session]) -> None:
         """now: gives the session; FatalTraCIError where no run is under way."""
         super().__init__(now)
         self.subscribed: dict[str, tuple[int, ...]] = {}  # variables by object
         self.around: dict[str, tuple[float, tuple[int, ...]]] = {}  # by object: metres, and variables of the vehicles
-        self.parameters: dict[tuple[str, str], Any] = {}  # that scripts keep, by object and key
+        self.parameters: dict[tuple[str, str], str] = {}  # that scripts keep, by object and key
 
     def advice(self, called: str) -> str:
         """What is said of a call of this domain that is not here; called: "domain.call"."""
         return advice_on(called)
 
-    def check(self, name: str, names: Container[str]) -> None:
+    def check_known(self, name: str, names: Container[str]) -> None:
         """TraCIException where a name is not one of names."""
         if name not in names:
             raise TraCIException(f"{self.kind} '{name}' is not known.")
@@ -42,24 +42,23 @@ class Domain(Calls[Session]):
     # Parameters that a script keeps with an object
 
     def setParameter(self, objectID: str, param: str, value: object) -> None:
-        """Keeps a value, as text, under a key (param); only getParameter reads it, and getColor of a vehicle the key
-        color. TraCIException for an unknown object, NotHere for keys of SUMO's models."""
+        """Keeps a text under a key (param), for getParameter. TraCIException for an unknown object, NotHere for keys of
+        SUMO's models."""
         self.check_key(objectID, param)
         self.parameters[objectID, param] = str(value)
 
     def getParameter(self, objectID: str, param: str) -> str:
-        """The text that was kept under a key (param); empty where none was. TraCIException for an unknown object,
-        NotHere for keys of SUMO's models."""
+        """The text that was kept under a key (param), else empty; raises as setParameter does."""
         self.check_key(objectID, param)
         return self.parameters.get((objectID, param), "")
 
     def getParameterWithKey(self, objectID: str, key: str) -> tuple[str, str]:
-        """(key, the text that was kept under it); raises as getParameter does."""
+        """(key, what getParameter gives for it)."""
         return key, self.getParameter(objectID, key)
 
     def check_key(self, name: str, key: str) -> None:
         """TraCIException for an unknown object; NotHere for a key of a model of SUMO's that is not here."""
-        self.check(name, self.subjects())
+        self.check_known(name, self.subjects())
         if key.startswith(("device.", "has.", "laneChangeModel.", "carFollowModel.", "junctionModel.", "parking.")):
             raise NotHere(f"{self.name}: parameter {key!r} is of a model of SUMO's that is not here")
 
@@ -68,17 +67,14 @@ class Domain(Calls[Session]):
     def subscribe(
         self, name: str, varIDs: Sequence[int] | None = None, begin: object = None, end: object = None
     ) -> None:
-        """Has variables of an object, by number, told by getSubscriptionResults from now on, in place of those of an
-        earlier subscription; None: those that SUMO tells by default. begin and end have no effect. TraCIException for
-        an unknown object, NotHere for a variable that cannot be told."""
-        self.check(name, self.subjects())
-        self.note(name, varIDs)
+        """Has variables of an object, by number (None: SUMO's usual ones), and no others told from now on. begin and
+        end have no effect. TraCIException for an unknown object, NotHere for a variable that cannot be told."""
+        self.check_known(name, self.subjects())
+        self.note_subscription(name, varIDs)
 
-    def note(self, name: str, numbers: Sequence[int] | None) -> None:
-        """Subscribes an object, whose name is not checked, to the variables of these numbers; None: those that SUMO
-        tells by default. From now on the run is looked at after each step. NotHere for a variable that cannot be
-        subscribed to."""
-        variables = tuple(self.first if numbers is None else numbers)
+    def note_subscription(self, name: str, numbers: Sequence[int] | None) -> None:
+        """As subscribe, of an object whose name was checked; from now on the run is looked at after each step."""
+        variables = tuple(self.usual if numbers is None else numbers)
         self.check_variables(variables)
         self.now().follow()
         self.subscribed[name] = variables
@@ -97,53 +93,44 @@ class Domain(Calls[Session]):
         return self.getIDList()
 
     def getSubscriptionResults(self, name: str) -> Values:
-        """The values that were subscribed to, as they are now, by the variables' numbers; empty where the object is
-        gone or was not subscribed to."""
+        """What was subscribed to, as it is now, by number of the variable; empty where the object is gone."""
         if name not in self.subscribed or name not in self.subjects():
             return {}
-        return self.values(name, self.subscribed[name])
+        return self.variable_values(name, self.subscribed[name])
 
-    def values(self, name: str, variables: Iterable[int]) -> Values:
-        """{number: what the call of that variable gives now for an object}; variables: numbers that `check_variables`
-        lets pass."""
+    def variable_values(self, name: str, variables: Iterable[int]) -> Values:
+        """{number of a variable: what its call gives for an object}; check_variables must let them pass."""
         return {variable: getattr(self, self.variables[variable])(name) for variable in variables}
 
     def getAllSubscriptionResults(self) -> dict[str, Values]:
-        """By object, of those that are there, the values that were subscribed to, by the variables' numbers."""
+        """By object, of those that are there, what getSubscriptionResults gives."""
         there = set(self.subjects())
-        return {name: self.getSubscriptionResults(name) for name in self.subscribed if name in there}
+        return {name: self.variable_values(name, self.subscribed[name]) for name in self.subscribed if name in there}
 
     def forget(self) -> None:
-        """Forgets subscriptions and parameters, at the end of a run."""
+        """Forgets subscriptions and what scripts keep, at the end of a run."""
         self.subscribed.clear()
         self.around.clear()
         self.parameters.clear()
 
 
-class Placed(Domain):
-    """Objects that have a place, around which vehicles can be looked for."""
+class Outlined(Domain):
+    """Objects with an outline, around which vehicles can be looked for."""
 
     vehicles: Domain  # that are looked for; the package sets it
 
     def outline(self, name: str) -> Line:
-        """The line from which distances to the object are measured: points (x, y), in metres, or its one point. Each
-        class below gives its own; NotImplementedError here."""
+        """Points (x, y), one or a line, in metres, from which distances are measured; each class has its own."""
         raise NotImplementedError
 
     def subscribeContext(
-        self,
-        objectID: str,
-        domain: int,
-        dist: float,
-        varIDs: Sequence[int] | None = None,
-        begin: object = None,
+        self, objectID: str, domain: int, dist: float, varIDs: Sequence[int] | None = None, begin: object = None,
         end: object = None,
-    ) -> None:
-        """Has variables of all vehicles told, from now on, that are at most dist metres from the object, in place of an
-        earlier context subscription. domain: must be that of vehicles (CMD_GET_VEHICLE_VARIABLE); varIDs: numbers,
-        None: edge and metres on the lane; begin and end have no effect. TraCIException for an unknown object; NotHere
-        for another domain, or a variable that vehicles do not tell."""
-        self.check(objectID, self.subjects())
+    ) -> None:  # fmt: skip
+        """Has variables of all vehicles at most dist metres from the object told from now on, and no others. domain:
+        that of vehicles (CMD_GET_VEHICLE_VARIABLE); varIDs: numbers, None: edge and metres on the lane; begin and end
+        have no effect. TraCIException for an unknown object; NotHere for another domain or variable."""
+        self.check_known(objectID, self.subjects())
         if domain != tc.CMD_GET_VEHICLE_VARIABLE:
             raise NotHere(f"{self.name}.subscribeContext: of domain {domain:#x} nothing is looked for, but of vehicles")
         variables = tuple((tc.VAR_ROAD_ID, tc.VAR_LANEPOSITION) if varIDs is None else varIDs)
@@ -156,14 +143,13 @@ class Placed(Domain):
         self.around.pop(objectID, None)
 
     def getContextSubscriptionResults(self, objectID: str) -> dict[str, Values]:
-        """By vehicle near the object the values that were subscribed to, by the variables' numbers; empty where the
-        object is gone or has no context subscription."""
+        """By vehicle near the object what was subscribed to, by number; empty where the object is gone."""
         if objectID not in self.around or objectID not in self.subjects():
             return {}
         metres, variables = self.around[objectID]
         line = self.outline(objectID)
         near = (name for name in self.vehicles.getIDList() if distance(self.vehicles.getPosition(name), line) <= metres)
-        return {name: self.vehicles.values(name, variables) for name in near}
+        return {name: self.vehicles.variable_values(name, variables) for name in near}
 
     def getAllContextSubscriptionResults(self) -> dict[str, dict[str, Values]]:
         """By object, of those that are there, what getContextSubscriptionResults gives."""

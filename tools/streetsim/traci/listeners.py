@@ -4,13 +4,11 @@ class StepListener:
     """Is called after each simulationStep. Scripts derive their own class from it, as with SUMO's traci."""
 
     def step(self, t: float = 0) -> bool:
-        """Is called after a simulationStep; t: that call's argument. Gives whether to be called again: False takes the
-        listener off."""
+        """t: the argument of simulationStep. Gives whether to be called again: False takes the listener off."""
         return True
 
     def cleanUp(self) -> None:
-        """Is called at the end of the run, where the listener was not taken off before. Calls on the run raise
-        FatalTraCIError by then."""
+        """Is called before the listener is taken off, at the latest before the run ends."""
 
     def setID(self, ID: int) -> None:
         """Sets the listener's number, as addStepListener does."""
@@ -25,32 +23,35 @@ class Listeners:
     """The listeners of a run, by number."""
 
     def __init__(self) -> None:
-        """None yet; numbers begin with 1."""
+        """None yet; numbers begin with 0, as in SUMO."""
         self.made = 0
         self.here: dict[int, StepListener] = {}
 
     def add(self, listener: StepListener) -> int | None:
-        """Adds a listener; gives its number, None where it is no StepListener (it is then not added)."""
+        """Adds a listener, and tells it its number (setID), which is given; None where it is no StepListener, which is
+        not added."""
         if not isinstance(listener, StepListener):
             return None
-        self.made += 1
-        listener.setID(self.made)
-        self.here[self.made] = listener
-        return self.made
+        number, self.made = self.made, self.made + 1
+        listener.setID(number)
+        self.here[number] = listener
+        return number
 
     def remove(self, number: int) -> bool:
-        """Takes off the listener of a number; gives whether there was one."""
-        return self.here.pop(number, None) is not None
+        """Takes off the listener of a number, after its cleanUp; gives whether there was one."""
+        listener = self.here.pop(number, None)
+        if listener is None:
+            return False
+        listener.cleanUp()
+        return True
 
-    def step(self, time: float) -> None:
-        """Calls all listeners, and takes off those that give False; time: the argument of simulationStep."""
-        for number, listener in list(self.here.items()):
-            if not listener.step(time):
-                self.here.pop(number, None)
+    def call_all(self, time: float) -> None:
+        """Calls all listeners, and then takes off those that gave False; time: the argument of simulationStep."""
+        for number in [number for number, listener in list(self.here.items()) if not listener.step(time)]:
+            self.remove(number)
 
     def clean_up(self) -> None:
-        """Calls cleanUp of all listeners, and forgets them."""
-        for listener in self.here.values():
+        """Forgets all listeners, and calls cleanUp of each."""
+        here, self.made, self.here = self.here, 0, {}
+        for listener in here.values():
             listener.cleanUp()
-        self.made = 0
-        self.here.clear()

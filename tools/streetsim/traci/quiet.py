@@ -1,5 +1,4 @@
-"""Calls that only change what a window shows. There is no window: they do nothing,
-and the first of each domain says so."""
+"""Calls that only change what a window shows. There is none: they do nothing, and the first of each domain says so."""
 import sys
 from collections.abc import Callable
 
@@ -17,8 +16,7 @@ class Quiet:
         self.name, self.calls, self.told = name, calls, False
 
     def __getattr__(self, call: str) -> Callable[..., None]:
-        """A call that does nothing, where it is one of the domain's; NotHere for others, AttributeError for a name that
-        begins with two underscores."""
+        """A call that does nothing; NotHere for those of other names, AttributeError for Python's own."""
         if call.startswith("__"):
             raise AttributeError(call)
         if call not in self.calls:
@@ -40,7 +38,7 @@ GUI = (
     "setAngle", "setBoundary", "setOffset", "setSchema", "setZoom", "toggleSelection", "track", "trackVehicle",
     "addView", "removeView",
 )
-SHAPES: tuple[str, ...] = (
+SHAPES = (
     "add", "highlight", "remove", "setAngle", "setColor", "setFilled", "setHeight", "setImageFile", "setLineWidth",
+    "setPosition", "setShape", "setType", "setWidth",
 )
-SHAPES += ("setPosition", "setShape", "setType", "setWidth")

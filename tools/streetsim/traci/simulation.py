@@ -5,7 +5,7 @@ from dataclasses import dataclass
 from math import hypot
 
 from streetsim.base.files import seconds
-from streetsim.base.shapes import Point, along, nearest
+from streetsim.base.shapes import Point, lengths, nearest, point_along
 from streetsim.simulation.calls import SimulationCalls
 from streetsim.simulation.errors import NotHere, TraCIException
 from streetsim.simulation.saving import load_state, save_state
@@ -17,7 +17,7 @@ from streetsim.traci.domain import Domain, Values
 
 @dataclass
 class Stage:
-    """A part of a way, as SUMO's scripts read it: seconds and metres; SUMO's value for "none" in what is not told."""
+    """A part of a way, as SUMO's scripts read it: seconds and metres; SUMO's value for "none" where nothing is told."""
 
     type: int = tc.INVALID_INT_VALUE
     vType: str = ""
@@ -35,7 +35,7 @@ class Stage:
 
 
 class Simulation(Domain, SimulationCalls[Session]):
-    """As SUMO's traci.simulation: seconds, metres; counts and lists are of the steps of the last simulationStep. Who
+    """As SUMO's traci.simulation: seconds, metres; lists and counts are of the steps of the last simulationStep. Who
     departed and arrived is known from the first call on that looks at vehicles."""
 
     kind, name = "Simulation", "simulation"
@@ -46,10 +46,10 @@ class Simulation(Domain, SimulationCalls[Session]):
         tc.VAR_ARRIVED_VEHICLES_IDS: "getArrivedIDList", tc.VAR_MIN_EXPECTED_VEHICLES: "getMinExpectedNumber",
         tc.VAR_PENDING_VEHICLES: "getPendingVehicles",
     }
-    first = (tc.VAR_DEPARTED_VEHICLES_IDS,)
+    usual = (tc.VAR_DEPARTED_VEHICLES_IDS,)
 
     def subjects(self) -> tuple[str, ...]:
-        """The names that can be subscribed to: an empty one, as the one simulation has no name."""
+        """The empty name that the one simulation has."""
         return ("",)
 
     # Time and vehicles
@@ -63,8 +63,7 @@ class Simulation(Domain, SimulationCalls[Session]):
         return 1.0
 
     def getEndTime(self) -> float:
-        """The end that the command's words or the configuration name, seconds; it ends nothing under a script. -1 where
-        they name none; ValueError where theirs is no time."""
+        """The end that the words or the configuration name, seconds, and which ends nothing here; -1 without one."""
         return seconds(self.now().options.get("end", "-1"))
 
     def getScale(self) -> float:
@@ -72,15 +71,13 @@ class Simulation(Domain, SimulationCalls[Session]):
         return 1.0
 
     def getOption(self, option: str) -> str:
-        """What the words or the configuration say of an option of SUMO's, as text; option: its long name without "--",
-        as net-file. TraCIException where they do not name it."""
+        """The text of an option that was given, by its long name without "--"; TraCIException for those left out."""
         if option not in self.now().options:
             raise TraCIException(f"Option '{option}' was not given.")
         return self.now().options[option]
 
     def getLoadedIDList(self) -> tuple[str, ...]:
-        """The vehicles of the files that would depart in the steps of the last simulationStep, and those that the
-        script has added since; not those that it added before."""
+        """The vehicles of the files that would depart in the last steps, and those that the script has added since."""
         return tuple(self.now().loaded)
 
     def getLoadedNumber(self) -> int:
@@ -88,8 +85,7 @@ class Simulation(Domain, SimulationCalls[Session]):
         return len(self.now().loaded)
 
     def getDepartedIDList(self) -> tuple[str, ...]:
-        """The vehicles that departed in the steps of the last simulationStep; of steps before the first look, in the
-        last one alone."""
+        """The vehicles that departed; before the first look at vehicles those of the last step alone."""
         return tuple(self.now().follow().departed)
 
     def getDepartedNumber(self) -> int:
@@ -97,7 +93,7 @@ class Simulation(Domain, SimulationCalls[Session]):
         return len(self.now().follow().departed)
 
     def getArrivedIDList(self) -> tuple[str, ...]:
-        """The vehicles that arrived in the steps of the last simulationStep, as far as these were looked at."""
+        """The vehicles that arrived, as far as steps were looked at."""
         return tuple(self.now().follow().arrived)
 
     def getArrivedNumber(self) -> int:
@@ -109,24 +105,22 @@ class Simulation(Domain, SimulationCalls[Session]):
         session = self.now().follow()
         return tuple(session.fleet.names[car] for car in session.view.waiting_to_depart())
 
-    def none(self) -> int:
-        """0, which the calls below give: under a script nobody is moved away, and there are no collisions, emergency
-        stops, parking, stops or persons."""
+    def zero(self) -> int:
+        """0, as nobody is moved away, collides, stops, parks or walks under a script."""
         return 0
 
-    def nobody(self) -> tuple[str, ...]:
-        """An empty tuple, which the calls below give: none of the vehicles or persons that SUMO would name there can
-        exist under a script."""
+    def no_names(self) -> tuple[str, ...]:
+        """An empty tuple, as `zero`."""
         return ()
 
-    getStartingTeleportNumber = getEndingTeleportNumber = getCollidingVehiclesNumber = none
-    getEmergencyStoppingVehiclesNumber = getStopStartingVehiclesNumber = getStopEndingVehiclesNumber = none
-    getParkingStartingVehiclesNumber = getParkingEndingVehiclesNumber = none
-    getDepartedPersonNumber = getArrivedPersonNumber = none
-    getStartingTeleportIDList = getEndingTeleportIDList = getCollidingVehiclesIDList = getCollisions = nobody
-    getEmergencyStoppingVehiclesIDList = getStopStartingVehiclesIDList = getStopEndingVehiclesIDList = nobody
-    getParkingStartingVehiclesIDList = getParkingEndingVehiclesIDList = nobody
-    getDepartedPersonIDList = getArrivedPersonIDList = nobody
+    getStartingTeleportNumber = getEndingTeleportNumber = getCollidingVehiclesNumber = zero
+    getEmergencyStoppingVehiclesNumber = getStopStartingVehiclesNumber = getStopEndingVehiclesNumber = zero
+    getParkingStartingVehiclesNumber = getParkingEndingVehiclesNumber = zero
+    getDepartedPersonNumber = getArrivedPersonNumber = zero
+    getStartingTeleportIDList = getEndingTeleportIDList = getCollidingVehiclesIDList = getCollisions = no_names
+    getEmergencyStoppingVehiclesIDList = getStopStartingVehiclesIDList = getStopEndingVehiclesIDList = no_names
+    getParkingStartingVehiclesIDList = getParkingEndingVehiclesIDList = no_names
+    getDepartedPersonIDList = getArrivedPersonIDList = no_names
 
     # Places and ways
 
@@ -135,38 +129,40 @@ class Simulation(Domain, SimulationCalls[Session]):
         return self.now().facts.boundary
 
     def convert2D(self, edgeID: str, pos: float, laneIndex: int = 0, toGeo: bool = False) -> Point:
-        """The point (x, y) in metres of a place on a lane, by edge and laneIndex; pos: metres from its begin, those
-        beyond the lane count as its ends. TraCIException for a lane that the import does not have, NotHere for degrees
-        (toGeo)."""
+        """The point (x, y) in metres of a place on a lane; pos: metres from its begin. TraCIException where there is no
+        such lane or place, NotHere for degrees (toGeo)."""
         if toGeo:
             raise NotHere("simulation.convert2D: degrees are not here; streetsim-export writes them")
-        lane = self.lane(edgeID, laneIndex)
-        return along(lane.shape, min(1.0, max(0.0, pos / lane.metres)))
+        lane = self.lane_with(edgeID, pos, laneIndex)
+        return point_along(lane.shape, pos / lane.metres)
 
     def convertRoad(self, x: float, y: float, isGeo: bool = False, vClass: str = "ignoring") -> tuple[str, float, int]:
-        """(edge, metres from its begin, index of the lane) of the place on any lane that is nearest to a point (x, y)
-        in metres. The metres are along the lane's shape, and not brought to its length where that is another one, as
-        those of convert2D are. NotHere for degrees (isGeo); vClass has no effect."""
+        """(edge, metres from its begin, index of the lane) of the place on any lane that is nearest to a point (x, y).
+        NotHere for degrees (isGeo); vClass has no effect."""
         if isGeo:
             raise NotHere("simulation.convertRoad: degrees are not here")
         session = self.now()
         shapes = {name: session.facts.lanes[name].shape for name in session.lane_of}
         lane = min(shapes, key=lambda name: nearest((x, y), shapes[name])[0])
         edge, _, index = lane.rpartition("_")
-        return edge, nearest((x, y), shapes[lane])[1], int(index)
+        metres, drawn = session.facts.lanes[lane].metres, sum(lengths(shapes[lane])) or 1
+        return edge, min(metres, nearest((x, y), shapes[lane])[1] * metres / drawn), int(index)
 
-    def lane(self, edge: str, index: int) -> LaneFacts:
-        """What the network's file says of a lane, by its edge and index; TraCIException where the import has no such
-        lane."""
-        self.check(f"{edge}_{index}", self.now().lane_of)
-        return self.now().facts.lanes[f"{edge}_{index}"]
+    def lane_with(self, edge: str, pos: float, index: int = 0) -> LaneFacts:
+        """What the network's file says of a lane; TraCIException if that is not imported, or pos (metres) not on it."""
+        name = f"{edge}_{index}"
+        if name not in self.now().lane_of:
+            raise TraCIException(f"Lane '{name}' is not known.")
+        lane = self.now().facts.lanes[name]
+        if not 0 <= pos <= lane.metres:
+            raise TraCIException(f"Lane '{name}' has {lane.metres:g} m, and no place at {pos:g} m.")
+        return lane
 
     def getDistance2D(
         self, x1: float, y1: float, x2: float, y2: float, isGeo: bool = False, isDriving: bool = False
     ) -> float:
-        """Metres between two points, given in metres: in a straight line, or (isDriving) as getDistanceRoad has it
-        between the places on the road that are nearest to them; TraCIException where there is no way. NotHere for
-        degrees (isGeo)."""
+        """Metres between two points in a straight line, or (isDriving) as of getDistanceRoad between the places on
+        roads that are nearest to them. NotHere for degrees (isGeo)."""
         if isGeo:
             raise NotHere("simulation.getDistance2D: degrees are not here")
         if not isDriving:
@@ -175,39 +171,38 @@ class Simulation(Domain, SimulationCalls[Session]):
         return self.getDistanceRoad(edge1, pos1, edge2, pos2, True)
 
     def getDistanceRoad(self, edgeID1: str, pos1: float, edgeID2: str, pos2: float, isDriving: bool = False) -> float:
-        """Metres between two places on edges; pos1, pos2: metres from their begins, on the lanes of index 0. In a
-        straight line, or (isDriving) on the shortest way, through its junctions; on one and the same edge pos2 less
-        pos1, also below 0. TraCIException where there is no way, or the import does not have such a lane."""
+        """Metres between two places on edges, metres (pos1, pos2) from the begins of their lanes 0: in a straight line,
+        or (isDriving) on the shortest way, through its junctions, back along an edge by the way round. TraCIException
+        where there is no way (in SUMO "nowhere"), or no such lane or place."""
         if not isDriving:
             return self.getDistance2D(*self.convert2D(edgeID1, pos1), *self.convert2D(edgeID2, pos2))
+        self.lane_with(edgeID1, pos1)
+        last = self.lane_with(edgeID2, pos2)
         if edgeID1 == edgeID2 and pos1 <= pos2:
             return float(pos2 - pos1)
-        return self.now().router().metres(edgeID1, edgeID2) - pos1 - (self.lane(edgeID2, 0).metres - pos2)
+        return self.now().followed_ways().shortest_metres(edgeID1, edgeID2) - pos1 - (last.metres - pos2)
 
     def findRoute(
         self, fromEdge: str, toEdge: str, vType: str = "", depart: float = -1.0, routingMode: int = 0
     ) -> Stage:
-        """The way between two edges that is quickest by the present travel times, or those of edge.adaptTraveltime, as
-        a Stage (edges, seconds, metres); TraCIException where there is none, or an edge is unknown. vType is only noted
-        in the Stage; depart and routingMode have no effect."""
+        """The way between two edges that is quickest now, with the times of edge.adaptTraveltime; TraCIException where
+        there is none (in SUMO an empty Stage). vType is only noted in it; depart and routingMode have no effect."""
         session = self.now()
-        links, seconds = session.router().way(fromEdge, toEdge)
-        edges = session.edges(links)
-        metres = sum(session.map.links[link].metres for link in links) + session.inside.along(links)
+        links, seconds = session.followed_ways().quickest_path(fromEdge, toEdge)
+        edges = session.edge_names(links)
+        metres = sum(session.map.links[link].metres for link in links) + session.inside.metres_along(links)
         return Stage(tc.STAGE_DRIVING, vType, edges=edges, travelTime=seconds, cost=seconds, length=metres)
 
     # States
 
     def saveState(self, fileName: str) -> None:
-        """Writes the state to a file of streetsim's own form, which loadState reads; Fault (streetsim.files) where it
-        cannot be written. Merging before works begins anew from here, and each step is looked at from now on. Routes
-        and programs of lights that the script added, and travel times and parameters that it set, are not in the
-        file."""
+        """Writes the state to a file, without parameters, colours and subscriptions; Fault (streetsim.files) where that
+        fails. Merging before works begins anew from here, and each step is looked at from now on."""
         save_state(self.now(), fileName)
 
     def loadState(self, fileName: str) -> None:
-        """Brings the run to a state that saveState wrote in a run of the same files and words; TraCIException where the
-        file cannot be read or is of another run, or while output files are being written."""
+        """Brings the run to a state that saveState wrote in a run of the same files and words; TraCIException for other
+        files, and while output files are being written; Fault (streetsim.files) for a file that was changed since."""
         load_state(self.now(), fileName)
 
     def writeMessage(self, msg: str) -> None:
@@ -219,21 +214,19 @@ class Simulation(Domain, SimulationCalls[Session]):
     def subscribe(  # type: ignore[override]  # there is one simulation, which has no name
         self, varIDs: Sequence[int] | None = None, begin: object = None, end: object = None
     ) -> None:
-        """Has variables of the simulation, by number, told from now on; None: those that SUMO tells by default. begin
-        and end have no effect. NotHere for a variable that cannot be told."""
-        self.note("", varIDs)
+        """As of other domains, without a name."""
+        self.note_subscription("", varIDs)
 
     def unsubscribe(self) -> None:  # type: ignore[override]
         """Ends the subscription to the simulation."""
         self.subscribed.clear()
 
     def getSubscriptionResults(self) -> Values:  # type: ignore[override]
-        """The values that were subscribed to, as they are now, by the variables' numbers; empty without a
-        subscription."""
+        """What was subscribed to, as it is now, by the variables' numbers; empty without a subscription."""
         return {variable: getattr(self, self.variables[variable])() for variable in self.subscribed.get("", ())}
 
     def getAllSubscriptionResults(self) -> dict[str, Values]:
-        """What getSubscriptionResults gives, under the simulation's empty name; empty without a subscription."""
+        """What getSubscriptionResults gives, under an empty name; empty without a subscription."""
         return {"": self.getSubscriptionResults()} if self.subscribed else {}
 
 
@@ -242,27 +235,26 @@ class Route(Domain):
 
     kind, name = "Route", "route"
     variables = {tc.VAR_EDGES: "getEdges"}
-    first = (tc.VAR_EDGES,)
+    usual = (tc.VAR_EDGES,)
 
     def getIDList(self) -> tuple[str, ...]:
         """The routes of the files that have a name, and those that route.add named."""
         return tuple(dict.fromkeys((*self.now().facts.routes, *self.now().routes)))
 
     def add(self, name: str, edges: Iterable[str]) -> None:
-        """Names a route along edges; TraCIException where the name is taken, an edge is unknown, or two edges have no
-        connection."""
+        """Names a route along edges; TraCIException where the name is taken, or they are unknown or not connected."""
         session = self.now()
         if name in session.routes or name in session.facts.routes:
             raise TraCIException(f"Route '{name}' exists already.")
         try:
-            session.routes[name] = session.connections.plan(list(edges))
+            session.routes[name] = session.connections.plan_along(list(edges))
         except ValueError as fault:
             raise TraCIException(f"Route '{name}': {fault}") from None
 
     def getEdges(self, name: str) -> tuple[str, ...]:
         """The edges of a route; TraCIException for an unknown name."""
-        self.check(name, self.getIDList())
+        self.check_known(name, self.getIDList())
         session = self.now()
         if name in session.facts.routes:
             return session.facts.routes[name]
-        return session.edges(session.routes[name])
+        return session.edge_names(session.routes[name])

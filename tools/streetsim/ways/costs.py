@@ -17,15 +17,14 @@ SHARES = [(part + 0.5) / PARTS - 0.5 for part in range(PARTS)]  # of a slice, fr
 @dataclass(slots=True)
 class Observed:
     """What one run showed: for each movement in each slice of time the seconds of all vehicles together, and how many
-    they were, at place movement * slices + slice."""
+    they were, at index movement * slices + slice."""
 
     slices: int
     seconds: array
     counts: array
 
     def add(self, movement: int, slice_: int, seconds: float) -> None:
-        """Adds a vehicle that took so many seconds for a movement which it began in a slice; slices after the last
-        count as the last."""
+        """Adds a vehicle, its seconds for a movement that it began in a slice; later slices count as the last."""
         place = movement * self.slices + min(slice_, self.slices - 1)
         self.seconds[place] += seconds
         self.counts[place] += 1
@@ -33,15 +32,12 @@ class Observed:
 
 def nothing_observed(movements: int, slices: int) -> Observed:
     """An Observed with nothing in it, for so many movements and slices."""
-    zeros = array("d", [0.0]) * (movements * slices)
-    return Observed(slices, zeros, array(zeros.typecode, zeros))
+    seconds, counts = (array("d", [0.0]) * (movements * slices) for _ in range(2))
+    return Observed(slices, seconds, counts)
 
 
-def mean_of(runs: Sequence[Observed]) -> Observed:
-    """The mean of what some runs of equal slices showed, one at least, where counts need not be whole; of one run its
-    Observed itself, no copy."""
-    if len(runs) == 1:
-        return runs[0]
+def mean_observed(runs: Sequence[Observed]) -> Observed:
+    """The mean of what some runs of equal slices showed, one at least, where counts need not be whole."""
     seconds, counts = (
         array("d", [sum(values) / len(runs) for values in zip(*(getattr(run, name) for run in runs), strict=True)])
         for name in ("seconds", "counts")
@@ -51,17 +47,16 @@ def mean_of(runs: Sequence[Observed]) -> Observed:
 
 @dataclass(slots=True)
 class Costs:
-    """The seconds of movements by time: for each its mean in each slice, or one number that is the same at all
-    times."""
+    """The seconds of movements by time: the mean of each in each slice, or one number for all times."""
 
-    width: float  # seconds of a slice
+    slice_seconds: float
     slices: int
     means: list[float | array]
 
     @property
-    def part(self) -> float:
+    def part_seconds(self) -> float:
         """The seconds for which a cost is constant."""
-        return self.width / PARTS
+        return self.slice_seconds / PARTS
 
     def row(self, movement: int) -> array:
         """The seconds of a movement in each part of all slices: from the middle of a slice to the middle of the next
@@ -89,7 +84,7 @@ class Table:
         """costs: of all movements of a graph."""
         self.costs = costs
         self.rows: list[array | None] = [None] * len(costs.means)
-        self.inverse, self.last = 1 / costs.part, PARTS * costs.slices - 1
+        self.inverse, self.last = 1 / costs.part_seconds, PARTS * costs.slices - 1
 
     def row(self, movement: int) -> array:
         """The seconds of a movement in each part of all slices; made at the first call."""
@@ -101,10 +96,7 @@ class Table:
     def at(self, movement: int, clock: float) -> float:
         """The seconds of a movement that begins at a clock (seconds from 0, where the first slice begins); after the
         last slice those of its last part."""
-        row, part = self.rows[movement], int(clock * self.inverse)
-        if row is None:
-            row = self.row(movement)
-        return row[part if part < self.last else self.last]
+        return self.row(movement)[min(self.last, int(clock * self.inverse))]
 
 
 def costs_of(
@@ -112,10 +104,9 @@ def costs_of(
 ) -> Costs:
     """The costs that follow from what was observed. free: seconds of each movement without traffic; width: seconds of a
     slice; minor: who gives way, None: nobody. A movement has its free seconds, TURN_BACK more where it turns back, and
-    the mean delay of its vehicles in a slice, together with AS_MOVEMENT further ones that have the mean of its edge, or
-    the wait of those who give way where that is more. A movement of an edge that no vehicle was seen on, and that gives
-    way to nobody, costs the same at all times. Costs are half the free seconds at least, and fall by FALL seconds a
-    second at most."""
+    the mean delay of its vehicles in a slice, together with AS_MOVEMENT further ones with the mean of its edge, or the
+    wait of who gives way if more. Where no vehicle was seen on an edge, a movement that gives way to nobody costs the
+    same at all times. Costs are half the free seconds at least, and fall by FALL seconds a second at most."""
     slices, counts = observed.slices, observed.counts
     delays = array("d", [
         seconds - counts[place] * free[place // slices] for place, seconds in enumerate(observed.seconds)
@@ -124,7 +115,7 @@ def costs_of(
     seen = [any(edge_counts[edge * slices : (edge + 1) * slices]) for edge in range(len(graph.edges))]
     means: list[float | array] = []
     for movement, (edge, _) in enumerate(graph.movements):
-        base = free[movement] + (TURN_BACK if graph.turns_back[movement] else 0.0)
+        base = free[movement] + TURN_BACK * graph.turns_back[movement]
         waits = minor is not None and movement in minor.foes
         if not seen[edge] and not waits:
             means.append(base)
@@ -143,8 +134,7 @@ def costs_of(
 
 
 def edge_sums(graph: Graph, slices: int, values: array) -> array:
-    """The sums over the movements of each edge, at place edge * slices + slice; values: at place movement * slices +
-    slice."""
+    """Sums over each edge's movements, at index edge * slices + slice; values: at movement * slices + slice."""
     sums = array("d", [0.0]) * (len(graph.edges) * slices)
     for movement, (edge, _) in enumerate(graph.movements):
         for slice_ in range(slices):
@@ -154,8 +144,5 @@ def edge_sums(graph: Graph, slices: int, values: array) -> array:
 
 def flat_costs(graph: Graph, seconds: Sequence[float]) -> Costs:
     """Costs that are the same at all times; seconds: of each movement. Turning back costs TURN_BACK more."""
-    return Costs(
-        float("inf"),
-        1,
-        [value + (TURN_BACK if back else 0.0) for value, back in zip(seconds, graph.turns_back, strict=True)],
-    )
+    means = [value + TURN_BACK * back for value, back in zip(seconds, graph.turns_back, strict=True)]
+    return Costs(float("inf"), 1, [*means])

@@ -6,7 +6,7 @@ from streetsim.model.mapping import Map
 from streetsim.sumo.converting import map_of
 from streetsim.sumo.net import SumoNet
 from streetsim.sumo.network import Network, Options
-from streetsim.sumo.signals import signals
+from streetsim.sumo.signals import signal_commands
 from streetsim.ways.graph import Graph
 from streetsim.ways.seconds import capacities, free_seconds
 
@@ -18,11 +18,11 @@ def map_without_routes(net: SumoNet, options: Options) -> Map:
     return map_of(Network(net, options, report, {}), [], [], report)
 
 
-def times_without_routes(net: SumoNet, graph: Graph, options: Options) -> tuple[array, list[float]]:
+def times_and_capacities_without_routes(net: SumoNet, graph: Graph, options: Options) -> tuple[array, list[float]]:
     """(seconds of each movement without traffic, with the mean wait at its signal; vehicles an hour that each lets
     pass), both by movement of the graph, before any route is known. Fault where Network or signals raises one."""
     report = Report()
     network = Network(net, options, report, {})
-    made = [command for _, command in signals(net, network, {}, report, {}) if "at" not in command]
+    made = [command for _, command in signal_commands(net, network, {}, report, {}) if "at" not in command]
     mapping = map_of(network, [], [], report)
     return free_seconds(graph, mapping, made, options.dawdle / 1000), capacities(graph, mapping, made)

@@ -8,9 +8,8 @@ END = -1  # stands for the next edge of a movement that ends a trip
 
 
 class Graph:
-    """A network as a router sees it; edges go by number. A movement is a way from an edge to a next one, or to END,
-    where a trip ends on the edge; those of END stand last. There is a movement only where the network has a connection,
-    so bans on turning hold."""
+    """A network as a router sees it; edges go by number. A movement is a way from an edge to a next one, where the
+    network has a connection, or to END, where a trip ends on the edge; those of END stand last."""
 
     def __init__(self, edges: Iterable[str], ways: Iterable[tuple[str, str]], ends: dict[str, tuple[str, str]]) -> None:
         """edges: names; ways: (edge, next edge), by names, of which each counts once; ends: for each edge the junctions

@@ -4,14 +4,12 @@ import math
 from collections.abc import Callable
 
 from streetsim.model.waiting import Gap
-from streetsim.sumo.conflicts import gaps_of_ways
+from streetsim.sumo.conflicts import gaps_by_movement
 from streetsim.sumo.net import SumoNet
 from streetsim.ways.graph import Graph
 
 MOST_WAIT = 150.0  # seconds; then one goes
 MOST_HOURLY = 3600.0  # vehicles an hour that are reckoned with
-
-Hourly = Callable[[int], float]  # vehicles an hour of a movement
 
 
 class Minor:
@@ -20,13 +18,12 @@ class Minor:
     def __init__(self, graph: Graph, net: SumoNet) -> None:
         """graph: of the edges of net, whose connections say who gives way."""
         self.foes: dict[int, list[tuple[int, Gap]]] = {}
-        for way, foes in gaps_of_ways(net).items():
+        for way, foes in gaps_by_movement(net).items():
             self.foes[number_of(graph, way)] = [(number_of(graph, foe), gap) for foe, gap in foes.items()]
 
-    def wait(self, movement: int, hourly: Hourly) -> float:
-        """The mean seconds until a gap comes for a movement (its number) in traffic that comes at random; hourly: gives
-        vehicles an hour of a movement, by number, of which MOST_HOURLY count at most. 0 where nobody goes first or
-        comes, MOST_WAIT at most."""
+    def wait(self, movement: int, hourly: Callable[[int], float]) -> float:
+        """The mean seconds until a gap comes for a movement in traffic that comes at random, MOST_WAIT at most, 0 where
+        nobody goes first; hourly: vehicles an hour of a movement, of which MOST_HOURLY count at most."""
         flows = [(min(MOST_HOURLY, hourly(foe)), gap) for foe, gap in self.foes.get(movement, ())]
         every = sum(flow for flow, _ in flows)
         if not every:

@@ -11,9 +11,9 @@ from streetsim.ways.graph import END, Graph
 FAR = 1e9  # seconds: no way
 
 Path = tuple[int, ...]
-Way = tuple[int, int]  # an edge and the next
+EdgePair = tuple[int, int]  # an edge and the next
 # By edge, or by movement: from when until when nobody can enter it, or come to the next edge by it.
-Shut = Mapping[int | Way, Sequence[tuple[float, float]]]
+Shut = Mapping[int | EdgePair, Sequence[tuple[float, float]]]
 
 
 class Wish(NamedTuple):
@@ -38,23 +38,21 @@ class Found(NamedTuple):
 
 
 class Router:
-    """Finds shortest paths by A*. Its bounds, the least seconds to a target, are searched backwards and kept until
-    another target is asked for."""
+    """Finds shortest paths by A*. The least seconds to a target are kept until another one is asked for."""
 
     def __init__(self, graph: Graph, costs: Costs, shut: Shut | None = None) -> None:
         """costs: seconds of the graph's movements by time; shut: edges and movements, with the clocks (begin, end),
         begin included, between which they cannot be used; None: none."""
         self.graph, self.table, self.shut = graph, Table(costs), shut or {}
-        ways = [way for way in self.shut if isinstance(way, tuple)]
+        pairs = [one for one in self.shut if isinstance(one, tuple)]
         # By edge: those to which one may not turn at times.
-        self.barred = {edge: {after for before, after in ways if before == edge} for edge, _ in ways}
+        self.barred = {edge: {after for before, after in pairs if before == edge} for edge, _ in pairs}
         self.least = [costs.least(movement) for movement in range(len(graph.movements))]
         self.arcs: list[list[tuple[int, array]] | None] = [None] * len(graph.edges)
         self.target, self.bounds = END, [FAR]
 
     def arcs_of(self, edge: int) -> list[tuple[int, array]]:
-        """(next edge, the row of seconds of the movement to it, as Table.row gives it) for each edge that follows an
-        edge."""
+        """(next edge, the row of seconds of the movement to it, by Table.row) for each edge after an edge."""
         made = self.arcs[edge]
         if made is None:
             made = self.arcs[edge] = [
@@ -63,8 +61,7 @@ class Router:
         return made
 
     def bounds_to(self, target: int) -> list[float]:
-        """For each edge the least seconds, at any time, from its begin to that of the target; FAR where no way leads
-        there."""
+        """For each edge the least seconds from its begin to that of the target; FAR where no way leads there."""
         if self.target == target:
             return self.bounds
         least, into = self.least, self.graph.into
@@ -84,8 +81,8 @@ class Router:
 
     def search(self, origin: int, target: int, clock: float) -> tuple[Path, float]:
         """(the path that is quickest from a clock on, its seconds to the end of the target); an empty path and FAR
-        where there is no way. An edge or movement that would be reached while it is shut is not used; whether the
-        origin is shut is not looked at."""
+        where there is no way. Nobody waits: an edge or movement that would be reached while it is shut is not used;
+        whether the origin is shut is not looked at."""
         bounds, inverse, last, shut = self.bounds_to(target), self.table.inverse, self.table.last, self.shut
         best, before = {origin: clock}, dict[int, int]()
         # Of equal ones the farthest comes first.
@@ -94,10 +91,8 @@ class Router:
             _, now, edge = heappop(heap)
             now = -now
             if edge == target:
-                return (
-                    self.traced(before, origin, target),
-                    now + self.table.at(self.graph.movement_of[target, END], now) - clock,
-                )
+                end = now + self.table.at(self.graph.movement_of[target, END], now)
+                return self.traced(before, origin, target), end - clock
             if now > best[edge]:
                 continue
             part = int(now * inverse)
@@ -106,12 +101,14 @@ class Router:
             barred = self.barred.get(edge, ())
             for following, row in self.arcs_of(edge):
                 then = now + row[part]
-                if then < best.get(following, FAR) and not (
-                    (following in shut or following in barred) and self.entered((edge, following), then) > then
-                ):
-                    best[following] = then
-                    before[following] = edge
-                    heappush(heap, (then + bounds[following], -then, following))
+                if then >= best.get(following, FAR):
+                    continue
+                if following in shut or following in barred:
+                    if self.when_open(then, following, (edge, following)) > then:
+                        continue
+                best[following] = then
+                before[following] = edge
+                heappush(heap, (then + bounds[following], -then, following))
         return (), FAR
 
     @staticmethod
@@ -127,54 +124,50 @@ class Router:
         where an edge after the first, or a movement, is shut, one waits until it is open. Each pair of edges must be a
         movement of the graph, else KeyError."""
         found, movement_of = [clock], self.graph.movement_of
-        for way in pairwise((*path, END)):
-            reached = found[-1] + self.table.at(movement_of[way], found[-1])
-            found.append(self.entered(way, reached) if self.shut else reached)
+        for pair in pairwise((*path, END)):
+            reached = found[-1] + self.table.at(movement_of[pair], found[-1])
+            found.append(self.when_open(reached, pair[1], pair))
         return found
 
-    def opened(self, what: int | Way, clock: float) -> float:
-        """The clock at which one may enter an edge, or take a movement (what), that is reached at a clock: the end of
-        the first span that holds the clock (another one may hold that end), or the same clock where it is open."""
-        return next((end for begin, end in self.shut.get(what, ()) if begin <= clock < end), clock)
+    def when_open(self, clock: float, *those: int | EdgePair) -> float:
+        """The first clock, from the given one on, at which none of some edges and movements is shut."""
+        if self.shut:
+            for begin, end in sorted(span for one in those for span in self.shut.get(one, ())):
+                if begin <= clock < end:
+                    clock = end
+        return clock
 
-    def entered(self, way: Way, clock: float) -> float:
-        """The clock at which one comes to the second edge of a way (edge, next edge) who would reach it at a clock if
-        nothing were shut: the later of what opened gives for the edge and for the movement; whether the other is shut
-        again by then is not looked at."""
-        return max(self.opened(way[1], clock), self.opened(way, clock))
-
-    def met(self, path: Path, clock: float) -> int | None:
-        """The place in a path, begun at a clock, of the first edge that is reached while it is shut, or by a movement
+    def first_shut(self, path: Path, clock: float) -> int | None:
+        """The index in a path, begun at a clock, of the first edge that is reached while it is shut, or by a movement
         that is shut; None where the whole path is open."""
         if self.shut.keys().isdisjoint((*path, *pairwise(path))):
             return None
-        if self.opened(path[0], clock) != clock:
+        if self.when_open(clock, path[0]) != clock:
             return 0
         clocks, movement_of = self.clocks(path, clock), self.graph.movement_of
-        for at, way in enumerate(pairwise(path)):
-            reached = clocks[at] + self.table.at(movement_of[way], clocks[at])
-            if self.entered(way, reached) != reached:
+        for at, pair in enumerate(pairwise(path)):
+            reached = clocks[at] + self.table.at(movement_of[pair], clocks[at])
+            if self.when_open(reached, pair[1], pair) != reached:
                 return at + 1
         return None
 
-    def own(self, wish: Wish) -> float:
+    def own_seconds(self, wish: Wish) -> float:
         """The seconds of the path that a trip has, with waits where it is shut; FAR where it has none."""
         return self.clocks(wish.path, wish.clock)[-1] - wish.clock if wish.path else FAR
 
     def found(self, wish: Wish) -> Found:
         """The best path of a trip with its seconds, and the seconds of the trip's own path (FAR: it has none)."""
         path, least = self.search(wish.origin, wish.target, wish.clock)
-        return Found(wish.trip, path, least, self.own(wish))
+        return Found(wish.trip, path, least, self.own_seconds(wish))
 
 
-def in_order(wishes: Sequence[Wish]) -> list[Wish]:
+def by_target(wishes: Sequence[Wish]) -> list[Wish]:
     """Wishes sorted by target, so that bounds are searched once for each."""
     return sorted(wishes, key=lambda wish: (wish.target, wish.trip))
 
 
-def parts_of(wishes: Sequence[Wish], count: int) -> list[list[Wish]]:
-    """The wishes in count parts (1 or more) at most, of equal size but the last, sorted by target, so that few targets
-    lie in two parts."""
-    order = in_order(wishes)
+def wish_parts(wishes: Sequence[Wish], count: int) -> list[list[Wish]]:
+    """Wishes in `count` parts (1 or more) at most, sorted by target, so that few targets lie in two parts."""
+    order = by_target(wishes)
     size = max(1, -(-len(order) // count))
     return [order[at : at + size] for at in range(0, len(order), size)]

@@ -6,6 +6,7 @@ from collections.abc import Iterable, Iterator
 
 from streetsim.model.freeflow import FreeFlow
 from streetsim.model.mapping import Map
+from streetsim.model.timing import spans_of
 from streetsim.ways.graph import END, Graph
 
 SATURATION = 1700.0  # vehicles an hour and lane in green, by and large
@@ -14,9 +15,8 @@ LEAST_CAPACITY = 100.0  # vehicles an hour that any movement lets pass
 
 
 def free_seconds(graph: Graph, mapping: Map, signals: Iterable[dict], dawdle: float) -> array:
-    """For each movement in all the seconds of its edge without traffic, of the crossing, and of the mean wait at its
-    signal; of the edge alone where it ends a trip. dawdle: the chance, 0 to 1, to go on by a cell less. Of parallel
-    links the last counts."""
+    """For each movement the seconds of its edge without traffic, with the crossing and the mean wait at its signal
+    where it does not end a trip; of parallel links the last counts. dawdle: the chance, 0 to 1, of a cell less."""
     driving, waits = FreeFlow(mapping, dawdle), mean_waits(graph, mapping, signals)
     edge_of = {graph.number[link.edge]: at for at, link in enumerate(mapping.links)}
     seconds = array("d")
@@ -33,16 +33,16 @@ def mean_waits(graph: Graph, mapping: Map, signals: Iterable[dict]) -> dict[tupl
     signals = list(signals)
     lit = {command["node"] for command in signals}
     at_signals = (turn for turn in mapping.turns if mapping.links[turn.link].end in lit)
-    waits = {edges_of(graph, mapping, turn.link, turn.next): NEVER for turn in at_signals}
+    waits = {edge_numbers(graph, mapping, turn.link, turn.next): NEVER for turn in at_signals}
     for command in signals:
         cycle = sum(duration for duration, _ in command["phases"])
-        for way, green in greens(graph, mapping, command):
-            wait = sum(red * (red + 1) / 2 for red in reds(green, cycle)) / cycle
+        for way, green in green_bits(graph, mapping, command):
+            wait = sum(red * (red + 1) / 2 for red in red_lengths(green, cycle)) / cycle
             waits[way] = min(waits.get(way, NEVER), wait)
     return waits
 
 
-def greens(graph: Graph, mapping: Map, command: dict) -> Iterator[tuple[tuple[int, int], int]]:
+def green_bits(graph: Graph, mapping: Map, command: dict) -> Iterator[tuple[tuple[int, int], int]]:
     """((edge, next edge), green seconds of the cycle as bits, second 0 the lowest) for each link and next link of which
     a signal command ever lets a lane go; a pair of edges comes more than once where links are parallel."""
     shown: dict[tuple[int, int], int] = defaultdict(int)
@@ -52,21 +52,17 @@ def greens(graph: Graph, mapping: Map, command: dict) -> Iterator[tuple[tuple[in
             shown[link, following] |= ((1 << duration) - 1) << clock
         clock += duration
     for (link, following), green in shown.items():
-        yield edges_of(graph, mapping, link, following), green
+        yield edge_numbers(graph, mapping, link, following), green
 
 
-def edges_of(graph: Graph, mapping: Map, link: int, following: int) -> tuple[int, int]:
-    """(edge of a link, edge of a next link, following), by their numbers in the graph."""
+def edge_numbers(graph: Graph, mapping: Map, link: int, following: int) -> tuple[int, int]:
+    """(edge of a link, edge of the link `following`, the next one), by their numbers in the graph."""
     return graph.number[mapping.links[link].edge], graph.number[mapping.links[following].edge]
 
 
-def reds(green: int, cycle: int) -> list[int]:
-    """The lengths, in seconds, of the unbroken reds round a cycle; green: the green seconds as bits, second 0 the
-    lowest."""
-    runs = [len(red) for red in "".join("1" if green >> at & 1 else "0" for at in range(cycle)).split("1")]
-    if len(runs) > 1:
-        runs[0] += runs.pop()
-    return [run for run in runs if run]
+def red_lengths(green: int, cycle: int) -> list[int]:
+    """The lengths, seconds, of unbroken reds round a cycle; green: green seconds as bits, second 0 the lowest."""
+    return [seconds for _, seconds in spans_of(f"{green:0{cycle}b}"[::-1], "0")]
 
 
 def capacities(graph: Graph, mapping: Map, signals: Iterable[dict]) -> list[float]:
@@ -78,5 +74,5 @@ def capacities(graph: Graph, mapping: Map, signals: Iterable[dict]) -> list[floa
         cycle = sum(duration for duration, _ in command["phases"])
         for duration, turns in command["phases"]:
             for link, _, following in turns:
-                found[edges_of(graph, mapping, link, following)] += SATURATION * duration / cycle
+                found[edge_numbers(graph, mapping, link, following)] += SATURATION * duration / cycle
     return [max(LEAST_CAPACITY, found.get(way, SATURATION)) for way in graph.movements]

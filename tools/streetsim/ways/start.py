@@ -1,7 +1,7 @@
 """First ways without a simulation: shortest paths by seconds without traffic, waits at signals, and delays by the
 volumes so far."""
 import random
-from collections import defaultdict
+from collections import Counter, defaultdict
 from collections.abc import Callable, Iterable, Sequence
 from itertools import pairwise
 
@@ -31,9 +31,7 @@ def first_ways(
     given, volume, lost = volumes(graph, trips), [0] * len(graph.movements), []
     for part in range(PARTS):
         mine = wanting[part::PARTS]
-        hourly = [
-            (count + (own * PARTS / part if part else 0.0)) / hours for count, own in zip(given, volume, strict=True)
-        ]
+        hourly = ((count + own * PARTS / max(1, part)) / hours for count, own in zip(given, volume, strict=True))
         seconds = delayed(graph, free, [flow / most for flow, most in zip(hourly, capacity, strict=True)])
         wishes = [Wish(at, trips[at].origin, trips[at].target, trips[at].depart, ()) for at in mine]
         for found in search(wishes, flat_costs(graph, seconds)):
@@ -49,17 +47,13 @@ def first_ways(
 def volumes(graph: Graph, trips: Iterable[Trip]) -> list[int]:
     """How many trips have each movement on their ways, a list by movement. Pairs of edges that are no movement of the
     graph (changes between lanes that an import adds) are passed over."""
-    found = [0] * len(graph.movements)
-    for way in (way for trip in trips for way in pairwise(trip.path)):
-        if way in graph.movement_of:
-            found[graph.movement_of[way]] += 1
-    return found
+    found = Counter(way for trip in trips for way in pairwise(trip.path))
+    return [found[way] for way in graph.movements]
 
 
 def delayed(graph: Graph, free: Sequence[float], loads: Sequence[float]) -> list[float]:
-    """The seconds of each movement, a list, under its load (volume by capacity): its seconds without traffic (free),
-    plus its own delay, MOST_DELAY at most, or plus the mean delay of the used movements of its edge where that is
-    more."""
+    """The seconds of each movement under its load (volume by capacity): without traffic (free), and its own delay,
+    MOST_DELAY at most, or the mean delay of the used movements of its edge where that is more."""
     delays = [min(MOST_DELAY, STEEPNESS * seconds * load**POWER) for seconds, load in zip(free, loads, strict=True)]
     of_edge = defaultdict(list)
     for (edge, _), delay, load in zip(graph.movements, delays, loads, strict=True):

@@ -3,14 +3,13 @@ them. All that reads raises Fault, with file and element, where an attribute is 
 from collections.abc import Iterable, Iterator, Sequence
 from dataclasses import dataclass
 from itertools import pairwise
-from typing import Any
 from xml.etree import ElementTree
 from xml.sax.saxutils import quoteattr
 
 from streetsim.base import limits
-from streetsim.base.files import Fault, FilePath, attributes_of, elements, filled, optional, told, whole_file
+from streetsim.base.files import Fault, FilePath, attributes_of, element_told, elements, whole_file
 from streetsim.base.report import Report
-from streetsim.sumo.demand import ENDS, NOT_DRIVEN, READ, Demand, Vehicle, unread
+from streetsim.sumo.demand import ENDS, NOT_DRIVEN, READ, Demand, Vehicle
 from streetsim.sumo.net import SumoNet
 from streetsim.sumo.network import Options
 from streetsim.sumo.stops import Stop, edge_of, stops_in
@@ -29,8 +28,8 @@ BY_STOPS = (
 
 @dataclass(slots=True)
 class Trip:
-    """A trip between two edges, by their numbers. path: empty where it has no way yet; entry: the clock at which it
-    came on the road in the last run."""
+    """A trip between two edges, by their numbers. path: empty where it has no way yet; entry: the mean clock at
+    which it came on the road in the last runs, at first its departure."""
 
     name: str
     depart: float  # seconds
@@ -48,8 +47,7 @@ class Trip:
 
 
 class TripDemand(Demand):
-    """The vehicles of files of trips, flows and routes. Of one without a route, its edges are just the two where it
-    begins and ends."""
+    """The vehicles of files of trips, flows and routes; the edges of one without a route are those of its two ends."""
 
     def __init__(self, net: SumoNet, types: Types, seed: int, report: Report) -> None:
         """As Demand takes them; seed: of the draws of flows and of routes from distributions."""
@@ -57,25 +55,20 @@ class TripDemand(Demand):
         self.without: set[str] = set()  # vehicles without a route
         self.told_types: list[str] = []  # vehicle types as they stand in the files
 
-    def read(self, path: FilePath) -> None:
+    def read_file(self, path: FilePath) -> None:
         """Adds what a file of trips, flows or routes has; Fault where it cannot be read or is wrong, or persons drive
         in it. Persons who do not drive, and containers, are reported as skipped, unknown elements as ignored."""
-        readers = {
-            "route": self.read_route,
-            "vehicle": self.read_vehicle,
-            "flow": self.read_flow,
-            "trip": self.read_vehicle,
-        }
-        readers["routeDistribution"] = self.read_mix
+        readers = {"route": self.read_route, "vehicle": self.read_vehicle, "flow": self.read_flow}
+        readers |= {"trip": self.read_vehicle, "routeDistribution": self.read_mix}
         for element in elements(path, ["routes", "trips", "additional", "add"]):
             if element.tag in PERSONS and any(element.find(name) is not None for name in DRIVEN):
                 raise Fault(
-                    f"{told(path, element)}: persons are not routed here; take them out, or compute their cars' "
-                    "trips with duarouter"
+                    f"{element_told(path, element)}: persons are not routed here; take them out, or compute their "
+                    "cars' trips with duarouter"
                 )
             if element.tag in TAGS:
                 self.told_types.append(ElementTree.tostring(element, encoding="unicode").strip())
-                self.types.read(path, element)
+                self.types.read_element(path, element)
             elif element.tag in readers:
                 readers[element.tag](path, element)
             elif element.tag in NOT_DRIVEN:
@@ -83,44 +76,40 @@ class TripDemand(Demand):
             else:
                 self.report.ignored[f"<{element.tag}> of route files"] += 1
 
-    def add(self, path: FilePath, element: ElementTree.Element, departures: Sequence[tuple[str, float]]) -> None:
+    def add_vehicles(
+        self, path: FilePath, element: ElementTree.Element, departures: Sequence[tuple[str, float]]
+    ) -> None:
         """Adds the vehicles of an element, one for each (name, departure in seconds), with its route or with the edges
         where it begins and ends (its name then goes into without). Fault where there are more vehicles than may enter a
-        run, or `ends` or Demand.add raises one."""
+        run, or the element is wrong."""
         count = len(self.vehicles) + len(departures)
         if count > limits.VEHICLES:
             raise Fault(f"{path}: {count:,} trips, and at most {limits.VEHICLES:,} vehicles enter in a run")
-        if element.get("route") is not None or any(
-            element.find(name) is not None for name in ("route", "routeDistribution")
-        ):
-            super().add(path, element, departures)
+        routes = element.get("route"), element.find("route"), element.find("routeDistribution")
+        if any(one is not None for one in routes):
+            super().add_vehicles(path, element, departures)
             return
         ends = self.ends(path, element)
         for name in set(element.keys()) - READ - ENDS - ASIDE:
             self.report.ignored[f"{name} of {element.tag}s"] += 1
-        kind: Any = optional(path, element, "type", filled, None)  # None until `finish` where the file tells no type
-        for name, depart in departures:
-            riding = self.riding(path, element, depart)
-            self.vehicles.append(Vehicle(name, depart, ends, kind, "", *riding, unread(element)))
-            self.without.add(name)
+        self.vehicles += [self.vehicle_of(path, element, departure, ends) for departure in departures]
+        self.without.update(name for name, _ in departures)
 
     def ends(self, path: FilePath, element: ElementTree.Element) -> tuple[str, str]:
         """(edge where a trip begins, edge where it ends); Fault where it does not name them (or, without them, stops),
         names a via, or the network does not have them."""
         if element.get("via"):
-            raise Fault(f"{told(path, element)}: via is not routed here; compute this route with duarouter")
+            raise Fault(f"{element_told(path, element)}: via is not routed here; compute this route with duarouter")
         ends = [element.get("from", ""), element.get("to", "")]
         if not all(ends):
             if element.find("stop") is not None and not element.get("fromTaz"):
                 return self.by_stops(path, element, ends)
-            taz = (
-                " (fromTaz and toTaz name districts: let od2trips or duarouter choose edges)"
-                if element.get("fromTaz")
-                else ""
+            taz = " (fromTaz and toTaz name districts: let od2trips or duarouter choose edges)"
+            raise Fault(
+                f"{element_told(path, element)}: a trip needs from and to{taz if element.get('fromTaz') else ''}"
             )
-            raise Fault(f"{told(path, element)}: a trip needs from and to{taz}")
         if unknown := [name for name in ends if name not in self.net.edges and name not in self.net.dropped]:
-            raise Fault(f"{told(path, element)}: the network has no edge {unknown[0]!r}")
+            raise Fault(f"{element_told(path, element)}: the network has no edge {unknown[0]!r}")
         return ends[0], ends[1]
 
     def by_stops(self, path: FilePath, element: ElementTree.Element, ends: Sequence[str]) -> tuple[str, str]:
@@ -129,7 +118,7 @@ class TripDemand(Demand):
         edges = [edge_of(stop, self.net) for stop in stops_in(path, element, self.net)]
         found = ends[0] or edges[0], ends[1] or edges[-1]
         if found[0] == found[1] or not all(name in self.net.edges for name in found):
-            raise Fault(f"{told(path, element)}: {BY_STOPS}")
+            raise Fault(f"{element_told(path, element)}: {BY_STOPS}")
         return found
 
 
@@ -146,14 +135,13 @@ def read_trips(
 ) -> Trips:
     """The trips of files (their paths), in order of departure, and the types that these files tell, which `types` gets
     too. Left out and reported are those that reason_against gives a reason for, with options.begin, and those that
-    depart at options.end or later; not those whose routes lack a connection: connected does that. Fault where a file
-    cannot be read or is wrong, or no trip is left. graph: of the net; options: also the seed of draws of flows and
-    routes."""
+    depart at options.end or later. Fault where a file cannot be read or is wrong, or no trip is left. graph: of the
+    net; options: also the seed of draws of flows and routes."""
     demand = TripDemand(net, types, options.seed, report)
     for path in paths:
-        demand.read(path)
+        demand.read_file(path)
     found = []
-    for one in demand.finish(options.end):
+    for one in demand.completed_vehicles(options.end):
         if why := reason_against(one, net, options.begin):
             report.skipped[why] += 1
             continue
@@ -171,18 +159,19 @@ def read_trips(
     return Trips(found, demand.told_types)
 
 
-def connected(trips: Sequence[Trip], net: SumoNet, graph: Graph, ignore: bool, report: Report) -> list[Trip]:
-    """The trips whose routes have a connection between all their edges. Others are left out and reported where all
-    connections that they lack are closed to the classes, or with ignore; else they are a Fault. Fault too where no trip
-    is left."""
+def connected_trips(trips: Sequence[Trip], net: SumoNet, graph: Graph, ignore: bool, report: Report) -> list[Trip]:
+    """The trips whose routes have connections between all edges. Others are left out and reported where all that they
+    lack are closed to the classes, or with ignore; else they are a Fault, as it is where no trip is left."""
     found = []
     for trip in trips:
         ways = [way for way in pairwise(trip.path) if way not in graph.movement_of]
         if not ways:
             found.append(trip)
             continue
-        source, target = graph.names(next((way for way in ways if graph.names(way) not in net.closed_ways), ways[0]))
-        if (source, target) in net.closed_ways:
+        source, target = graph.names(
+            next((way for way in ways if graph.names(way) not in net.closed_movements), ways[0])
+        )
+        if (source, target) in net.closed_movements:
             report.skipped["two edges of the route have no connection for the classes"] += 1
         elif ignore:
             report.skipped["two edges of the route have no connection"] += 1
@@ -200,7 +189,7 @@ def connected(trips: Sequence[Trip], net: SumoNet, graph: Graph, ignore: bool, r
 def reason_against(vehicle: Vehicle, net: SumoNet, begin: int) -> str | None:
     """Why a vehicle cannot drive, as the report's words: an edge without a lane for the classes, or a departure before
     the begin or after the last clock; None where neither holds. Whether its edges are connected is not looked at:
-    connected does that. begin: the first clock of the run."""
+    connected_trips does that. begin: the first clock of the run."""
     if any(edge in net.dropped for edge in vehicle.edges):
         return "an edge of the trip has no lane for the classes"
     if vehicle.depart < begin:
@@ -208,9 +197,8 @@ def reason_against(vehicle: Vehicle, net: SumoNet, begin: int) -> str | None:
     return f"departs after {limits.CLOCK:,} s" if vehicle.depart > limits.CLOCK else None
 
 
-def vehicles_of(trips: Iterable[Trip], graph: Graph) -> list[Vehicle]:
-    """The trips, with their present ways, as vehicles of an import, without stops, names of routes and further
-    attributes."""
+def vehicles_from_trips(trips: Iterable[Trip], graph: Graph) -> list[Vehicle]:
+    """The trips, with their present ways, as vehicles of an import, without stops and further attributes."""
     return [Vehicle(trip.name, trip.depart, graph.names(trip.path), trip.type, line=trip.line) for trip in trips]
 
 

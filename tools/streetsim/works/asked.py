@@ -5,8 +5,8 @@ from collections.abc import Iterable, Iterator
 from dataclasses import dataclass
 
 from streetsim.base.files import Fault
-from streetsim.base.report import some
-from streetsim.base.words import listed, whole_seconds
+from streetsim.base.report import first_few
+from streetsim.base.words import names_in, whole_seconds
 from streetsim.model.mapping import Map
 
 FORM = re.compile(r"(.+):(\d+)-(\d+):([\d:.]+)-([\d:.]+)")
@@ -19,10 +19,10 @@ class Works:
 
     text: str  # as it was asked for
     lane: str  # SUMO's name
-    begin: int  # metres
-    end: int
-    first: int  # second
-    last: int  # second in which they are over
+    from_metres: int  # from the lane's begin
+    to_metres: int
+    begin: int  # second
+    end: int  # second in which they are over
     # Whether they begin on the part of the edge before, whose lane they close to its end: so one cell stays open here,
     # for who has left that lane when they begin.
     goes_on: bool = False
@@ -42,10 +42,10 @@ def all_works(texts: Iterable[str], mapping: Map, start: int, until: int | None)
     """The works of texts, each of which may name several with commas or blanks between. Fault as of works_of, and where
     one ends at the start or before, or begins at the end or later. start, until: of the run in seconds; until None: not
     known."""
-    works = [works_of(one, mapping) for text in texts for one in listed(text)]
-    if over := [one.text for one in works if one.last <= start]:
+    works = [works_of(one, mapping) for text in texts for one in names_in(text)]
+    if over := [one.text for one in works if one.end <= start]:
         raise Fault(f"--close {over[0]!r}: ends at the start, {start} s, or earlier")
-    if late := [one.text for one in works if until is not None and one.first >= until]:
+    if late := [one.text for one in works if until is not None and one.begin >= until]:
         raise Fault(f"--close {late[0]!r}: begins at the end, {until} s, or later")
     return works
 
@@ -59,10 +59,8 @@ def works_of(text: str, mapping: Map) -> Works:
         raise Fault(f"--close {text!r}: expected LANE:METRES-METRES:S-S, whole numbers that rise")
     place = mapping.place_of(found[1])
     if place is None:
-        lanes = [
-            mapping.lane_name(link, lane) for link, lane in mapping.lanes() if mapping.links[link].edge == found[1]
-        ]
-        raise Fault(f"--close {text!r}: the map has no lane {found[1]!r}{f', but {some(lanes)}' if lanes else ''}")
+        lanes = [mapping.lane_name(*place) for place in mapping.lanes(mapping.links_of.get(found[1], ()))]
+        raise Fault(f"--close {text!r}: the map has no lane {found[1]!r}{f', but {first_few(lanes)}' if lanes else ''}")
     metres = mapping.links[place[0]].metres
     if int(found[3]) > math.ceil(metres):
         raise Fault(f"--close {text!r}: the lane ends at {metres:g} m")
@@ -82,7 +80,7 @@ def sites_of(works: Iterable[Works], mapping: Map) -> list[Site]:
     found = []
     for one in works:
         link, lane = places[one.lane]
-        first, last = mapping.links[link].closed_between(one.begin, one.end)
+        first, last = mapping.links[link].closed_between(one.from_metres, one.to_metres)
         found.append(Site(one, link, lane, (min(1, last) if one.goes_on else first, last)))
     return found
 
@@ -93,10 +91,11 @@ def really_closed(sites: Iterable[Site], mapping: Map) -> Iterator[str]:
         link, works = mapping.links[site.link], site.works
         size = link.metres / link.cells
         begin, end = site.cells[0] * size, (site.cells[1] + 1) * size
-        if begin - works.begin > size:
+        if begin - works.from_metres > size:
             why = f"the first {begin:.0f} m of a lane with one beside it stay open, as turns lead there"
-        elif abs(begin - works.begin) > size or abs(end - works.end) > size:
+        elif abs(begin - works.from_metres) > size or abs(end - works.to_metres) > size:
             why = f"cells are {size:.1f} m long"
         else:
             continue
-        yield f"works on {works.lane} close {begin:.0f} to {end:.0f} m of {works.begin} to {works.end} m: {why}"
+        asked = f"{works.from_metres} to {works.to_metres} m"
+        yield f"works on {works.lane} close {begin:.0f} to {end:.0f} m of {asked}: {why}"

@@ -2,6 +2,7 @@
 from bisect import bisect_left, bisect_right
 from collections.abc import Iterator, Sequence
 from dataclasses import dataclass
+from itertools import accumulate
 from statistics import fmean
 
 from streetsim.model.mapping import Map
@@ -24,8 +25,8 @@ class Period:
 
 
 def periods_of(begin: int, end: int, start: int, seconds: int) -> Iterator[Period]:
-    """The periods of a run that works, from begin to end, fall in, cut to the time of the works. start: of the run;
-    seconds: of a period."""
+    """The periods of a run that works, from begin to end, fall in, cut to the time of the works. start: the run's;
+    seconds: a period's."""
     clock = begin
     while clock < end:
         following = min(end, start + ((clock - start) // seconds + 1) * seconds)
@@ -33,7 +34,7 @@ def periods_of(begin: int, end: int, start: int, seconds: int) -> Iterator[Perio
         clock = following
 
 
-def rows(watched: Sequence[Watched], mapping: Map, start: int, seconds: int) -> Iterator[tuple[object, ...]]:
+def works_rows(watched: Sequence[Watched], mapping: Map, start: int, seconds: int) -> Iterator[tuple[object, ...]]:
     """The rows of works.csv, (begin, end, edge, SUMO's index of the lane, metres where the works begin and end, what
     seen_in gives), as far as works were looked at: one for each place of works and each period in which it is closed.
     start: the clock at which the run begins; seconds: of a period."""
@@ -65,7 +66,7 @@ def seen_in(watched: Watched, period: Period) -> tuple[object, ...]:
 
 def capacity_of(watched: Watched, period: Period) -> int | None:
     """Vehicles an hour in the worst 15 minutes that end in a period, whole minutes after its begin, and in which
-    somebody always stood before the works; they may begin before the period, but not before the works. None where there
+    each look saw a queue before the works; they may begin before the period, but not before the works. None where there
     is no such time."""
     clocks = [one.clock for one in watched.passed]
     empty = [one.clock for one in watched.queues if not one.metres]
@@ -80,8 +81,5 @@ def capacity_of(watched: Watched, period: Period) -> int | None:
 def length_at(queues: Sequence[Queue], share: float) -> float:
     """The metres that a queue did not exceed in a share (0 to 1) of the time; 0 where nobody looked."""
     ordered = sorted(queues, key=lambda one: one.metres)
-    total, sums = 0, []
-    for one in ordered:
-        total += one.seconds
-        sums.append(total)
-    return ordered[min(len(sums) - 1, bisect_left(sums, share * total))].metres if ordered else 0.0
+    sums = list(accumulate(one.seconds for one in ordered))
+    return ordered[bisect_left(sums, share * sums[-1])].metres if ordered else 0.0

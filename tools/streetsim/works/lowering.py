@@ -23,7 +23,7 @@ def limits_of(works: Iterable[Works], mapping: Map, kmh: int) -> list[Slow]:
     stretches: defaultdict[str, dict[tuple[int, int], None]] = defaultdict(dict)
     known = {text.partition(":")[0] for text in mapping.options.get("slow", ())}
     for one in works:
-        stretches[edge_of(one, mapping)][one.begin, one.end] = None
+        stretches[edge_of(one, mapping)][one.from_metres, one.to_metres] = None
     found = []
     for edge, places in stretches.items():
         where, (begin, end) = f"--works-limit {kmh}: edge {edge!r}", next(iter(places))
@@ -50,15 +50,16 @@ def parts_on(slow: Slow, mapping: Map) -> list[Part]:
     return parts_of(slow, mapping.links[mapping.links_of[slow.edge][0]].metres)
 
 
-def moved(works: Iterable[Works], slow: Sequence[Slow], mapping: Map) -> Iterator[Works]:
+def works_on_parts(works: Iterable[Works], slow: Sequence[Slow], mapping: Map) -> Iterator[Works]:
     """The works on the parts of their edges: each as one that begins before the limit, and one that goes on along it.
     slow: one for each edge with works, as limits_of gives them; mapping: from before the cut."""
     limited = {one.edge: one for one in slow}
     for one in works:
         limit = limited[edge_of(one, mapping)]
         index, part = one.lane.rpartition("_")[2], next(part for part in parts_on(limit, mapping) if part.slow)
-        yield replace(one, end=limit.begin)
-        yield replace(one, lane=f"{part.name}_{index}", begin=0, end=one.end - limit.begin, goes_on=True)
+        yield replace(one, to_metres=limit.begin)
+        name, to_metres = f"{part.name}_{index}", one.to_metres - limit.begin
+        yield replace(one, lane=name, from_metres=0, to_metres=to_metres, goes_on=True)
 
 
 def told_of_limits(slow: Iterable[Slow], mapping: Map) -> Iterator[str]:

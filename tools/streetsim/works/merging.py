@@ -14,10 +14,10 @@ from collections.abc import Collection, Iterable, Iterator, Sequence
 from dataclasses import dataclass, field
 
 BEHIND, AHEAD = 6, 2  # cells: the least gaps on the other lane that the rule wants of one who stands
-PATIENCE = 10  # seconds
+PATIENCE = 10  # seconds for which the same one stands first before the other lane is held
 PLATOON = 8  # cells
 NEAR = 2  # cells before the works in which one stands first
-MOST_HELD = 60  # seconds
+MOST_WAIT = 60  # seconds for which the same one stands first, those before the hold among them, until it ends
 EVERY = 5  # seconds between being told, while no lane is held
 
 Stretch = tuple[int, int]  # the first and the last cell
@@ -61,13 +61,13 @@ class Change:
     first: int
     last: int
 
-    def on(self, link: int) -> dict[str, str | int]:
+    def command_on(self, link: int) -> dict[str, str | int]:
         """The command for a link, {"cmd", "link", "lane", "first", "last"}: close or reopen."""
         return {"cmd": self.command, "link": link, "lane": self.lane, "first": self.first, "last": self.last}
 
 
 @dataclass(slots=True, frozen=True)
-class Place:
+class MergePoint:
     """Where one may merge: before works on a lane, beside which the other lane is open."""
 
     lane: int
@@ -76,12 +76,32 @@ class Place:
 
 
 @dataclass(slots=True)
-class Turn:
-    """Who waits to merge at one place, since when, and which cells of the other lane are held for it."""
+class MergeTurn:
+    """A turn to merge at one point: who waits, since when, and which cells of the other lane are held for it."""
 
     head: int | None = None  # who stands first
     since: int = 0  # clock
     held: Stretch | None = None  # of the other lane
+
+    def update_hold(self, clock: int, point: MergePoint, sides: Sequence[Side]) -> None:
+        """Begins or ends the hold of the other lane at a point, by what stands on both lanes (sides) at a clock. A hold
+        begins when the same one has stood first for PATIENCE seconds; it ends when nobody is on the held cells or the
+        AHEAD ones after them, when nobody stands first, or when the same one has for more than MOST_WAIT seconds."""
+        before = [one for one in sides[point.lane].vehicles if point.low <= one.cell < point.first]
+        first = before[0] if before else None
+        head = first.car if first and first.speed == 0 and first.cell >= point.first - NEAR else None
+        if head != self.head:
+            self.head, self.since = head, clock
+        waited = clock - self.since
+        if self.held:
+            beside = {cell for one in sides[1 - point.lane].vehicles for cell in range(one.rear, one.cell + 1)}
+            is_free = beside.isdisjoint(range(self.held[0], self.held[1] + AHEAD + 1))
+            if head is None or waited > MOST_WAIT or is_free:
+                self.held, self.since = None, clock
+        elif first and head is not None and waited >= PATIENCE:
+            rears = [one.rear for one in before if one.speed == 0]
+            rear = min(rears[0], *(cell for cell in rears if cell >= point.first - PLATOON))
+            self.held = max(point.low, rear - BEHIND), first.cell
 
 
 @dataclass(slots=True)
@@ -90,79 +110,59 @@ class Merging:
 
     cells: int  # of the link
     held: Cells = field(default_factory=no_cells)  # what it has closed
-    turns: dict[tuple[int, int], Turn] = field(default_factory=dict)  # by lane and first cell of the works
+    turns: dict[tuple[int, int], MergeTurn] = field(default_factory=dict)  # by lane and first cell of the works
 
-    def told(self, clock: int, sides: Sequence[Side]) -> list[Change]:
+    def changes_by_turns(self, clock: int, sides: Sequence[Side]) -> list[Change]:
         """What to close and reopen before the next step, by what stands on both lanes at a clock, which then counts as
         done; sides: by lane."""
         wanted = no_cells()
         known, self.turns = self.turns, {}
-        for place in self.places([side.closed for side in sides]):
-            turn = known.get((place.lane, place.first)) or Turn()
-            self.turns[place.lane, place.first] = turn
-            take(turn, clock, place, sides)
+        for point in self.merge_points([side.closed for side in sides]):
+            turn = known.get((point.lane, point.first)) or MergeTurn()
+            self.turns[point.lane, point.first] = turn
+            turn.update_hold(clock, point, sides)
             if turn.held:
-                wanted[1 - place.lane].update(range(turn.held[0], turn.held[1] + 1))
-        return self.changes(wanted)
+                wanted[1 - point.lane].update(range(turn.held[0], turn.held[1] + 1))
+        return self.changes_to(wanted)
 
-    def seconds(self) -> int:
+    def seconds_to_next_look(self) -> int:
         """In how many seconds it must be told again: 1 while a lane is held, else EVERY."""
         return 1 if any(turn.held for turn in self.turns.values()) else EVERY
 
-    def end(self) -> list[Change]:
-        """What to reopen so that nothing of its own stays closed, which then counts as done; who waits is forgotten,
-        and merging goes on when it is told again. Needed before any other close or reopen on the link."""
+    def reopening_changes(self) -> list[Change]:
+        """The reopens for the caller to send, after which nothing of its own is closed; they count as done, and who
+        waits is forgotten. It goes on when told again. Needed before a close or reopen of others on the link."""
         self.turns = {}
-        return self.changes(no_cells())
+        return self.changes_to(no_cells())
 
-    def places(self, closed: Sequence[Iterable[Stretch]]) -> Iterator[Place]:
+    def merge_points(self, closed: Sequence[Iterable[Stretch]]) -> Iterator[MergePoint]:
         """The places where vehicles may merge, by lane and then rising; closed: all closed stretches by lane. Works are
         what is closed but for what it has closed itself."""
-        works = [cells_of(closed[lane]) - self.held[lane] for lane in (0, 1)]
+        works = [all_cells(closed[lane]) - self.held[lane] for lane in (0, 1)]
         for lane in (0, 1):
             low = 0
-            for first, last in stretches(works[lane]):
+            for first, last in unbroken_stretches(works[lane]):
                 low = max(low, 1 + max((cell for cell in works[1 - lane] if cell <= last), default=-1))
                 if low < first:
-                    yield Place(lane, low, first)
+                    yield MergePoint(lane, low, first)
                 low = last + 1
 
-    def changes(self, wanted: Cells) -> list[Change]:
+    def changes_to(self, wanted: Cells) -> list[Change]:
         """What to close and reopen so that of its own just the wanted cells are closed; they count as done."""
-        opened = [Change("reopen", lane, *one) for lane in (0, 1) for one in stretches(self.held[lane] - wanted[lane])]
-        shut = [Change("close", lane, *one) for lane in (0, 1) for one in stretches(wanted[lane] - self.held[lane])]
+        changes = []
+        for name, more, less in (("reopen", self.held, wanted), ("close", wanted, self.held)):
+            for lane in (0, 1):
+                changes += [Change(name, lane, *one) for one in unbroken_stretches(more[lane] - less[lane])]
         self.held = wanted
-        return opened + shut
+        return changes
 
 
-def take(turn: Turn, clock: int, place: Place, sides: Sequence[Side]) -> None:
-    """Begins or ends the hold of the other lane at a place, by what stands on both lanes at a clock; notes that in
-    turn, and who stands first since when. A hold begins when the same one has stood first for PATIENCE seconds; it ends
-    when nobody is on the held cells or the AHEAD ones after them, when nobody stands first, or when the same one has
-    stood first for more than MOST_HELD seconds. sides: by lane."""
-    before = [one for one in sides[place.lane].vehicles if place.low <= one.cell < place.first]
-    first = before[0] if before else None
-    head = first.car if first and first.speed == 0 and first.cell >= place.first - NEAR else None
-    if head != turn.head:
-        turn.head, turn.since = head, clock
-    waited = clock - turn.since
-    if turn.held:
-        beside = {cell for one in sides[1 - place.lane].vehicles for cell in range(one.rear, one.cell + 1)}
-        is_free = beside.isdisjoint(range(turn.held[0], turn.held[1] + AHEAD + 1))
-        if head is None or waited > MOST_HELD or is_free:
-            turn.held, turn.since = None, clock
-    elif first and head is not None and waited >= PATIENCE:
-        rears = [one.rear for one in before if one.speed == 0]
-        rear = min(rears[0], *(at for at in rears if at >= place.first - PLATOON))
-        turn.held = max(place.low, rear - BEHIND), first.cell
-
-
-def cells_of(stretches: Iterable[Stretch]) -> set[int]:
+def all_cells(stretches: Iterable[Stretch]) -> set[int]:
     """All cells of some stretches."""
     return {cell for first, last in stretches for cell in range(first, last + 1)}
 
 
-def stretches(cells: Collection[int]) -> list[Stretch]:
+def unbroken_stretches(cells: Collection[int]) -> list[Stretch]:
     """Cells as unbroken stretches (first, last), in rising order."""
     firsts = sorted(cell for cell in cells if cell - 1 not in cells)
     lasts = sorted(cell for cell in cells if cell + 1 not in cells)

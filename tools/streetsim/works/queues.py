@@ -56,14 +56,13 @@ class Piece:
 
 def reach_of(lanes: Mapping[Place, Lane], streets: Streets, link: int, first: int, begin: int = 0) -> Reach:
     """The queue before works that begin in the cell first of a link: all who stand, each at most APART cells behind the
-    one before it, on lanes from which one comes to the works. lanes: replies on the lanes of the link and of those
-    upstream; begin: where other works on the link begin upstream of these, their first cell, as who stands before it
-    belongs to their queue; else 0."""
+    one before it, on lanes that lead to the works. lanes: replies on lanes of the link and upstream, those without one
+    are empty; begin: the first cell of other works upstream on the link, whose queue begins there, else 0."""
     found, known = Reach(), {link}
-    pieces = [Piece(link, range(len(lanes)), first, first, 0.0, begin)]
+    pieces = [Piece(link, [lane for other, lane in lanes if other == link], first, first, 0.0, begin)]
     while pieces:
         piece = pieces.pop()
-        last = along(piece, lanes, streets.scale[piece.link], found)
+        last = add_standing(piece, lanes, streets.scale[piece.link], found)
         if last > APART or piece.begin:
             continue
         found.full.append(piece.link)
@@ -76,11 +75,11 @@ def reach_of(lanes: Mapping[Place, Lane], streets: Streets, link: int, first: in
     return found
 
 
-def along(piece: Piece, lanes: Mapping[Place, Lane], scale: float, found: Reach) -> int:
+def add_standing(piece: Piece, lanes: Mapping[Place, Lane], scale: float, found: Reach) -> int:
     """Adds those who stand on a piece to the queue found; gives the cell of the last one, `last` of the piece where
     nobody is added. scale: metres of a cell."""
     last = piece.last
-    for cell, speed, size in vehicles_of(piece, lanes):
+    for cell, speed, size in vehicles_on(piece, lanes):
         if last - cell > APART or cell < piece.begin:
             break
         if speed == 0:
@@ -91,9 +90,8 @@ def along(piece: Piece, lanes: Mapping[Place, Lane], scale: float, found: Reach)
     return last
 
 
-def vehicles_of(piece: Piece, lanes: Mapping[Place, Lane]) -> Iterable[tuple[int, int, int]]:
-    """(cell, speed in cells a step, size in cells) of the vehicles on a piece before its end, the greatest cell
-    first."""
+def vehicles_on(piece: Piece, lanes: Mapping[Place, Lane]) -> Iterable[tuple[int, int, int]]:
+    """(cell, speed in cells a step, size in cells) of the vehicles on a piece before its end, by falling cell."""
     seen = [lanes[piece.link, lane].cells for lane in piece.lanes if (piece.link, lane) in lanes]
     found = [(cell, speed, size[0] if size else 1) for cells in seen for _, cell, speed, *size in cells]
     return sorted((one for one in found if one[0] < piece.end), reverse=True)

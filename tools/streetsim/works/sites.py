@@ -16,7 +16,7 @@ from itertools import product
 from streetsim.base import limits
 from streetsim.base.files import Fault, FilePath, Json
 from streetsim.base.progress import Slow
-from streetsim.base.report import Report, some
+from streetsim.base.report import Report, first_few
 from streetsim.importing.convert import convert
 from streetsim.model.freeflow import FreeFlow
 from streetsim.model.mapping import Map
@@ -24,17 +24,21 @@ from streetsim.model.runs import Command, Line, Run, run_of_texts
 from streetsim.model.sources import sources_of
 from streetsim.sumo.converting import options_again, run_and_map
 from streetsim.works.asked import Site, Works, really_closed, sites_of
-from streetsim.works.closures import begun_here, closures_of
-from streetsim.works.crowding import crowded
-from streetsim.works.lowering import limits_of, moved, told_of_limits
-from streetsim.works.movements import Way, closed_ends, closures_at, lost_movements, lost_ways, told_of, waiting
+from streetsim.works.closures import Closure, begun_here, closures_of
+from streetsim.works.crowding import Times, told_of_crowding
+from streetsim.works.lowering import limits_of, told_of_limits, works_on_parts
+from streetsim.works.movements import (
+    Movement, closed_ends, closures_at, lost_movements, lost_times, told_of_lost, without_led_turns,
+)
 
+Pair = tuple[int, int]  # a link and the next one
+Shut = dict[int, list[Times]]  # by link when it is shut, as shut_links gives it
 LATE = 300  # seconds that who stands in queues may be late, beside as much as it drives
 NEAR = 150  # metres of an edge before works on a lane to its end, up to which who loses the lane needs not merge
 
 
 @dataclass(slots=True, frozen=True)
-class Asking:
+class WorksOptions:
     """What else a run with works is asked for. others: lanes and edges that are to be joint as well, as if they had
     works; lost: what those do who lose their only lane, of movements.LOST."""
 
@@ -44,83 +48,90 @@ class Asking:
 
 
 def with_works(
-    run: Run, mapping: Map, map_path: FilePath, works: list[Works], asking: Asking = Asking()
+    run: Run, mapping: Map, map_path: FilePath, works: list[Works], options: WorksOptions = WorksOptions()
 ) -> tuple[Run, Map, list[str]]:
     """(the run with works, its map, the texts to tell). Both are imported anew where lanes must be joint or led from,
-    or edges cut; map_path: from which the imported files are found. Fault where that cannot be done, the map lacks a
-    name of asking.others, or the works cannot have the limit."""
+    or edges cut; map_path: from which the imported files are found. Fault where that cannot be done, a name of
+    options.others cannot be joint, or the works cannot have the limit."""
     told: list[str] = []
-    if asking.limit and works:
-        slow = limits_of(works, mapping, asking.limit)
+    if options.limit and works:
+        slow = limits_of(works, mapping, options.limit)
         told += told_of_limits(slow, mapping)
-        works = list(moved(works, slow, mapping))
-        with imported_for(f"--works-limit {asking.limit}", ""):
+        works = list(works_on_parts(works, slow, mapping))
+        with imported_for(f"--works-limit {options.limit}"):
             run, mapping = imported_anew(run, mapping, map_path, slow=[one.text() for one in slow])
-    names = parallel_names(asking.others, mapping)
+    names = parallel_names(options.others, mapping)
     names += [name for name in lanes_to_join(works, mapping) if name not in names]
-    led = [name for name in lanes_to_lead(works, mapping) if asking.lost == "lead" and name not in names]
+    led = [name for name in lanes_to_lead(works, mapping) if options.lost == "lead" and name not in names]
     if names or led:
-        why = (
-            "nobody changes lane between the parallel links of an edge, so its lanes must be joint, which needs the "
-            f"import anew: {{}}. Run streetsim-import with --joint {','.join([*names, *led])}"
-        )
-        with imported_for(some([*names, *led]), why):
+        why = "nobody changes lane between the parallel links of an edge, so its lanes must be joint, which"
+        advice = f". Run streetsim-import with --joint {','.join([*names, *led])}"
+        with imported_for(f"{first_few([*names, *led])}: {why}", advice):
             run, mapping = imported_anew(run, mapping, map_path, joint=names, led=led)
     if names:
-        told.append(f"joint for this run, so that vehicles change lane: edges {some(sorted(edges_of(names, mapping)))}")
-    run, mapping, lost = closed(run, mapping, works, asking.lost)
+        edges = first_few(sorted(edges_of_names(names, mapping)))
+        told.append(f"joint for this run, so that vehicles change lane: edges {edges}")
+    run, lost = with_closures(run, mapping, works, options.lost)
     sites = sites_of(works, mapping)
     told += [*really_closed(sites, mapping), *all_closed(run, mapping, shut_links(sites, mapping))]
-    told += [*crowded(run, mapping, begun_here(closures_of(run, limits.CLOCK), mapping) if sites else ()), *lost]
+    closures = begun_here(while_vehicles_depart(run, closures_of(run, limits.CLOCK)), mapping) if sites else ()
+    told += [*told_of_crowding(run, mapping, closures), *lost]
     return run, mapping, told
 
 
-def closed(run: Run, mapping: Map, works: list[Works], how: str, searched: bool = False) -> tuple[Run, Map, list[str]]:
-    """(the run with works on a map whose lanes are joint where they must be, the same map, the texts on those who lose
-    their only lane). how: of movements.LOST: with lead these are led from a lane beside, where one has the turn, else
-    they wait; with wait and with bar alike all of them wait, and who asks for bar has to give them other ways before.
-    searched: whether it does, which changes the texts of bar alone. The map must have the works' lanes."""
+def while_vehicles_depart(run: Run, closures: Iterable[Closure]) -> list[Closure]:
+    """The closures, of which those that last to the greatest clock, as nothing reopens them, end behind the run's last
+    departure, so that vehicles an hour can be told of them; a second after their begin at the earliest."""
+    last = max((line.command["depart"] for line in run.enters), default=0) + 1
+    return [replace(one, end=max(one.begin + 1, last)) if one.end == limits.CLOCK else one for one in closures]
+
+
+def with_closures(
+    run: Run, mapping: Map, works: Iterable[Works], how: str, searched: bool = False
+) -> tuple[Run, list[str]]:
+    """(the run with works, whose lanes its map has, joint where they must be; the texts on those who lose their only
+    lane). how: of movements.LOST: with lead these are led from a lane beside, where one has the turn; all others wait,
+    and who asks for bar has to give them other ways before. searched: whether it does, which only the texts tell."""
     sites = sites_of(works, mapping)
     closures = closures_at(sites)
     lost = lost_movements(run, mapping, closures)
-    timed = sorted([*run.timed, *lines_of(sites)], key=lambda pair: pair[0])
-    stay = frozenset[Way]() if how == "lead" else frozenset(lost_ways(closed_ends(closures, mapping), mapping))
+    timed = sorted([*run.timed, *works_lines(sites)], key=lambda pair: pair[0])
+    stay = () if how == "lead" else lost_times(closures, mapping)
     made = round_works(replace(run, timed=timed), mapping, shut_links(sites, mapping), stay)
-    told = list(told_of(lost, mapping, how, searched))
-    return made if how == "lead" else waiting(made, mapping, lost), mapping, told
+    told = list(told_of_lost(lost, mapping, how, searched))
+    return made if how == "lead" else without_led_turns(made, mapping, lost), told
 
 
-def lines_of(sites: Sequence[Site]) -> list[tuple[int, Line]]:
+def works_lines(sites: Sequence[Site]) -> list[tuple[int, Line]]:
     """The timed lines of works, (clock, line), rising: a close and a reopen of each. In a second in which works end,
     others that last on cells of theirs are closed once more behind that, as reopening has opened these cells."""
-    found = [(site.works.last, line_of("reopen", site)) for site in sites]
-    found += [(site.works.first, line_of("close", site)) for site in sites]
+    found = [(site.works.end, works_line("reopen", site)) for site in sites]
+    found += [(site.works.begin, works_line("close", site)) for site in sites]
     for ended, other in product(sites, sites):
         same_lane = (ended.link, ended.lane) == (other.link, other.lane)
         if same_lane and ended.cells[0] <= other.cells[1] and other.cells[0] <= ended.cells[1]:
-            if other.works.first < ended.works.last < other.works.last:
-                found.append((ended.works.last, line_of("close", other)))
+            if other.works.begin < ended.works.end < other.works.end:
+                found.append((ended.works.end, works_line("close", other)))
     return sorted(found, key=lambda pair: (pair[0], pair[1].command["cmd"] == "close"))
 
 
-def line_of(name: str, site: Site) -> Line:
+def works_line(name: str, site: Site) -> Line:
     """The line of a place of works; name: close or reopen."""
     command = {"cmd": name, "link": site.link, "lane": site.lane, "first": site.cells[0], "last": site.cells[1]}
     return Line(0, json.dumps(command), command)
 
 
-def shut_links(sites: list[Site], mapping: Map) -> dict[int, list[tuple[int, int]]]:
-    """The (first, last) seconds, from first to before last, in which all lanes of a link are closed at one place, or
-    where closed cells of its lanes adjoin, by link; pairs may overlap. Links that are not closed on all lanes are left
-    out."""
+def shut_links(sites: Collection[Site], mapping: Map) -> Shut:
+    """By link the times at which all its lanes are closed at one place, or where closed cells of its lanes adjoin; some
+    may overlap. Links that are not closed on all lanes are left out."""
     on_lane = defaultdict(list)
     for site in sites:
         on_lane[site.link, site.lane].append(site)
-    found = defaultdict(list)
+    found: Shut = defaultdict(list)
     for link in sorted({site.link for site in sites}):
         lanes = [on_lane[link, lane] for lane in range(len(mapping.links[link].lanes))]
         for together in product(*lanes):
-            first, last = max(one.works.first for one in together), min(one.works.last for one in together)
+            first, last = max(one.works.begin for one in together), min(one.works.end for one in together)
             begin, end = max(one.cells[0] for one in together), min(one.cells[1] for one in together)
             if first < last and begin <= end + 1:
                 found[link].append((first, last))
@@ -134,7 +145,7 @@ def parallel_names(names: Iterable[str], mapping: Map) -> list[str]:
     for name in dict.fromkeys(names):
         if name not in mapping.links_of and mapping.place_of(name) is None:
             raise Fault(f"--joint: the map has no edge or lane {name!r}")
-        links = mapping.links_of[next(iter(edges_of([name], mapping)))]
+        links = mapping.links_of[next(iter(edges_of_names([name], mapping)))]
         if len(links) == 1 and len(mapping.links[links[0]].lanes) == 1:
             raise Fault(f"--joint: edge {mapping.links[links[0]].edge!r} has one lane, and none beside it")
         if len(links) > 1 and name not in known:
@@ -142,37 +153,29 @@ def parallel_names(names: Iterable[str], mapping: Map) -> list[str]:
     return found
 
 
-def lanes_to_join(works: Iterable[Works], mapping: Map) -> list[str]:
-    """The lanes with works that must be joint with the lane beside: of edges of several links of which one at least is
-    shut, but for lanes that are joint already, and for those of lanes_to_lead."""
-    apart = lanes_to_lead(works, mapping)
-    return [site.works.lane for site in in_the_way(works, mapping) if site.works.lane not in apart]
+def lanes_to_join(works: Collection[Works], mapping: Map) -> list[str]:
+    """The lanes with works that must be joint with the lane beside: those in the way, but for lanes_to_lead."""
+    led = lanes_to_lead(works, mapping)
+    names = dict.fromkeys(site.works.lane for site in in_the_way(sites_of(works, mapping), mapping))
+    return [name for name in names if name not in led]
 
 
-def lanes_to_lead(works: Iterable[Works], mapping: Map) -> list[str]:
+def lanes_to_lead(works: Collection[Works], mapping: Map) -> list[str]:
     """The lanes with works whose vehicles can be led over the links beside from the begin of the edge on, so that they
     need not be joint: works close them to their end, from at most NEAR metres on, and a movement has no other lane."""
-    works = list(works)
-    sites = in_the_way(works, mapping)
-    ended = closed_ends(closures_at(sites_of(works, mapping)), mapping)
-    edges = {edge for edge, _ in lost_ways(ended, mapping)}
-    near = [site for site in sites if site.works.begin <= NEAR and (site.link, site.lane) in ended]
-    return list(dict.fromkeys(site.works.lane for site in near if mapping.links[site.link].edge in edges))
-
-
-def in_the_way(works: Iterable[Works], mapping: Map) -> list[Site]:
-    """The works, the first on each lane, on edges of several links of which one at least is shut; lanes that are joint
-    already are left out."""
     sites = sites_of(works, mapping)
+    edges = {edge for edge, _ in lost_times(closures_at(sites), mapping)}
+    near = [site for site in in_the_way(sites, mapping) if site.works.from_metres <= NEAR]
+    ends = [site for site in near if closed_ends(closures_at([site]), mapping)]
+    return list(dict.fromkeys(site.works.lane for site in ends if mapping.links[site.link].edge in edges))
+
+
+def in_the_way(sites: Collection[Site], mapping: Map) -> list[Site]:
+    """The works on edges of several links of which one at least is shut, but for lanes that are joint already."""
     edges = {mapping.links[link].edge for link in shut_links(sites, mapping)}
-    known = mapping.options.get("joint", ())
-    found = {
-        site.works.lane: site
-        for site in reversed(sites)
-        if (edge := mapping.links[site.link].edge) in edges and len(mapping.links_of[edge]) > 1
-        if site.works.lane not in known and edge not in known
-    }
-    return [found[name] for name in dict.fromkeys(site.works.lane for site in sites) if name in found]
+    edges = {edge for edge in edges if len(mapping.links_of[edge]) > 1}.difference(mapping.options.get("joint", ()))
+    apart = [site for site in sites if site.works.lane not in mapping.options.get("joint", ())]
+    return [site for site in apart if mapping.links[site.link].edge in edges]
 
 
 def why_parallel(mapping: Map, lane: str) -> str | None:
@@ -214,31 +217,30 @@ def named_in_parts(mapping: Map, anew: Map) -> Json:
 
 
 @contextmanager
-def imported_for(what: str, why: str) -> Iterator[None]:
-    """A context in which a Fault of an import is raised anew with what it was for (what). why: a text with {} where the
-    fault is to stand; empty: the usual words."""
+def imported_for(what: str, advice: str = "") -> Iterator[None]:
+    """A context in which a Fault of an import is raised anew between what needed it and an advice."""
     try:
         yield
     except Fault as fault:
-        raise Fault(f"{what}: {why.format(fault)}" if why else f"{what} needs the import anew: {fault}") from None
+        raise Fault(f"{what} needs the import anew: {fault}{advice}") from None
 
 
-def edges_of(names: Iterable[str], mapping: Map) -> set[str]:
+def edges_of_names(names: Iterable[str], mapping: Map) -> set[str]:
     """The edges of some names, each of an edge or of a lane."""
     return {name if name in mapping.links_of else name.rpartition("_")[0] for name in names}
 
 
-def round_works(run: Run, mapping: Map, shut: dict, stay: Collection[Way] = ()) -> Run:
+def round_works(run: Run, mapping: Map, shut: Shut, stay: Collection[Movement]) -> Run:
     """The run in which vehicles that may come to a shut link while it is shut take another link of its edge, where one
-    has their turns. shut: as shut_links gives it; stay: movements for which nobody changes to added turns."""
-    ways: defaultdict[tuple[int, int], list[int]] = defaultdict(list)
+    has their turns. stay: movements for which nobody changes to added turns."""
+    ways: defaultdict[Pair, list[int]] = defaultdict(list)
     use: Counter[int] = Counter()
     enters = list(run.enters)
     for turn in mapping.turns:
         if not turn.added or (mapping.links[turn.link].edge, mapping.links[turn.next].edge) not in stay:
             ways[turn.link, turn.next].append(turn.lane)
     free_flow = FreeFlow(mapping, run.load.command.get("dawdle", 0) / 1000)
-    for place, line in enumerate(enters):
+    for at, line in enumerate(enters):
         if shut.keys().isdisjoint(line.command["plan"]):
             continue
         plan = plan_round(line.command, mapping, shut, ways, use, free_flow)
@@ -246,18 +248,20 @@ def round_works(run: Run, mapping: Map, shut: dict, stay: Collection[Way] = ()) 
             command: Command = {**line.command, "plan": plan}
             if plan[0] != line.command["plan"][0]:
                 command["lane"] = ways[plan[0], plan[1]][0] if len(plan) > 1 else 0
-            enters[place] = replace(line, command=command, text=json.dumps(command, separators=(",", ":")))
+            enters[at] = replace(line, command=command, text=json.dumps(command, separators=(",", ":")))
     return replace(run, enters=enters)
 
 
-def plan_round(command: dict, mapping: Map, shut: dict, ways: dict, use: Counter, free_flow: FreeFlow) -> list[int]:
+def plan_round(
+    command: Command, mapping: Map, shut: Shut, ways: Collection[Pair], use: Counter[int], free_flow: FreeFlow
+) -> list[int]:
     """The plan of an enter command, with other links of the same edges, which are never shut, in place of links that
-    are shut when it may come, where there are any. shut: as shut_links gives it; ways: the lanes of each turn, by
-    (link, next link); use: how many were led over each link so far, to which it adds."""
+    are shut when it may come, where there are any. ways: those with a turn; use: how many were led over each
+    link so far, to which it adds."""
     plan = list(command["plan"])
     for at, link in enumerate(plan):
-        soonest, latest = free_flow(plan[:at]), 2 * free_flow(plan[: at + 1]) + LATE
-        soonest, latest = command["depart"] + soonest, command["depart"] + latest
+        soonest = command["depart"] + free_flow(plan[:at])
+        latest = command["depart"] + 2 * free_flow(plan[: at + 1]) + LATE
         if not any(soonest < last and first <= latest for first, last in shut.get(link, ())):
             continue
         beside = [
@@ -273,9 +277,8 @@ def plan_round(command: dict, mapping: Map, shut: dict, ways: dict, use: Counter
     return plan
 
 
-def all_closed(run: Run, mapping: Map, shut: dict) -> Iterator[str]:
-    """Says, a text each, where all links of an edge are shut, at one time or one after the other: nobody takes another
-    way. shut: as shut_links gives it."""
+def all_closed(run: Run, mapping: Map, shut: Shut) -> Iterator[str]:
+    """Says, a text each, where all links of an edge are shut, at once or in turn: nobody takes another way."""
     for edge in dict.fromkeys(mapping.links[link].edge for link in shut):
         links = mapping.links_of[edge]
         if all(link in shut for link in links):

@@ -15,7 +15,7 @@ Bound = Callable[[int, int], bool]  # whether a car, by its number, has a link i
 
 @dataclass(slots=True, frozen=True)
 class Sight:
-    """A vehicle before the works: the seconds to them, were it alone, and the link where it is."""
+    """A vehicle before the works: its seconds to them, alone and without links between, and the link where it is."""
 
     free: float
     link: int
@@ -23,7 +23,7 @@ class Sight:
 
 @dataclass(slots=True)
 class Coming:
-    """A vehicle on its way to the works: when it was first seen, and the seconds from there, were it alone."""
+    """A vehicle on its way to the works: when it was first seen, and its seconds from there, as in Sight."""
 
     since: int
     free: float
@@ -31,8 +31,8 @@ class Coming:
 
 
 @dataclass(slots=True, frozen=True)
-class Passed:
-    """One who came past the works' begin: when that was seen, and its seconds beyond those of one alone."""
+class WorksPassing:
+    """One who came past the works' begin: when that was seen, and its seconds beyond those reckoned for one alone."""
 
     clock: int
     delay: float  # seconds
@@ -64,9 +64,10 @@ class Watched:
     pace: Sequence[float]  # seconds a cell on each link, alone on the road
     upstream: Sequence[Closure] = ()  # other works on the lane, which begin before these
     coming: dict[int, Coming] = field(default_factory=dict)  # by car
+    rescued: dict[int, Coming] = field(default_factory=dict)  # by the car that it became, until that is seen
     beyond: set[int] | None = None  # cars on the link past the works' begin; None before the first look
     standing: dict[tuple[int, int, int], int] = field(default_factory=dict)  # car, lane, cell: since
-    passed: list[Passed] = field(default_factory=list)
+    passed: list[WorksPassing] = field(default_factory=list)
     queues: list[Queue] = field(default_factory=list)
     stands: list[Stand] = field(default_factory=list)
     long: set[int] = field(default_factory=set)  # cars that stood for longer than LONG
@@ -75,12 +76,11 @@ class Watched:
 
     def reach(self, clock: int, lanes: Mapping[Place, Lane]) -> Reach:
         """The queue before the works at a clock, on whatever lane of their link, and on the lanes upstream that lead to
-        it; who stands before other works upstream on the lane belongs to their queue alone. lanes: the replies on all
-        lanes of the link, and on those of the links that `further` asks for; lanes upstream without one count as
-        empty."""
-        return reach_of(lanes, self.streets, self.closure.link, self.closure.first, self.begin(clock))
+        it; who stands before other works upstream on the lane belongs to their queue alone. lanes: the replies on the
+        lanes of the link and of those that `further` asks for, those without one are empty."""
+        return reach_of(lanes, self.streets, self.closure.link, self.closure.first, self.first_cell(clock))
 
-    def begin(self, clock: int) -> int:
+    def first_cell(self, clock: int) -> int:
         """The cell of the link from which on vehicles stand before these works at a clock: where the last works before
         them on the lane begin; 0 where there are none."""
         return max((one.first for one in self.upstream if one.begin < clock <= one.end), default=0)
@@ -94,13 +94,18 @@ class Watched:
         room = MOST_LINKS + 1 - len(known)
         return [one for one in dict.fromkeys(feeders) if one not in known][:room] if reach.vehicles else []
 
-    def look(self, clock: int, lanes: Mapping[Place, Lane], bound: Bound) -> None:
+    def note_look(self, clock: int, lanes: Mapping[Place, Lane], bound: Bound) -> None:
         """Notes what the lanes of the link, and of those upstream that `further` asks for until it asks for none, show
         at a clock. bound: whether a car has a link in its plan."""
         self.note_passing(clock, lanes, bound)
         self.note_standing(clock, lanes)
         self.note_queue(clock, self.reach(clock, lanes))
         self.last = clock
+
+    def rescue(self, car: int, anew: int) -> None:
+        """Notes that a car was taken out and entered anew as another one; its seconds on the way to the works go on."""
+        if car in self.coming:
+            self.rescued[anew] = self.coming.pop(car)
 
     def note_passing(self, clock: int, lanes: Mapping[Place, Lane], bound: Bound) -> None:
         """Notes who has passed the begin of the works since the look before, with its delay in seconds, and who is on
@@ -111,10 +116,11 @@ class Watched:
         gone = [car for car, one in self.coming.items() if car not in before and one.link in looked]
         for car in gone:
             one = self.coming.pop(car)
-            self.passed.append(Passed(clock, max(0.0, clock - one.since - one.free)))
+            self.passed.append(WorksPassing(clock, max(0.0, clock - one.since - one.free)))
         if self.beyond is not None:  # who was never seen before them has come between two looks
-            self.passed += [Passed(clock, 0.0) for _ in beyond - self.beyond - set(gone)]
+            self.passed += [WorksPassing(clock, 0.0) for _ in beyond - self.beyond - set(gone)]
         self.beyond = beyond
+        self.coming.update((car, self.rescued.pop(car)) for car in before.keys() & self.rescued.keys())
         for car, sight in before.items():
             if car in self.coming:
                 self.coming[car].link = sight.link
@@ -122,8 +128,7 @@ class Watched:
                 self.coming[car] = Coming(clock, sight.free, sight.link)
 
     def sights(self, lanes: Mapping[Place, Lane]) -> tuple[dict[int, Sight], set[int]]:
-        """(the vehicles before the works, by number in the program; the numbers of those on the link past their
-        begin)."""
+        """(the vehicles before the works, by number in the program; those on the link past their begin)."""
         link, first = self.closure.link, self.closure.first
         to_works = first * self.pace[link]
         before: dict[int, Sight] = {}
@@ -142,7 +147,7 @@ class Watched:
     def note_standing(self, clock: int, lanes: Mapping[Place, Lane]) -> None:
         """Notes who stands before the works on their link, since when, for how long the longest does, and who for more
         than LONG seconds."""
-        link, begin, first = self.closure.link, self.begin(clock), self.closure.first
+        link, begin, first = self.closure.link, self.first_cell(clock), self.closure.first
         now = [
             (car, lane, cell)
             for (other, lane), reply in lanes.items()
