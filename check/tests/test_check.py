@@ -150,9 +150,11 @@ class Rows(Timed):
 class Limits(Timed):
     def test_the_limit_of_calls_is_raised_for_the_definitions_alone(self):
         """Whoever reads nested text in the same process, as the tools' tests do, keeps the limit of before."""
-        told = "import sys; before = sys.getrecursionlimit(); import definitions, sessions, stored, tests.test_check; "
-        after = "print(before, sys.getrecursionlimit())"
-        done = subprocess.run([sys.executable, "-Bc", told + after], cwd=CHECK, capture_output=True, text=True, check=True)
+        code = (
+            "import sys; before = sys.getrecursionlimit(); import definitions, sessions, stored, tests.test_check; "
+            "print(before, sys.getrecursionlimit())"
+        )
+        done = subprocess.run([sys.executable, "-Bc", code], cwd=CHECK, stdout=subprocess.PIPE, text=True, check=True)
         before, imported = done.stdout.split()
         self.assertEqual(imported, before)
         with deep_calls():
