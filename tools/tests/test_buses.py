@@ -148,6 +148,17 @@ class Files(Case):
             found = tuple(report.ignored[f"{name} of vTypes"] for name in ("accel", "decel"))
             self.assertEqual((found, report.ignored["sigma of vTypes"]), (expected, 1))
 
+    def test_a_greatest_speed_counts_at_stops_alone(self):
+        # SUMO's bus comes to its stop at 8 m/s: it loses 8 / 2 / 4 s as it brakes, and 8 / 2 / 1.2 s less half a
+        # second as it starts; here it drives as fast as the others before.
+        slow = '<vType id="slow" vClass="bus" maxSpeed="8"/><vType id="other" maxSpeed="8"/>'
+        cars = '<vehicle id="{0}" type="{0}" depart="0"><route edges="a b"/>{1}</vehicle>'
+        for stop, ignored, at_stops in ((AT_FIRST, 1, 1), ("", 2, 0)):
+            _, mapping, report = self.imported(slow + cars.format("slow", stop) + cars.format("other", ""))
+            self.assertEqual(report.ignored["maxSpeed of vTypes"], ignored)
+            self.assertEqual(report.ignored["maxSpeed of vTypes, but at stops"], at_stops)
+            self.assertEqual([(one.braking, one.starting) for one in mapping.visits], [(1.0, 2.83)] * at_stops)
+
     def test_a_stop_past_which_the_run_leads_has_a_row(self):
         # The bus is led over another link, as works on the stop's lane do.
         stops = f'{AT_FIRST}<stop busStop="second" duration="20"/>'

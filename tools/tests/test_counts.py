@@ -128,6 +128,12 @@ class Inputs(Case):
         self.assertEqual((dict(found["1"].sources), dict(found["1"].sinks)), ({"a": 3}, {"b": 0.5}))
         self.assertEqual(dict(found["2"].sources), {"c": 1, "d": 1})
 
+    def test_weights_of_an_edge_add_up(self):
+        # As od2trips of SUMO 1.15 has it: of 1,000 vehicles 900 begin on a and 100 on b.
+        taz = '<tazs><taz id="1" edges="a b"><tazSource id="a" weight="7"/><tazSource id="a" weight="1"/></taz></tazs>'
+        [zone] = zones.read_zones([self.write("z.xml", taz)]).values()
+        self.assertEqual((zone.sources, zone.sinks), ({"a": 9, "b": 1}, {"a": 1, "b": 1}))
+
     def test_matrices(self):
         # As SUMO's pages on od2trips show these formats; the factor is 2.
         o = "$OR;D2\n* From-Time  To-Time\n7.00 8.00\n* Factor\n2.00\n* some\n* comments\n  1 1 1.00\n  1 2 2.00\n"

@@ -60,6 +60,7 @@ ZONES = (
     ("<tazs>\n<tazSource id='a' weight='1'/><taz id='1' edges='a'/></tazs>", "line 2: <tazSource> is no zone"),
     ("<additional><taz id='1'/></additional>", "line 1: zone '1' has no edges"),
     ("<additional>\n<poly id='1'/></additional>", "line 2: <poly> is no zone"),
+    ("<taz id='1' edges='a'/>", "the root is <taz>, expected <additional> or <add> or <tazs>"),
 )
 
 
@@ -107,7 +108,10 @@ class Faults(Tool):
             "</interval>{}</turns>"
         )
         for one, other, told in (
-            (flow.format("a", 'to="b"'), turns.format("a", "b", ""), "it has an end"),
+            (flow.format("a", 'to="b"'), turns.format("a", "b", ""), "it has an end (to)"),
+            (flow.format("w", 'route="r"'), turns.format("w", "m", ""), "it has an end (route)"),
+            (flow.format("w", 'toTaz="z"'), turns.format("w", "m", ""), "it has an end (toTaz)"),
+            (flow.format("w", 'via="m"'), turns.format("w", "m", ""), "it has an end (via)"),
             (flow.format("w", ""), turns.format("w", "m", ""), "edge 'm' leads to 2 others, and no turn ratio holds"),
             (flow.format("w", ""), turns.format("w", "e", ""), "no connection leads from edge 'w' to edge 'e'"),
             (flow.format("w", ""), turns.format("w", "m", '<sink edges="z"/>'), "<sink>: the network has no edge 'z'"),

@@ -20,6 +20,8 @@ from streetsim.model.names import Names
 from streetsim.model.service import COLOURS, WHITE_LETTERS
 from streetsim.model.tables import APPROACHES, JUNCTIONS, MOVEMENTS, SEEDS, TRIPS, write_table
 from streetsim.reports.comparing import difference_of, mean_delays
+from streetsim.reports.costs import Costs
+from streetsim.reports.council import trips_told
 from streetsim.reports.drawing import anchor, queue_picture
 from streetsim.results.reading import read_runs
 
@@ -56,6 +58,13 @@ class Numbers(unittest.TestCase):
         self.assertTrue(one.is_sure())
         self.assertEqual(difference_of({1: 1.0}, {1: 3.0}).told(), "+2.0")
         self.assertIsNone(difference_of({1: 1.0}, {2: 1.0}))
+
+    def test_who_arrives_with_one_plan_alone_is_told(self):
+        # Where no trip arrived with both plans, too.
+        alone = "2 trips arrived before and do not now, 3 the other way round."
+        self.assertEqual(trips_told(Costs(lost=2, won=3)), ["No trip arrived with both plans.", alone])
+        self.assertEqual(trips_told(Costs([20], lost=2, won=3))[1:], [alone])
+        self.assertEqual(trips_told(Costs()), ["No trip arrived with both plans."])
 
     def test_queues(self):
         """Bars of 480 pixels for the longest: 75 of 150 m are 240. A full edge has the gap behind its last vehicle."""

@@ -10,13 +10,14 @@ from streetsim.counts.values import Inflow, Ratio
 from streetsim.sumo.flows import departs
 
 FLOWS = ("routes", "additional", "add", "flows")
+ENDS = ("to", "toTaz", "toJunction", "via", "route", "routeDistribution")  # of flows that do not go on by ratios
 TURNS = ("turns", "edgeRelations", "turn-defs", "data")
 
 
 def read_inflows(paths: Iterable[FilePath], seed: int) -> list[Inflow]:
     """Flows that have a `from` alone. Of each the begin, the last departure and the number of vehicles are kept, and
-    its departures then are even. Fault where a file cannot be read or has no flow, for a flow with a `to` or a <route>,
-    and for another element; vehicle types are passed over. seed: of departures by chance."""
+    its departures then are even. Fault where a file cannot be read or has no flow, for a flow with one of ENDS, and
+    for another element; vehicle types are passed over. seed: of departures by chance."""
     found: list[Inflow] = []
     draws = random.Random(f"inflows {seed}")
     for path in paths:
@@ -26,10 +27,9 @@ def read_inflows(paths: Iterable[FilePath], seed: int) -> list[Inflow]:
                 continue
             if element.tag != "flow" or not element.get("from"):
                 raise Fault(f"{element_told(path, element)}: expected a <flow> with from, which turn ratios lead on")
-            if element.get("to") or element.find("route") is not None:
-                raise Fault(
-                    f"{element_told(path, element)}: it has an end: give it to --candidates or streetsim-route --trips"
-                )
+            if ends := [name for name in ENDS if element.get(name) or element.find(name) is not None]:
+                told = f"it has an end ({ends[0]}): give it to --candidates or streetsim-route --trips"
+                raise Fault(f"{element_told(path, element)}: {told}")
             times = departs(path, element, draws)
             begin = int(optional(path, element, "begin", seconds, 0.0))
             end = int(max(times, default=begin)) + 1

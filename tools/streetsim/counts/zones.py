@@ -7,7 +7,7 @@ from streetsim.counts.cells import begins_with, name_of, table_rows, vehicle_num
 from streetsim.counts.tags import Tag, read_tags
 from streetsim.counts.values import Zone
 
-ROOTS = ("additional", "add", "tazs", "taz")
+ROOTS = ("additional", "add", "tazs")
 
 
 def read_zones(paths: Iterable[FilePath]) -> dict[str, Zone]:
@@ -34,26 +34,27 @@ def zones_in_table(path: FilePath) -> Iterator[Zone]:
 
 
 def zones_in_sumo(path: FilePath) -> list[Zone]:
-    """The zones of a file of SUMO's TAZ, with the weights of its tazSource and tazSink. Fault for another element (but
-    param), one of these in no taz, and as of `zone_of`."""
+    """The zones of a file of SUMO's TAZ: weights of its tazSource and tazSink, and 1 for each of its `edges` as both,
+    are added up by edge, as in od2trips. Fault for another element (but param), one of these in no taz, and as of
+    `zone_of`."""
     found: list[tuple[Tag, dict[str, float], dict[str, float]]] = []
     for tag in read_tags(path, ROOTS):
         if tag.name == "taz":
-            found.append((tag, {}, {}))
+            edges = dict.fromkeys(tag.attributes.get("edges", "").split(), 1.0)
+            found.append((tag, edges, dict(edges)))
         elif tag.name in ("tazSource", "tazSink") and found and tag.inside[-1] == "taz":
             _, sources, sinks = found[-1]
             weights = sources if tag.name == "tazSource" else sinks
-            weights[tag.get("id", name_of)] = tag.get("weight", vehicle_number)
+            edge = tag.get("id", name_of)
+            weights[edge] = weights.get(edge, 0.0) + tag.get("weight", vehicle_number)
         elif tag.name not in ("tazs", "param"):
             raise Fault(f"{tag.where}: <{tag.name}> is no zone: <taz> with <tazSource> and <tazSink>, or edges")
     return [zone_of(*one) for one in found]
 
 
 def zone_of(tag: Tag, sources: dict[str, float], sinks: dict[str, float]) -> Zone:
-    """The zone of a <taz>: for sources, or sinks, that it does not list the edges of its attribute `edges`, with equal
-    weight; Fault where it has none of all."""
-    edges = dict.fromkeys(tag.attributes.get("edges", "").split(), 1.0)
-    zone = Zone(tag.get("id", name_of), sources or edges, sinks or edges, tag.where)
+    """The zone of a <taz> with its edges and their weights; Fault where it has none of both."""
+    zone = Zone(tag.get("id", name_of), sources, sinks, tag.where)
     if not zone.sources and not zone.sinks:
         raise Fault(f"{tag.where}: zone {zone.name!r} has no edges")
     return zone

@@ -160,8 +160,10 @@ def class_row(sides: Sequence[Mapping[int, Means]]) -> list[str]:
 def trips_told(found: Costs) -> list[str]:
     """Sentences, plain text, on how many trips become slower or quicker, and how many arrive with one plan alone; one
     that says so where no trip arrived with both."""
+    told = f"{found.lost:,} trips arrived before and do not now, {found.won:,} the other way round."
+    alone = [told] if found.lost or found.won else []
     if not (count := len(found.changes)):
-        return ["No trip arrived with both plans."]
+        return ["No trip arrived with both plans.", *alone]
     quicker, slower = (fmean(sign * change > NOTICED for change in found.changes) for sign in (-1, 1))
     told = (
         f"Of {count:,} trips of the same vehicles {100 * quicker:.0f} % become quicker by more than {NOTICED} s, "
@@ -169,8 +171,7 @@ def trips_told(found: Costs) -> list[str]:
     )
     tenth = found.changes[count * 9 // 10]
     told += f"; one in ten takes {tenth} s longer or more." if tenth > 0 else "."
-    more = f"{found.lost:,} trips arrived before and do not now, {found.won:,} the other way round."
-    return [told, *([more] if found.lost or found.won else [])]
+    return [told, *alone]
 
 
 def groups_table(found: Costs) -> str:

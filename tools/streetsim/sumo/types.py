@@ -65,7 +65,7 @@ PACE_BY_CLASS = {  # where SUMO's defaults are other ones
     "rail_fast": (0.5, 1.3),
 }
 READ = {"id", "length", "minGap", "vClass", "probability", "probabilities", "vTypes"}
-PACES = {"accel", "decel"}  # which count for vehicles that stop, as buses do
+PACES = {"accel", "decel", "maxSpeed"}  # which count for vehicles that stop, as buses do
 TAGS = ("vType", "vTypeDistribution")
 Mix = tuple[list[str], list[float]]  # names, of types or of routes, and their weights
 
@@ -152,11 +152,12 @@ class Types:
             self.report.ignored[f"{other} of vTypes"] += 1
 
     def note_paces(self, used: Collection[str], report: Report) -> None:
-        """Reports how many types tell an accel or decel that has no effect, as none of their vehicles stops; used: the
-        types whose vehicles do."""
+        """Reports how many types tell one of PACES that has no effect, as none of their vehicles stops; used: the types
+        whose vehicles do, and how many of these tell a maxSpeed, which has an effect at stops alone."""
         for told in PACES:
             unused = sum(told in paces for name, paces in self.paced.items() if name not in used)
             report.ignored[f"{told} of vTypes"] = unused
+        report.ignored["maxSpeed of vTypes, but at stops"] = sum("maxSpeed" in self.paced.get(one, ()) for one in used)
 
     def new_name(self, path: FilePath, element: Element) -> str:
         """The name of a type or a distribution, which then counts as taken; Fault where another one of the files has
