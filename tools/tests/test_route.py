@@ -19,6 +19,7 @@ from types import SimpleNamespace
 
 from clusters import ClusterCase, needs_distributed
 from support import DATA, PROGRAM, SCENARIOS, TOOLS, Case, lane, needs_simulator, needs_sumo_tools, net
+from streetsim.base import limits
 from streetsim.base.report import Report
 from streetsim.model.mapping import Map, MapLink, read_map
 from streetsim.model.runs import Line, Run, read_run
@@ -71,6 +72,11 @@ class Routing(unittest.TestCase):
         router = Router(GRAPH, flat_costs(GRAPH, [10.0] * len(GRAPH.movements)))
         c, e = GRAPH.number["c"], GRAPH.number["e"]
         self.assertEqual(router.search(c, e, 0.0), ((), FAR))
+
+    def test_who_sets_out_at_the_last_clock_has_a_way(self):
+        router = Router(GRAPH, flat_costs(GRAPH, [10.0] * len(GRAPH.movements)))
+        a, d = GRAPH.number["a"], GRAPH.number["d"]
+        self.assertEqual(router.search(a, d, float(limits.CLOCK)), (tuple(map(GRAPH.number.get, "abd")), 30.0))
 
     def test_an_edge_that_is_shut_for_a_time(self):
         costs, number = costs_with({way("c", "d"): [30] * 4}), GRAPH.number

@@ -181,6 +181,15 @@ class Signals(Case):
         with self.assertRaisesRegex(Fault, "light 'L': a cycle of 10,000,005 s; at most 200,000 s are read"):
             self.made(street(phases((10_000_000, "G"), (5, "r"))))
 
+    def test_a_departure_so_late_that_the_lines_would_have_no_end(self):
+        # 1,000,086,400 s are 133,344 greens and reds of 7,500 s in the mean.
+        street_file = self.write("x.net.xml", street(phases((5_000, "G"), (10_000, "r"))))
+        routes = self.write("r.rou.xml", '<routes><vehicle id="v" depart="1e9"><route edges="a b"/></vehicle></routes>')
+        with self.assertRaises(Fault) as fault:
+            convert(street_file, [], [routes], Options(), Report())
+        told = "a cycle of 15,000 s does not fit in one plan, and has more than 100,000 phases until 1,000,086,400 s"
+        self.assertEqual(str(fault.exception), f"light 'L': {told}, a day after the last departure")
+
     def test_never_green_and_actuated_are_warned_of(self):
         _, warnings = self.made(street(phases((10, "r")), kind="actuated"))
         self.assertEqual(

@@ -2,7 +2,7 @@
 from collections import defaultdict
 from collections.abc import Iterable, Iterator, Mapping, Sequence
 from dataclasses import dataclass, field
-from itertools import chain, cycle as cycle_of, groupby, product, takewhile
+from itertools import chain, cycle as cycle_of, groupby, islice, product, takewhile
 
 from streetsim.base import limits
 from streetsim.base.files import Fault
@@ -25,6 +25,7 @@ ShownSeconds = Mapping[int | None, Mapping[int, tuple[int, int]]]
 DEFAULT_SHARE = 0.7  # of a permissive green that is shown, where nothing is known of who gives way
 LONGEST = 200_000  # seconds of a cycle that are read
 AFTER = 86_400  # seconds after the last departure for which a program is told that does not fit in one plan
+MOST_LINES = 100_000  # of such a program; one each 6 s of a week
 QUEUED = 90  # seconds of a green above 600 s in which a queue leaves
 DRIVEN = ("actuated", NEMA)  # the kinds of programs that streetsim-run drives
 GRAINS = (1, 2, 3, 5, 8, 12, 20)  # seconds to which greens are rounded: the first that gives few phases
@@ -162,7 +163,8 @@ def too_long(cycle: int) -> str:
 def signal_lines(own: LitNode, begin: int, last: int) -> list[Command]:
     """The signal command of a node, in a list; of a program that does not fit in one plan, which is reported, a command
     for each phase, with its clock ("at"; not in the first), from begin to last (clocks, both included), as a plan of
-    one phase stays until the next. Fault where each_second or check_states raises one."""
+    one phase stays until the next. Fault where these are more than MOST_LINES, or each_second or check_states raises
+    one."""
     try:
         return [signal_command(own)]
     except TooLong:
@@ -170,7 +172,10 @@ def signal_lines(own: LitNode, begin: int, last: int) -> list[Command]:
     kind = f"lights have a cycle that does not fit in one plan; their phases are lines, until {last:,} s"
     told = f"light {own.light!r}: {cycle_told(own)}; its phases are lines, until {last:,} s"
     own.report.warn(told, [own.light], light=True, kind=kind)
-    lines = takewhile(lambda line: line[0] <= last, phase_lines(own, begin))
+    lines = list(islice(takewhile(lambda line: line[0] <= last, phase_lines(own, begin)), MOST_LINES + 1))
+    if len(lines) > MOST_LINES:
+        until = f"until {last:,} s, a day after the last departure"
+        raise Fault(f"light {own.light!r}: {cycle_told(own)}, and has more than {MOST_LINES:,} phases {until}")
     return [{**command, "at": clock} if clock > begin else command for clock, command in lines]
 
 

@@ -8,7 +8,7 @@ from typing import NamedTuple
 from streetsim.ways.costs import Costs, Table
 from streetsim.ways.graph import END, Graph
 
-FAR = 1e9  # seconds: no way
+FAR = 1e12  # seconds: no way; beyond all clocks
 
 Path = tuple[int, ...]
 EdgePair = tuple[int, int]  # an edge and the next
