@@ -247,6 +247,19 @@ class ByHand(unittest.TestCase):
         found = Measures(self.mapping, self.approaches, [[0, SIGNAL]], 0, [[0, 1, 0]], seen)
         self.assertEqual([(one.movement, one.clock) for one in found.crossings], [(("a", "b"), 3)])
 
+    def test_who_leaves_an_approach_from_an_edge_before(self):
+        """Edge e, which f alone continues, leads to the light. Vehicle 0 has passed it and ends on f; vehicle 1 turns
+        back at the end of f, comes once more, and passes the light then."""
+        mapping = street(f=(0, 1), e=(1, 2), g=(2, 3), also={"signals": [["L", 2]]})
+        frames = [[[1, 0, [[0, 9, 2]], []]], [[1, 0, [], [0]]], [[2, 0, [[0, 1, 2]], []], [0, 0, [[1, 5, 2]], []]]]
+        frames += [[[0, 0, [[0, 3, 2]], []], [2, 0, [[1, 1, 2]], []]], [[0, 0, [[1, 5, 2]], []]]]
+        frames += [[[1, 0, [[1, 5, 2]], []]]]
+        seen = Passages(mapping, approaches_of(mapping), 0)
+        for clock, lanes in enumerate([*frames, []], 1):
+            seen.see({"clock": clock, "lanes": lanes})
+        found = Measures(mapping, approaches_of(mapping), [], 0, [[1, 2, 0], [0, 2, 0, 1, 2]], seen)
+        self.assertEqual([(one.movement, one.clock) for one in found.crossings], [(("e", "g"), 3), (("e", "g"), 7)])
+
     def test_a_stop_of_its_own_is_no_delay(self):
         """The first vehicle stands for 3 s at a bus stop, 2 of them with open doors: it loses 2 s of its 4, has not
         stopped for the junction, and stood nowhere else."""

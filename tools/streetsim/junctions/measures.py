@@ -112,8 +112,11 @@ class Measures:
 
     def crossing(self, passage: Passage) -> Crossing | None:
         """What a vehicle lost on a passage of an approach, which has ended; None where its plan ends on the approach or
-        does not have its edge. It counts the passages, each of which it is asked for once, in their order, as the edge
-        may stand in the plan more than once."""
+        does not have its edge, and where it left the approach from an edge before: it arrived, turned back or was
+        rescued there. It counts the passages, each of which it is asked for once, in their order, as the edge may stand
+        in the plan more than once."""
+        if self.mapping.links[passage.link].edge != passage.edge:
+            return None
         plan, key = self.plans[passage.car], (passage.car, passage.edge)
         places = [at for at, link in enumerate(plan) if self.mapping.links[link].edge == passage.edge]
         at = places[min(self.before[key], len(places) - 1)] if places else None
