@@ -18,6 +18,7 @@ from clusters import DEBIAN, ClusterCase, free_port, needs_distributed
 from support import MAP, NUMBERED, PROGRAM, RED, TOOLS, Case, needs_simulator
 from streetsim.base.files import Fault
 from streetsim.sessions.machines import result_of
+from streetsim.study.variants import read_study
 
 CORRIDOR = TOOLS / "examples/corridor"
 
@@ -175,6 +176,15 @@ class Ends(Studies):
 
     def not_trusted(self):
         return json.loads((self.folder / "out/setting.json").read_text(encoding="utf-8"))["not_trusted"]
+
+    def test_who_had_the_time_to_arrive_dawdles_as_its_variant_does(self):
+        """Two links of ten cells at up to five cells a step, and one step in the junction between."""
+        enter = {"cmd": "enter", "plan": [0, 1], "lane": 0, "depart": 30}
+        self.write("one.jsonl", f"{json.dumps({'cmd': 'load', **NUMBERED})}\n{json.dumps(enter)}\n")
+        self.write("one.json", json.dumps({**MAP, "cars": ["v"]}))
+        text = 'run = "one.jsonl"\nmap = "one.json"\nseeds = "1"\n[variant.given]\n[variant.slow]\ndawdle = 1000\n'
+        variants = read_study(self.write("study.toml", text), PROGRAM).variants
+        self.assertEqual([one.due for one in variants.values()], [[30 + 10 / 5 * 2 + 1], [30 + 10 / 4 * 2 + 1]])
 
     def queued(self, more=""):
         """What a study says of 20 vehicles before a light that is red for ever: ten fill their

@@ -17,7 +17,7 @@ from streetsim.buses.planned import MOST_SEEN, NONE, Planned, planned
 from streetsim.buses.priority import prioritised
 from streetsim.model import trust
 from streetsim.model.mapping import Map, read_map
-from streetsim.model.runs import Run
+from streetsim.model.runs import Run, with_load
 from streetsim.routes.studied import Wished, run_on_found_ways
 from streetsim.run.ending import after_departures
 from streetsim.run.settings import Settings
@@ -46,7 +46,7 @@ class Variant:
 
     session: Session
     signals: bytes  # lines
-    due: list[float]  # when vehicles would arrive, were nobody in their way, by the dawdle of the run file; rising
+    due: list[float]  # when vehicles would arrive, were nobody in their way, by the variant's dawdle; rising
     doubts: list[str]  # what speaks against its runs before any is made
     works: list[tuple[str, int]]  # lanes, and when works on them begin
 
@@ -166,10 +166,10 @@ def read_variant(
         run, mapping, told = with_works(
             run, mapping, map_path, works, WorksOptions(lanes, lost, variant.get("works_limit"))
         )
+    run = with_load(run, **{"dawdle": variant["dawdle"]} if "dawdle" in variant else {})
     lights, buses = lights_and_buses(run, mapping, {**study, **variant}, drives)
     told += [*lights.notes(), *buses.notes()]
     print(*(f"{where}: {text}" for text in told), sep="\n", end="\n" if told else "", file=sys.stderr)
-    load = {"dawdle": variant["dawdle"]} if "dawdle" in variant else {}
     nodes: frozenset[int] = frozenset()
     signals, sensing = b"", lights.listed_lights(mapping)
     if "plans" in variant:
@@ -178,7 +178,7 @@ def read_variant(
         nodes = frozenset(node for _, node in mapping.signals)
     merging = variant.get("merge", study.get("merge")) != "none"
     settings = Settings(until, open_end=study["until"] is None, merging=merging, lights=lights, buses=buses)
-    session = giving_session(simulator, run, mapping, settings, study["rounds"], nodes, **load)
+    session = giving_session(simulator, run, mapping, settings, study["rounds"], nodes)
     doubts = [*found, *trust.length_doubts(until, run, mapping), *trust.actuated_doubts(until, run, mapping, sensing)]
     begins = [(one.lane, one.begin) for one in works]
     return Variant(session, signals, trust.free_arrivals(run, mapping), doubts, begins)
