@@ -48,6 +48,20 @@ class Words(Case):
         made.add_argument("--title", default="a")
         self.assertEqual(made.parse_args(["--title", ""]).title, "")
 
+    def test_names_that_begin_with_a_dash(self):
+        """As the other direction of an edge of SUMO's; not as the options -h and -o, with something right behind."""
+        made = Parser(prog="x")
+        for name, more in (("net", {}), ("--close", {}), ("--sign", {"nargs": "+"}), ("-o", {})):
+            made.add_argument(name, **more)
+        for name in ("-12", "-hill_0:0-20:30-40", "-office", "-J1"):
+            with self.subTest(name):
+                words = made.parse_args([name, "--close", name, "--sign", name, "-13", "-o", name])
+                self.assertEqual(vars(words), {"net": name, "close": name, "sign": [name, "-13"], "o": name})
+        for name in ("-o", "--12"):
+            self.assertEqual(made.parse_args(["net", f"--close={name}"]).close, name)
+            with self.assertRaisesRegex(Fault, "--close: expected one argument, which goes as --close=-.. where it"):
+                made.parse_args(["net", "--close", name])
+
     def test_outputs_that_are_read(self):
         run, mapped = self.write("x.jsonl", json.dumps({"cmd": "load", **NUMBERED})), self.write("x.json", "{}")
         told = self.tool("live", run, "--map", mapped, "-o", run, status=2)[1]

@@ -16,8 +16,8 @@ FREE = ("--title",)  # words whose text may be empty
 
 
 class Parser(argparse.ArgumentParser):
-    """A parser for which wrong words are a Fault, one line without the usage.
-    A word with one - before it that cannot stand for an option is a value, as many of SUMO's edges begin so."""
+    """A parser for which wrong words are a Fault, one line without the usage. A word with one - before it that is no
+    option by itself (-o) or up to a = (-o=FILE) is a value, as many of SUMO's edges begin so."""
 
     def __init__(self, *args: Any, **more: Any) -> None:
         """All arguments are those of ArgumentParser."""
@@ -30,9 +30,17 @@ class Parser(argparse.ArgumentParser):
             self.error(told)
         return super().parse_known_args(args, namespace)
 
+    def _get_option_tuples(self, option_string: str) -> list[Any]:
+        """As argparse's, the options that a word may be short for; none where it has one - before it, as -hill."""
+        return super()._get_option_tuples(option_string) if option_string.startswith("--") else []
+
     def error(self, message: str) -> NoReturn:
         """Raises the Fault of wrong words, in place of argparse's exit."""
-        raise Fault(f"{message.removeprefix('argument ')} (what may be given: {self.prog} --help)")
+        told = message.removeprefix("argument ")
+        option, _, lacks = told.partition(": ")
+        if lacks.startswith("expected"):
+            told += f", which goes as {option.rpartition('/')[2]}=-.. where it begins with -"
+        raise Fault(f"{told} (what may be given: {self.prog} --help)")
 
 
 def naming_nothing(words: Sequence[str]) -> str | None:
