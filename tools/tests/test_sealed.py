@@ -66,6 +66,13 @@ class Broken(Case):
             with self.subTest(content=content):
                 self.fault("polls.jsonl.gz", content)
 
+    def test_lines_in_bytes_that_are_no_text(self):
+        for folder, content in (("said", b"1\n\xff\n"), ("found", b"1\n\xfe\n")):
+            (self.folder / folder).mkdir()
+            (self.folder / folder / "x.xml").write_bytes(content)
+        found = list(folder_differences(self.folder / "said", self.folder / "found", Compared()))
+        self.assertEqual(found, [("x.xml, line 2", "\\xff", "\\xfe")])
+
     def test_tables(self):
         for content in (b"a,b\n\xff,2\n", b"a,b\n" + b"1" * 200_000 + b",2\n"):
             with self.subTest(content=content[:9]):

@@ -67,12 +67,13 @@ def file_lines(path: str) -> list[bytes]:
 
 
 def line_differences(name: str, first: list[bytes], second: list[bytes], counts: Compared) -> Iterator[Difference]:
-    """The lines of two files that differ as UTF-8, absent ones as empty; name: the file; first: said, second: found.
-    Adds to `counts` the numbers of the second, of digits alone between commas or brackets."""
+    """The lines of two files that differ, absent ones as empty, with bytes that are no UTF-8 as \\x and two digits;
+    name: the file; first: said, second: found. Adds to `counts` the numbers of the second, of digits alone between
+    commas or brackets."""
     for number, sides in enumerate(zip_longest(first, second, fillvalue=b""), 1):
-        said, found = (side.decode(errors="replace") for side in sides)
+        said, found = (side.decode(errors="backslashreplace") for side in sides)
         counts.numbers += sum(part.isdecimal() for part in found.replace("]", ",").replace("[", ",").split(","))
-        if said != found:
+        if sides[0] != sides[1]:
             yield f"{name}, line {number}", said, found
 
 
