@@ -118,8 +118,19 @@ class Seen(unittest.TestCase):
         self.assertEqual(one.passed, [])
         one.note_look(115, lanes(a0=[*near, (2, 1, 1)], z0=()), lambda car, link: True)
         one.note_look(145, lanes(a0=near, z0=()), lambda car, link: True)
-        # Alone it would take half a second to the end of z and 15 s from there to cell 30.
-        self.assertEqual(one.passed, [WorksPassing(145, 145 - 105 - 15.5)])
+        # Alone it would take half a second to the end of z, one in the junction, and 15 s from there to cell 30.
+        self.assertEqual(one.passed, [WorksPassing(145, 145 - 105 - 16.5)])
+
+    def test_who_comes_over_links_between_is_late_by_what_it_takes_longer_on_them(self):
+        """Before z lies y: two lanes of 40 cells, 20 s alone, and a second in each junction."""
+        both = [turn(at, lane, at + 1) for at in (0, 1) for lane in (0, 1)]
+        three = mapped(link("y"), link("z", begin=1, end=2), link("a", begin=2, end=3), turns=both)
+        one = Watched(Closure(2, 0, 30, 39, 100, 1900), streets_of(three), [0.5, 0.5, 0.5])
+        near = lane(*((car, 29 - 3 * car, 0) for car in range(3, 10)))
+        far, buffered = lane((50, 36, 1)), Lane((), ((51, 0, 0),), (), ())
+        seen = {(2, 0): near, (2, 1): lane(), (1, 0): lane(), (1, 1): lane(), (0, 0): far, (0, 1): buffered}
+        one.note_look(110, seen, lambda car, link: True)
+        self.assertEqual([one.coming[car].free for car in (50, 51)], [2 + 1 + 20 + 1 + 15, 20 + 1 + 15])
 
     def test_links_upstream_are_looked_at_where_the_queue_comes_near_them(self):
         one = self.watched()
@@ -128,7 +139,7 @@ class Seen(unittest.TestCase):
         self.assertEqual(one.further(120, lanes(a0=near, a1=())), [0])
         self.assertEqual(one.further(120, lanes(a0=near, a1=(), z0=(), z1=())), [])
         one.note_look(110, lanes(a0=near, a1=(), z0=[(50, 39, 0)], z1=[(51, 38, 0)]), lambda car, link: car != 51)
-        self.assertEqual((one.coming[50].free, 51 in one.coming), (0.5 + 15, False))
+        self.assertEqual((one.coming[50].free, 51 in one.coming), (0.5 + 1 + 15, False))
         self.assertEqual(one.left, None)
         full = [(car, 38 - 3 * car, 0) for car in range(13)]
         one.note_look(115, lanes(a0=near, a1=(), z0=full, z1=()), lambda car, link: True)

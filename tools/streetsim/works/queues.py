@@ -11,11 +11,12 @@ APART = 10  # cells: further up nobody belongs to the queue
 
 @dataclass(slots=True, frozen=True)
 class Streets:
-    """What lies upstream of each link, by its number. scale: metres of a cell; before: the links with a turn to it,
-    each with the lanes from which the turn leads."""
+    """What lies upstream of each link, by its number. scale: metres of a cell; across: the least seconds in the
+    junction at its end; before: the links with a turn to it, each with the lanes from which the turn leads."""
 
     cells: tuple[int, ...]
     scale: tuple[float, ...]
+    across: tuple[int, ...]
     before: Mapping[int, Mapping[int, frozenset[int]]]
 
 
@@ -28,7 +29,8 @@ def streets_of(mapping: Map) -> Streets:
     for (link, feeder), found in lanes.items():
         before[link][feeder] = frozenset(found)
     scale = tuple(link.metres / link.cells for link in mapping.links)
-    return Streets(tuple(link.cells for link in mapping.links), scale, before)
+    across = tuple(mapping.nodes[link.end][3] for link in mapping.links)
+    return Streets(tuple(link.cells for link in mapping.links), scale, across, before)
 
 
 @dataclass(slots=True)

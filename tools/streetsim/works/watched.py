@@ -15,7 +15,7 @@ Bound = Callable[[int, int], bool]  # whether a car, by its number, has a link i
 
 @dataclass(slots=True, frozen=True)
 class Sight:
-    """A vehicle before the works: its seconds to them, alone and without links between, and the link where it is."""
+    """A vehicle before the works: its seconds to them, were it alone, and the link where it is."""
 
     free: float
     link: int
@@ -128,21 +128,38 @@ class Watched:
                 self.coming[car] = Coming(clock, sight.free, sight.link)
 
     def sights(self, lanes: Mapping[Place, Lane]) -> tuple[dict[int, Sight], set[int]]:
-        """(the vehicles before the works, by number in the program; those on the link past their begin)."""
+        """(the vehicles before the works, by number in the program; those on the link past their begin). lanes: those
+        of the link go first, and those of each link after those of one that it leads to."""
         link, first = self.closure.link, self.closure.first
-        to_works = first * self.pace[link]
         before: dict[int, Sight] = {}
         beyond: set[int] = set()
+        behind = self.seconds_behind(dict.fromkeys(other for other, _ in lanes))
         for (other, _), lane in lanes.items():
             cells, pace = self.streets.cells[other], self.pace[other]
             if other != link:
-                before.update((car, Sight((cells - cell) * pace + to_works, other)) for car, cell, *_ in lane.cells)
+                to_works, across = behind[other], self.streets.across[other]
+                before.update(
+                    (car, Sight((cells - cell) * pace + across + to_works, other)) for car, cell, *_ in lane.cells
+                )
                 before.update((car, Sight(to_works, other)) for car, *_ in lane.buffer)
                 continue
             before.update((car, Sight((first - cell) * pace, link)) for car, cell, *_ in lane.cells if cell < first)
             beyond.update(car for car, cell, *_ in lane.cells if cell >= first)
             beyond.update(car for car, *_ in lane.buffer)
         return before, beyond
+
+    def seconds_behind(self, links: Iterable[int]) -> dict[int, float]:
+        """By link the seconds from the junction at its end to the works, alone, on the way of the fewest links; 0 on
+        the link of the works, which goes first. links: as the lanes of `sights`."""
+        found = {self.closure.link: 0.0}
+        for link in links:
+            if link == self.closure.link:
+                ahead = self.closure.first * self.pace[link]
+            else:
+                ahead = found[link] + self.streets.across[link] + self.streets.cells[link] * self.pace[link]
+            for feeder in self.streets.before.get(link, ()):
+                found.setdefault(feeder, ahead)
+        return found
 
     def note_standing(self, clock: int, lanes: Mapping[Place, Lane]) -> None:
         """Notes who stands before the works on their link, since when, for how long the longest does, and who for more
