@@ -49,6 +49,14 @@ class When(unittest.TestCase):
         # It was 5 cells before the stop line, so it came there 2.5 s later at the earliest.
         self.assertEqual(passed((10, 0, 15, False), (13, 0, 20, True), (16, 1, 2, False)), {(0, 0): [(12.5, 1, 10.0)]})
 
+    def test_the_lane_of_a_buffer(self):
+        """Seen on lane 0 of the first link, and then in the buffer of lane 1, of this link or of the next."""
+        for at, clock, found in ((0, 13, {(0, 1): [(12.5, 1, 10.0)]}), (1, 30, {(0, 0), (1, 1)})):
+            passings = Passings(Links, [Line(0, "", {"plan": [0, 1, 2], "lane": 0, "depart": 0})], 0)
+            passings.note(0, 10, 0, 0, 15)
+            passings.note(0, clock, at, 1, 20, True)
+            self.assertEqual(dict(passings.found) if at == 0 else passings.found.keys(), found)
+
     def test_a_link_that_no_poll_sees(self):
         lines = {(1, 0): [(26.0, 2, 26.0)], (0, 0): [(14.0, 1, 10.0)]}
         self.assertEqual(passed((10, 0, 19, False), (30, 2, 4, False)), lines)

@@ -57,14 +57,14 @@ class Passings:
         self.note(vehicle, clock, last, 0, self.links[last].cells)
 
     def lines_crossed(self, plan: Sequence[int], before: Sight, now: Sight) -> list[Crossed]:
-        """The stop lines that a vehicle passed from one sight to the next, in their order; on links after that of the
-        first sight it counts as on lane 0."""
+        """The stop lines that a vehicle passed from one sight to the next, in their order: on the lane in whose buffer
+        the later one sees it, and on that of the first; on links between it counts as on lane 0."""
         first, last = self.links[plan[before.index]], self.links[plan[now.index]]
         usual = before.clock + max(0, first.cells - before.cell) / self.speeds[plan[before.index]]
         if now.left and now.index == before.index:
             second = max(usual, now.clock - self.junction_steps(plan[now.index]))
-            return [(now.index, before.lane, min(now.clock, second))]
-        found: list[Crossed] = [(now.index, 0, now.clock)] if now.left else []
+            return [(now.index, now.lane, min(now.clock, second))]
+        found: list[Crossed] = [(now.index, now.lane, now.clock)] if now.left else []
         second = now.clock - (last.cells if now.left else now.cell) / self.speeds[plan[now.index]]
         for at in range(now.index - 1, before.index - 1, -1):
             second -= self.junction_steps(plan[at])
