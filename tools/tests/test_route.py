@@ -33,11 +33,13 @@ from streetsim.routes.search import (
 )
 from streetsim.sumo.net import SumoNet
 from streetsim.sumo.network import Options
+from streetsim.sumo.types import DEFAULT
 from streetsim.ways.costs import Costs, Table, costs_of, flat_costs, nothing_observed
+from streetsim.ways.empty import map_without_routes, times_and_capacities_without_routes
 from streetsim.ways.graph import END, Graph
 from streetsim.ways.minor import Minor
 from streetsim.ways.router import FAR, Found, Router, Wish, wish_parts
-from streetsim.ways.seconds import red_lengths
+from streetsim.ways.seconds import free_seconds, red_lengths
 from streetsim.ways.trips import Trip, read_trips, vehicles_from_trips, write_routes
 
 # From a to d by b or by c; from b to c as well. Nobody may go from c to d's twin e.
@@ -586,6 +588,22 @@ class GivingWay(Commands):
         here = [(row["seed"], float(row["mean_trip_s"])) for row in self.table("check.csv")]
         there = [(row["seed"], round(float(row["mean_trip_s"]), 3)) for row in self.table("seeds.csv", "runs")]
         self.assertEqual(here, there)
+
+
+class LongCycles(Case):
+    def test_a_light_whose_phases_are_sent_one_by_one(self):
+        """Green and red for 5,000 s by turns: red for 5000 * 5001 / 2 / 10000 = 1,250 s on the mean, of 1,700 an hour
+        half; the starts that greens leave out are a second or two. Without vehicles, and with those of a run."""
+        for phases in (((5000, "G"), (5000, "r")), ((5000, "r"), (5000, "G"))):
+            town = read_town(self.write("x.net.xml", lit(*phases)), [], Options(), Report())
+            numbers = [town.graph.number[name] for name in ("in", "short", "far", "long", "out")]
+            short = town.graph.movement_of[numbers[1], numbers[4]]
+            dark = free_seconds(town.graph, map_without_routes(town.net, town.options), [], town.dawdle)
+            free, capacity = times_and_capacities_without_routes(town.net, town.graph, town.options)
+            trip = Trip("v", 0.0, numbers[0], numbers[4], DEFAULT, (numbers[0], numbers[1], numbers[4]), 0.0)
+            for seconds in (free, town.loaded([trip]).free):
+                self.assertAlmostEqual(seconds[short] - dark[short], 1250, delta=3)
+            self.assertAlmostEqual(capacity[short], 850, delta=3)
 
 
 class Imports(Case):

@@ -15,7 +15,7 @@ from streetsim.sumo.network import Options
 from streetsim.sumo.types import Types
 from streetsim.ways.graph import Graph, graph_of_net
 from streetsim.ways.minor import Minor
-from streetsim.ways.seconds import free_seconds
+from streetsim.ways.seconds import free_seconds, whole_plans
 from streetsim.ways.trips import Trip, vehicles_from_trips
 from streetsim.works.asked import works_of
 from streetsim.works.sites import lanes_to_join, lanes_to_lead, with_closures
@@ -53,7 +53,7 @@ class Town:
         run, mapping = self.imported(trips, ())
         if self.works:
             run, mapping, _ = self.with_works(trips, run, mapping)
-        free = free_seconds(self.graph, mapping, [line.command for line in run.first], self.dawdle)
+        free = free_seconds(self.graph, mapping, whole_plans(run.signals()), self.dawdle)
         return Loaded(run, mapping, free)
 
     def imported(self, trips: Sequence[Trip], joint: Sequence[str], led: Sequence[str] = ()) -> tuple[Run, Map]:

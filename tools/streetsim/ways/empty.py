@@ -8,7 +8,7 @@ from streetsim.sumo.net import SumoNet
 from streetsim.sumo.network import Network, Options
 from streetsim.sumo.signals import signal_commands
 from streetsim.ways.graph import Graph
-from streetsim.ways.seconds import capacities, free_seconds
+from streetsim.ways.seconds import capacities, free_seconds, whole_plans
 
 
 def map_without_routes(net: SumoNet, options: Options) -> Map:
@@ -23,6 +23,7 @@ def times_and_capacities_without_routes(net: SumoNet, graph: Graph, options: Opt
     pass), both by movement of the graph, before any route is known. Fault where Network or signals raises one."""
     report = Report()
     network = Network(net, options, report, {})
-    made = [command for _, command in signal_commands(net, network, {}, report, {}) if "at" not in command]
+    commands = (command for _, command in signal_commands(net, network, {}, report, {}))
+    made = whole_plans((command.get("at", options.begin), command) for command in commands)
     mapping = map_of(network, [], [], report)
     return free_seconds(graph, mapping, made, options.dawdle / 1000), capacities(graph, mapping, made)

@@ -1,17 +1,37 @@
 """Seconds of movements where nobody is in the way, and what their greens let pass. Signals are the signal commands of a
-run, of which the phases count and the offsets do not; edges and movements go by their numbers in the graph."""
+run, one for each node, of which the phases count and the offsets do not; edges and movements go by their numbers in the
+graph."""
 from array import array
 from collections import defaultdict
 from collections.abc import Iterable, Iterator
+from itertools import pairwise, takewhile
 
 from streetsim.model.freeflow import FreeFlow
 from streetsim.model.mapping import Map
+from streetsim.model.runs import Command, Sent
 from streetsim.model.timing import spans_of
 from streetsim.ways.graph import END, Graph
 
 SATURATION = 1700.0  # vehicles an hour and lane in green, by and large
 NEVER = 3600.0  # seconds of a wait for a green that does not come
 LEAST_CAPACITY = 100.0  # vehicles an hour that any movement lets pass
+
+
+def whole_plans(sent: Iterable[Sent]) -> list[Command]:
+    """One signal command, {"node", "phases"}, for each node of signal commands that are sent at clocks: the phases of
+    the first that the node is sent; or where that has one phase, as of a program that is sent phase by phase, those of
+    all up to one of several phases, each as long as until the next is sent: up to the last that is as the first, so
+    that cycles are whole, or where none is up to the last of all."""
+    by_node: defaultdict[int, list[tuple[int, list]]] = defaultdict(list)
+    for clock, command in sent:
+        by_node[command["node"]].append((clock, command["phases"]))
+    found = []
+    for node, plans in by_node.items():
+        alone = list(takewhile(lambda plan: len(plan[1]) == 1, plans))
+        last = max((at for at, (_, phases) in enumerate(alone) if phases == plans[0][1]), default=0) or len(alone)
+        spans = [[later - clock, phases[0][1]] for (clock, phases), (later, _) in pairwise(alone[: last + 1])]
+        found.append({"node": node, "phases": spans or plans[0][1]})
+    return found
 
 
 def free_seconds(graph: Graph, mapping: Map, signals: Iterable[dict], dawdle: float) -> array:
