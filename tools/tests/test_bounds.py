@@ -6,10 +6,12 @@ from types import SimpleNamespace
 
 from support import PROGRAM, Case, needs_simulator
 from test_actuated import PHASES, street
-from test_nema import street as ringed
+from test_nema import rings, street as ringed
 from streetsim.actuated.kept import Cell
 from streetsim.actuated.lights import Driven, Lights, driven_lights
 from streetsim.actuated.logic import Phase
+from streetsim.actuated.ring_phases import Rings
+from streetsim.actuated.rings import DrivenRings
 from streetsim.base.files import Fault
 from streetsim.model.mapping import read_map
 from streetsim.model.runs import read_run
@@ -38,6 +40,14 @@ class Changing(unittest.TestCase):
         light = Driven("L", 0, phases, 2.0, (Cell(0, 0, 3),), (4.0,), ())
         self.assertEqual(given_bounds(Lights((light,)), ()), {"L": Bounds(((0, 5, 40),), (4.0,))})
         self.assertEqual(given_bounds(Lights((replace(light, phases=phases[1:], cells=(), gaps=()),)), ()), {})
+
+    def test_greens_of_a_ring_that_no_area_extends_are_not_searched(self):
+        """Without an area a green lasts its least, and with a recall of its most that, whoever comes."""
+        program = rings(most_recall=(6,))
+        phases = [replace(one, areas=()) if one.number == 4 else one for one in program.phases]
+        light = DrivenRings("L", Rings(phases, program.orders, program.barriers), (), ())
+        given = Bounds(tuple((number, 5, 20) for number in (1, 2, 5, 8)), (2,) * 4)
+        self.assertEqual(given_bounds(Lights((light,)), ()), {"L": given})
 
     def test_the_search_finds_the_least_of_a_bowl(self):
         # The value is least at a gap of 2 s, a most of 55 s and a least of 9 s.
@@ -95,12 +105,12 @@ class Runs(Case):
         self.tool("import", *paths, "-o", run, "--map", path)
         mapping = read_map(str(path))
         lights = driven_lights(read_run(str(run)), mapping)
-        given = Bounds(((2, 5, 40), (4, 5, 40), (6, 5, 40), (8, 5, 40)), (2.0,) * 4)
+        given = Bounds(((2, 5, 40), (6, 5, 40)), (2.0,) * 2)  # 4 and 8 have green on no lane, so no area
         self.assertEqual(given_bounds(lights, ()), {"L": given})
-        found = Bounds(((2, 5, 40), (4, 7, 40), (6, 5, 30), (8, 5, 40)), (2.0, 2.0, 3.5, 2.0))
+        found = Bounds(((2, 7, 40), (6, 5, 30)), (2.0, 3.5))
         [made] = with_bounds(lights, mapping, {"L": found}).driven
         phases = [(one.number, one.least, one.most, one.extension) for one in made.rings.phases]
-        self.assertEqual(phases, [(2, 5, 40, 2.0), (4, 7, 40, 2.0), (6, 5, 30, 3.5), (8, 5, 40, 2.0)])
+        self.assertEqual(phases, [(2, 7, 40, 2.0), (4, 5, 40, 2.0), (6, 5, 30, 3.5), (8, 5, 40, 2.0)])
         self.write("x.add.xml", bounds_text(mapping, {"L": found}))
         text = (self.folder / "x.add.xml").read_text(encoding="utf-8")
         self.assertIn('<tlLogic id="L" type="NEMA" programID="streetsim" offset="0">', text)

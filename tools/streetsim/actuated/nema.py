@@ -11,7 +11,6 @@ from __future__ import annotations
 
 from collections.abc import Callable, Collection, Iterable, Iterator, Sequence
 from dataclasses import dataclass, field
-from itertools import product
 from math import ceil
 from typing import NamedTuple
 
@@ -255,9 +254,9 @@ class Nema:
     def go_on(self) -> None:
         """Has the phases that may end go on towards the nearest pair that may follow; nothing happens where there is no
         pair."""
-        pairs = sorted(self.pairs_to_follow(), key=lambda pair: pair[0])
-        if pairs:
-            _, *following = pairs[0]
+        pair = min(self.pairs_to_follow(), key=lambda pair: pair[0], default=None)
+        if pair is not None:
+            _, *following = pair
             for one in list(self.active):
                 if one.ready:
                     self.leave(one, following)
@@ -304,16 +303,14 @@ class Nema:
         """The pairs of phases, one of each ring and both on one side of the barrier, that may follow: (how far away,
         first, second)."""
         first, second = self.active
-        for one, other in product(*(self.wished_changes(active) for active in self.active)):
-            if one.target.side == other.target.side:
-                yield self.pair(one, other)
-                continue
-            found = []
-            if first.ready and (usual := self.usual_change(second, one)).target.side == one.target.side:
-                found.append(self.pair(one, usual))
-            if second.ready and (usual := self.usual_change(first, other)).target.side == other.target.side:
-                found.append(self.pair(usual, other))
-            yield from found
+        one, other = map(self.wished_change, self.active)
+        if one.target.side == other.target.side:
+            yield self.pair(one, other)
+            return
+        if first.ready and (usual := self.usual_change(second, one)).target.side == one.target.side:
+            yield self.pair(one, usual)
+        if second.ready and (usual := self.usual_change(first, other)).target.side == other.target.side:
+            yield self.pair(usual, other)
 
     def pair(self, one: PhaseChange, other: PhaseChange) -> tuple[float, Running, Running]:
         """Two changes as (how far away on the mean, phase of the first ring, phase of the second)."""
@@ -335,20 +332,13 @@ class Nema:
         number = self.rings.barriers[beside.target.side][one.ring]
         return one.change_to(next(each for each in self.by_ring[one.ring] if each.phase.number == number))
 
-    def wished_changes(self, one: Running) -> list[PhaseChange]:
-        """The change that a ring wishes for from the phase that it shows, one always, in a list: the nearest that it
-        may make now, where a next phase was decided on (`chosen`) on that one's side of the barrier. Where it may make
-        none, to the phase that was decided on, or to itself."""
-        found: list[PhaseChange] = []
-        decided = one.chosen
-        if one.ready:
-            fitting = (each for each in one.phase_changes if decided is None or each.target.side == decided.side)
-            found += [
-                each for each in [next((each for each in fitting if self.may_follow(one, each.target)), None)] if each
-            ]
-        if decided is not None and not found:
-            found.append(one.change_to(decided))
-        return found or [one.phase_changes[-1]]
+    def wished_change(self, one: Running) -> PhaseChange:
+        """The change that a ring wishes for from the phase that it shows: the nearest that it may make now, where a
+        next phase was decided on (`chosen`) on that one's side of the barrier. Where it may make none, to the phase
+        that was decided on, or to itself."""
+        decided, usual = one.chosen, one.change_to(one.chosen or one)
+        fitting = (each for each in one.phase_changes if decided is None or each.target.side == decided.side)
+        return next((each for each in fitting if one.ready and self.may_follow(one, each.target)), usual)
 
     def may_follow(self, one: Running, target: Running) -> bool:
         """Whether a phase may be followed by another one of its ring, or stay itself, now."""

@@ -81,9 +81,10 @@ def actuated_bounds(light: Driven) -> Bounds:
 
 
 def ring_bounds(light: DrivenRings) -> Bounds:
-    """The bounds of a NEMA light, in whole seconds, its extensions (vehext) as gaps; without greens whose most is above
-    600 s, or is their least."""
-    own = [one for one in light.rings.phases if one.least < one.most <= limits.PHASE_STEPS]
+    """The bounds of a NEMA light, in whole seconds, its extensions (vehext) as gaps; without greens that no area
+    extends, as they have none or always last their most (maxRecall), whose most is above 600 s, or is their least."""
+    extended = (one for one in light.rings.phases if one.areas and not one.most_recall)
+    own = [one for one in extended if one.least < one.most <= limits.PHASE_STEPS]
     return Bounds(
         tuple((one.number, round(one.least), round(one.most)) for one in own), tuple(one.extension for one in own)
     )
