@@ -357,6 +357,18 @@ class Following(Case):
         counts = [Count(begin, begin + 900, ("a", "b"), 1, "") for begin in (0, 900)]
         self.assertEqual(passed_in(read_folder(path), counts), [3, 0])
 
+    def test_a_period_that_goes_on_after_the_run(self):
+        """The run ended at 1,080 s, and there are no polls; what passed until then counts."""
+        self.write("setting.json", json.dumps({"map": MAP, "signals": [], "dawdle": 0, "every": 0, "period": 900}))
+        self.write("trips.csv", ",".join(TRIPS) + "\n")
+        rows = "0,900,a,7,7,0.50,40.50,6.67\n900,1080,a,2,2,0.50,40.50,6.67\n"
+        self.write("edges.csv", f"{','.join(EDGES)}\n{rows}")
+        self.write("movements.csv", "begin,end,approach,to,vehicles\n0,900,a,b,6\n900,1080,a,b,1\n")
+        hour, quarter = Count(0, 3600, ("a",), 1, ""), Count(900, 1800, ("a",), 1, "")
+        day = Count(0, 86_400, ("a", "b"), 1, "")
+        self.assertEqual(passed_in(read_folder(str(self.folder)), [hour, day]), [9, 7])
+        self.assertEqual(passed_in(read_folder(str(self.folder)), [quarter]), [2])
+
     def test_who_leaves_the_plan(self):
         self.assertEqual(self.passed([Driven((0, 1), 0, 40)], [(10, {0: 0}), (20, {3: 0})]), [1, 0, 0, 1])
         polls = [(10, {0: 0}), (20, {3: 0}), (30, {2: 0})]

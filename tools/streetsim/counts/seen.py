@@ -75,10 +75,11 @@ def movement_rows(folder: Folder) -> dict[Key, list[Row]]:
 
 
 def vehicles_within(rows: Sequence[Row], count: Count) -> float | None:
-    """The vehicles of those rows (begin, end, vehicles) that together make up a count's period; none where they do
-    not."""
-    inside = [row for row in rows if count.begin <= row[0] and row[1] <= count.end]
-    whole = sum(end - begin for begin, end, _ in inside) == count.end - count.begin
+    """The vehicles of those rows (begin, end, vehicles) that together make up a count's period, as far as there are
+    rows; none where they do not."""
+    last = min(count.end, max((end for _, end, _ in rows), default=count.end))
+    inside = [row for row in rows if count.begin <= row[0] and row[1] <= last]
+    whole = sum(end - begin for begin, end, _ in inside) == last - count.begin
     return sum(vehicles for *_, vehicles in inside) if whole else None
 
 
