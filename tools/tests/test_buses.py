@@ -84,6 +84,13 @@ class Files(Case):
         # SUMO's bus brakes with 4 and starts with 1.2 m/s2: 13.89 / 2 / 4 s, and 13.89 / 2 / 1.2 s less half a second.
         self.assertEqual((mapping.visits[0].braking, mapping.visits[0].starting), (1.74, 5.29))
 
+    def test_an_end_by_its_former_name(self):
+        # SUMO 1.15 calls it deprecated, and stops there: 150 m are 20 cells.
+        _, mapping, _ = self.imported(
+            '<vehicle id="v" depart="0"><route edges="a b"/><stop lane="a_0" pos="150" duration="9"/></vehicle>'
+        )
+        self.assertEqual([(one.first, one.last) for one in mapping.visits], [(19, 19)])
+
     def test_it_enters_on_the_lane_of_its_stop(self):
         text = "".join(
             f'<vehicle id="v{at}" depart="{at}"><route edges="a b"/><stop lane="a_1" endPos="99" duration="3"/>'
@@ -108,6 +115,8 @@ class Files(Case):
             ('parkingArea="x" duration="9"', "at a parkingArea: v at x"),
             ('busStop="first" triggered="true" duration="9"', "as long as others say (triggered): v at first"),
             ('busStop="second" duration="9"', "not on the vehicle's way, behind its stops before: v at second"),
+            ('busStop="first" duration="9" onDemand="true"', "where SUMO's vehicle stops for persons alone (onDemand): "
+                                                             "v at first"),
         ):
             with self.subTest(why):
                 text = f'<vehicle id="v" depart="0"><route edges="a"/><stop {stop}/></vehicle>'

@@ -153,6 +153,13 @@ class Inputs(Case):
         cells = matrices.read_matrices([self.write("p", "from,to,vehicles\n1,2,7\n")], (0, 900))
         self.assertEqual((cells[0].begin, cells[0].end), (0, 900))
 
+    def test_inflows(self):
+        # As jtrrouter of SUMO 1.15 has them depart.
+        flows = '<flow id="f" from="a" number="4"/><flow id="g" from="b" begin="20" period="15"/>'
+        text = f'<flows><interval begin="10" end="50">{flows}</interval></flows>'
+        found = ratios.read_inflows([self.write("f.xml", text)], 1)
+        self.assertEqual([(one.edge, one.departs) for one in found], [("a", [10, 20, 30, 40]), ("b", [20, 35])])
+
     def test_ratios(self):
         old = (
             '<turns><interval begin="0" end="900"><fromEdge id="a"><toEdge id="b" probability="0.7"/>'
@@ -222,9 +229,9 @@ class Inputs(Case):
     def test_flows_begin_at_times_as_sumo_writes_them(self):
         flow = '<routes><flow id="f" from="a" begin="00:30:00" end="01:00:00" number="{}"/></routes>'
         [one] = ratios.read_inflows([self.write("f.xml", flow.format(2))], 0)
-        self.assertEqual((one.begin, one.end, one.vehicles), (1800, 2701, 2))
+        self.assertEqual(one.departs, [1800, 2700])
         [none] = ratios.read_inflows([self.write("f.xml", flow.format(0))], 0)
-        self.assertEqual((none.begin, none.end, none.vehicles), (1800, 1801, 0))
+        self.assertEqual(none.departs, [])
 
     def test_slices_begin_with_the_soonest_departure(self):
         # Two flows, the second of which begins first; the count is of 900 to 1800 s.

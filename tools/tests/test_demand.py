@@ -34,6 +34,42 @@ class Demand(Case):
         self.assertEqual(self.flow('begin="5" period="10" number="3"'), [5, 15, 25])
         self.assertEqual(self.flow('begin="5" end="5" number="3"'), [5, 5, 5])
 
+    def test_flows_in_an_interval(self):
+        # As SUMO 1.15 has them depart, but in the same file as vehicles that depart later.
+        route = '<route edges="a b"/>'
+        flows = (
+            f'<flow id="f" period="20">{route}</flow><flow id="g" begin="30" number="2">{route}</flow>'
+            f'<flow id="h" end="45" period="30">{route}</flow><flow id="i" period="30" number="3">{route}</flow>'
+            f'<vehicle id="v" depart="90">{route}</vehicle>'
+        )
+        found = self.enters(f'<interval begin="10" end="60">{flows}</interval>')
+        named = {name: [depart for one, depart in found if one.startswith(name)] for name in "fghiv"}
+        self.assertEqual(named, {"f": [10, 30, 50], "g": [30, 45], "h": [10, 40], "i": [10, 40, 70], "v": [90]})
+        with self.assertRaisesRegex(Fault, "<interval>: no attribute 'end'"):
+            self.enters(f'<interval begin="10">{flows}</interval>')
+
+    def test_what_sumo_leaves_out_as_it_is_not_sorted_is_told(self):
+        # SUMO 1.15 says of b, f and d that it ignores them, and drives a, g and e.
+        route, report = '<route edges="a b"/>', Report()
+        found = self.enters(
+            f'<vehicle id="a" depart="30">{route}</vehicle><vehicle id="b" depart="20">{route}</vehicle>'
+            f'<flow id="f" begin="29" end="50" number="1">{route}</flow>'
+            f'<flow id="g" begin="35" end="80" number="1">{route}</flow><vehicle id="d" depart="34">{route}</vehicle>'
+            f'<vehicle id="t" depart="triggered">{route}</vehicle><vehicle id="e" depart="35">{route}</vehicle>',
+            f'<vehicle id="h" depart="1">{route}</vehicle>',
+            report=report,
+        )
+        self.assertEqual(len(found), 7)
+        told = "3 vehicles or flows stand behind later ones in their file, and drive here, where SUMO leaves them out"
+        self.assertIn(f"warning: {told}: b, f, d (sort the file by departure)", list(report.lines()))
+
+    def test_elements_without_effect_are_told(self):
+        report, key = Report(), '<param key="has.rerouting.device" value="true"/>'
+        vehicle = f'<vehicle id="v" type="t" depart="0"><route edges="a b"/>{key}<stopp lane="a_0"/></vehicle>'
+        self.enters(f'<vType id="t">{key}</vType>{vehicle}', report=report)
+        told = {"<param> of vTypes": 1, "<param> of vehicles": 1, "<stopp> of vehicles": 1}
+        self.assertEqual({what: count for what, count in report.ignored.items() if count}, told)
+
     def test_a_chance_that_hardly_ever_comes(self):
         for chance in ("1e-17", "1e-300"):
             self.assertEqual(self.flow(f'end="3600" probability="{chance}"'), [])

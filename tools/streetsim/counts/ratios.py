@@ -3,11 +3,11 @@ raises Fault, with file and line or element, where a value is absent or cannot b
 import random
 from collections.abc import Iterable
 
-from streetsim.base.files import Fault, FilePath, element_told, elements, optional, seconds
+from streetsim.base.files import Fault, FilePath, element_told
 from streetsim.counts.cells import MOST_SECONDS, clock_of, name_of, period_of, vehicle_number
 from streetsim.counts.tags import Tag, read_tags
 from streetsim.counts.values import Inflow, Ratio
-from streetsim.sumo.flows import departs
+from streetsim.sumo.flows import departs, route_elements
 
 FLOWS = ("routes", "additional", "add", "flows")
 ENDS = ("to", "toTaz", "toJunction", "via", "route", "routeDistribution")  # of flows that do not go on by ratios
@@ -15,14 +15,13 @@ TURNS = ("turns", "edgeRelations", "turn-defs", "data")
 
 
 def read_inflows(paths: Iterable[FilePath], seed: int) -> list[Inflow]:
-    """Flows that have a `from` alone. Of each the begin, the last departure and the number of vehicles are kept, and
-    its departures then are even. Fault where a file cannot be read or has no flow, for a flow with one of ENDS, and
-    for another element; vehicle types are passed over. seed: of departures by chance."""
+    """Flows that have a `from` alone, each with its departures. Fault where a file cannot be read or has no flow, for a
+    flow with one of ENDS, and for another element; vehicle types are passed over. seed: of departures by chance."""
     found: list[Inflow] = []
     draws = random.Random(f"inflows {seed}")
     for path in paths:
         before = len(found)
-        for element in elements(path, FLOWS):
+        for element in route_elements(path, FLOWS):
             if element.tag in ("vType", "vTypeDistribution"):
                 continue
             if element.tag != "flow" or not element.get("from"):
@@ -31,9 +30,7 @@ def read_inflows(paths: Iterable[FilePath], seed: int) -> list[Inflow]:
                 told = f"it has an end ({ends[0]}): give it to --candidates or streetsim-route --trips"
                 raise Fault(f"{element_told(path, element)}: {told}")
             times = departs(path, element, draws)
-            begin = int(optional(path, element, "begin", seconds, 0.0))
-            end = int(max(times, default=begin)) + 1
-            found.append(Inflow(element.get("from", ""), begin, end, len(times), element_told(path, element)))
+            found.append(Inflow(element.get("from", ""), times, element_told(path, element)))
         if len(found) == before:
             raise Fault(f"{path}: no flow is in it")
     return found

@@ -1,6 +1,6 @@
 """What a planner has: counts, zones, matrices, inflows and turn ratios, each with the line that tells it."""
 from collections import defaultdict
-from collections.abc import Callable, Iterable, Iterator, Mapping
+from collections.abc import Callable, Iterable, Iterator, Mapping, Sequence
 from dataclasses import dataclass
 from itertools import pairwise
 from typing import TypeVar
@@ -74,12 +74,10 @@ def share_between(one: Dated, begin: float, end: float) -> float:
 
 @dataclass(frozen=True, slots=True)
 class Inflow:
-    """Vehicles that depart evenly on an edge in a period, in seconds, and go on by turn ratios."""
+    """Vehicles that depart on an edge, at some seconds, and go on by turn ratios."""
 
     edge: str
-    begin: int
-    end: int
-    vehicles: int
+    departs: Sequence[float]  # rising
     where: str  # the file and the element
 
 

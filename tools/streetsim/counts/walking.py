@@ -65,8 +65,7 @@ def walks_of(
     graph, draws = turns.graph, random.Random(f"ratios {seed}")
     for flow in inflows:
         check_edges([flow.edge], flow.where, net)
-        for at in range(flow.vehicles):
-            depart = flow.begin + (flow.end - flow.begin) / flow.vehicles * at
+        for depart in flow.departs:
             path, clock = [graph.number[flow.edge]], depart
             while (following := turns.next_edge(path[-1], clock, draws)) is not None:
                 clock += seconds[graph.movement_of[path[-1], following]]

@@ -3,19 +3,19 @@ with file and element, where an attribute that it needs is absent, or one cannot
 import math
 import random
 from collections import Counter
-from collections.abc import Iterable, Mapping, Sequence
+from collections.abc import Iterable, Mapping, Sequence, Set
 from dataclasses import astuple, dataclass
 from itertools import pairwise
 from xml.etree.ElementTree import Element
 
 from streetsim.base import limits
 from streetsim.base.files import (
-    Fault, FilePath, Json, at_least_zero, attribute, element_told, elements, filled, optional, seconds,
+    Fault, FilePath, Json, at_least_zero, attribute, element_told, filled, optional, seconds,
 )
-from streetsim.base.report import Report
+from streetsim.base.report import Report, first_few
 from streetsim.model.runs import Command
 from streetsim.model.sources import sum_of_lines
-from streetsim.sumo.flows import departs
+from streetsim.sumo.flows import departs, route_elements
 from streetsim.sumo.net import SumoNet
 from streetsim.sumo.network import LaneKey, Network
 from streetsim.sumo.stops import FoundStops, Stop, Stops, stops_in
@@ -23,7 +23,10 @@ from streetsim.sumo.types import DEFAULT, Mix, Sizes, Types, named_in, weight_of
 
 READ = {"id", "type", "depart", "route", "edges", "begin", "end"}
 READ |= {"number", "period", "probability", "vehsPerHour", "perHour", "repeat", "line"}
+READ_INSIDE = {"route", "routeDistribution", "stop"}  # elements in a vehicle, flow or trip
 ENDS = {"from", "to", "fromTaz", "toTaz", "via"}
+DEPARTS = {"vehicle": "depart", "trip": "depart", "flow": "begin"}  # by element, the attribute by which SUMO sorts
+NO_TIMES = ("triggered", "containerTriggered", "now", "split", "begin")  # in place of a depart
 NOT_DRIVEN = {
     "trip": "a trip",
     "person": "a person",
@@ -55,6 +58,8 @@ class Vehicle:
 class Demand:
     """The vehicles of route files, and the routes that these name."""
 
+    roots: Sequence[str] = ("routes", "additional", "add")  # of its files
+
     def __init__(self, net: SumoNet, types: Types, seed: int, report: Report) -> None:
         """seed: of the draws of flows and of routes from distributions."""
         self.net, self.types, self.report = net, types, report
@@ -64,11 +69,18 @@ class Demand:
         self.vehicles: list[Vehicle] = []
         self.route_stops: dict[str, tuple[Stop, ...]] = {}  # by route, seconds from the departure on
         self.later: list[tuple[Vehicle, str]] = []  # (vehicle, file and element): routes may be told after the vehicles
+        self.unsorted: list[str] = []  # vehicles and flows behind later ones in a file of routes
 
     def read_file(self, path: FilePath) -> None:
         """Adds what a file of routes has; Fault where it cannot be read or read_element raises one."""
-        for element in elements(path, ["routes", "additional", "add"]):
+        last = -math.inf
+        for element in route_elements(path, self.roots):
             self.read_element(path, element)
+            text = element.get(DEPARTS.get(element.tag, ""), "0")
+            if element.tag in DEPARTS and text not in NO_TIMES:
+                if seconds(text) < last:
+                    self.unsorted.append(element.get("id", ""))
+                last = max(last, seconds(text))
 
     def read_element(self, path: FilePath, element: Element) -> None:
         """Adds an element of a file of routes or an additional file. Unrouted for a trip, or a vehicle or flow without
@@ -188,15 +200,16 @@ class Demand:
             raise Fault(f"{element_told(path, element)}: a second route")
         return element.find("route"), element.find("routeDistribution")
 
-    def note_ignored(self, element: Element) -> None:
-        """Reports all attributes of an element that are not in READ, as ignored."""
-        for name in set(element.keys()) - READ:
+    def note_ignored(self, element: Element, read: Set[str] = READ) -> None:
+        """Reports all attributes of an element that are not among those that are read, and all elements in it that are
+        not in READ_INSIDE, as ignored."""
+        for name in [*(set(element.keys()) - read), *(f"<{one.tag}>" for one in element if one.tag not in READ_INSIDE)]:
             self.report.ignored[f"{name} of {element.tag}s"] += 1
 
     def read_vehicle(self, path: FilePath, element: Element) -> None:
         """Adds a vehicle; one whose depart is one of SUMO's words instead of a time is reported as skipped."""
         text = attribute(path, element, "depart")
-        if text in ("triggered", "containerTriggered", "now", "split", "begin"):
+        if text in NO_TIMES:
             self.report.skipped[f"depart={text!r} is no time"] += 1
         else:
             depart = attribute(path, element, "depart", at_least_zero(seconds))
@@ -223,6 +236,10 @@ class Demand:
             raise Fault(f"two vehicles are named {double[0]!r}")
         for vehicle in self.vehicles:
             vehicle.type = self.types.draw_type(vehicle.type)
+        if self.unsorted:
+            count = f"{len(self.unsorted):,} vehicles or flows stand behind later ones in their file"
+            text = f"{count}, and drive here, where SUMO leaves them out: {first_few(self.unsorted)}"
+            self.report.warn(text, self.unsorted, "sort the file by departure")
         before = [vehicle for vehicle in self.vehicles if end is None or vehicle.depart < end]
         if after := len(self.vehicles) - len(before):
             self.report.notes.append(f"{after:,} vehicles that depart at the end, {end:,} s, or later are left out")

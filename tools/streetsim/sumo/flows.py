@@ -1,19 +1,40 @@
-"""When the vehicles of a SUMO flow depart. All that reads raises Fault, with file and element, where an attribute that
-it needs is absent, or one cannot be read."""
+"""When the vehicles of a SUMO flow depart, and flows in intervals. All that reads raises Fault, with file and element,
+where an attribute that it needs is absent, or one cannot be read."""
 import math
-from collections.abc import Iterator
+from collections.abc import Collection, Iterator
 from itertools import count, islice, takewhile
 from random import Random
 from xml.etree.ElementTree import Element
 
 from streetsim.base import limits
 from streetsim.base.files import (
-    Fault, FilePath, above_zero, at_least_zero, attribute, element_told, number, only, optional, seconds,
+    Fault, FilePath, above_zero, at_least_zero, attribute, element_told, elements, number, only, optional, seconds,
 )
 
 DAY = 86_400.0
 LARGEST = 2**31 - 1  # of SUMO's whole numbers
 RATES = ("period", "vehsPerHour", "perHour", "probability")
+
+
+def route_elements(path: FilePath, roots: Collection[str]) -> Iterator[Element]:
+    """The elements of a file of routes, as `elements` gives them; of an <interval> those that stand in it."""
+    for element in elements(path, roots):
+        if element.tag == "interval":
+            yield from elements_in_interval(path, element)
+        else:
+            yield element
+
+
+def elements_in_interval(path: FilePath, interval: Element) -> Iterator[Element]:
+    """The elements that stand in an <interval>. Its begin and end are those of a flow that tells none itself, but a
+    flow with a rate and a number has no end, as in SUMO. Fault where the interval lacks one of both."""
+    begin, end = (attribute(path, interval, name) for name in ("begin", "end"))
+    for one in interval:
+        if one.tag == "flow":
+            one.attrib.setdefault("begin", begin)
+            if one.get("number") is None or all(one.get(name) is None for name in RATES):
+                one.attrib.setdefault("end", end)
+        yield one
 
 
 def departs(path: FilePath, element: Element, draws: Random) -> list[float]:

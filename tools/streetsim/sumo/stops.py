@@ -142,6 +142,8 @@ def why_cannot_be_made(element: Element) -> str:
         return f"at a {kind}"
     if name := next((one for one in WAITS if element.get(one, "").lower() in TRUE), ""):
         return f"as long as others say ({name})"
+    if element.get("onDemand", "").lower() in TRUE:
+        return "where SUMO's vehicle stops for persons alone (onDemand)"
     if name := next((one for one in ("speed", "jump") if element.get(one)), ""):
         return f"with {name}, which streetsim does not have"
     return ""
@@ -149,15 +151,16 @@ def why_cannot_be_made(element: Element) -> str:
 
 def unnamed_bus_stop(path: FilePath, element: Element, net: SumoNet, where: str) -> BusStop:
     """The bus stop of a stop that names a lane, or an edge: then the first lane of it that is kept. An end that is not
-    told is the lane's, a begin that is not told POINT before the end. Fault where it names neither, the network does
-    not have the edge, or `checked_bus_stop` raises one; where: the element, for the Fault."""
+    told (by endPos, or pos, its former name) is the lane's, a begin that is not told POINT before the end. Fault where
+    it names neither, the network does not have the edge, or `checked_bus_stop` raises one; where: the element, for the
+    Fault."""
     lane, edge = element.get("lane", ""), element.get("edge", "")
     if not lane and not edge:
         raise Fault(f"{where}: without busStop, lane or edge")
     if not lane and edge not in net.edges and edge not in net.dropped:
         raise Fault(f"{where}: the network has no edge {edge!r}")
     lane = lane or f"{edge}_{net.edges[edge].lanes[0].index if edge in net.edges else 0}"
-    end = optional(path, element, "endPos", number, None)
+    end = optional(path, element, "endPos", number, optional(path, element, "pos", number, None))
     end = metres_of_lane(lane, net, where) if end is None else end
     begin = optional(path, element, "startPos", number, max(0.0, end - POINT) if end >= 0 else end - POINT)
     return checked_bus_stop(BusStop(lane, begin, end), element, net, where)

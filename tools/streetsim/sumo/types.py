@@ -134,8 +134,8 @@ class Types:
             self.read_mix(path, element)
 
     def read_type(self, path: FilePath, element: Element) -> None:
-        """Adds a type; what it does not tell is as SUMO's defaults for its class. Attributes beside READ and PACES are
-        reported as ignored. Fault where another one has its name, or SUMO has no such class."""
+        """Adds a type; what it does not tell is as SUMO's defaults for its class. Attributes beside READ and PACES,
+        and elements in it, are reported as ignored. Fault where another one has its name, or SUMO has no such class."""
         vclass = class_of(path, element)
         length, gap = BY_CLASS.get(vclass, USUAL)
         length = optional(path, element, "length", above_zero(number), length)
@@ -148,7 +148,7 @@ class Types:
         starting = optional(path, element, "accel", above_zero(number), starting)
         self.pace[name] = starting, optional(path, element, "decel", above_zero(number), braking)
         self.paced[name] = PACES & set(element.keys())
-        for other in set(element.keys()) - READ - PACES:
+        for other in [*(set(element.keys()) - READ - PACES), *(f"<{one.tag}>" for one in element)]:
             self.report.ignored[f"{other} of vTypes"] += 1
 
     def note_paces(self, used: Collection[str], report: Report) -> None:

@@ -7,9 +7,9 @@ from xml.etree import ElementTree
 from xml.sax.saxutils import quoteattr
 
 from streetsim.base import limits
-from streetsim.base.files import Fault, FilePath, attributes_of, element_told, elements, whole_file
+from streetsim.base.files import Fault, FilePath, attributes_of, element_told, whole_file
 from streetsim.base.report import Report
-from streetsim.sumo.demand import ENDS, NOT_DRIVEN, READ, Demand, Vehicle
+from streetsim.sumo.demand import ENDS, READ, Demand, Vehicle
 from streetsim.sumo.net import SumoNet
 from streetsim.sumo.network import Options
 from streetsim.sumo.stops import Stop, edge_of, stops_in
@@ -49,32 +49,28 @@ class Trip:
 class TripDemand(Demand):
     """The vehicles of files of trips, flows and routes; the edges of one without a route are those of its two ends."""
 
+    roots = (*Demand.roots, "trips")
+
     def __init__(self, net: SumoNet, types: Types, seed: int, report: Report) -> None:
         """As Demand takes them; seed: of the draws of flows and of routes from distributions."""
         super().__init__(net, types, seed, report)
         self.without: set[str] = set()  # vehicles without a route
         self.told_types: list[str] = []  # vehicle types as they stand in the files
 
-    def read_file(self, path: FilePath) -> None:
-        """Adds what a file of trips, flows or routes has; Fault where it cannot be read or is wrong, or persons drive
-        in it. Persons who do not drive, and containers, are reported as skipped, unknown elements as ignored."""
-        readers = {"route": self.read_route, "vehicle": self.read_vehicle, "flow": self.read_flow}
-        readers |= {"trip": self.read_vehicle, "routeDistribution": self.read_mix}
-        for element in elements(path, ["routes", "trips", "additional", "add"]):
-            if element.tag in PERSONS and any(element.find(name) is not None for name in DRIVEN):
-                raise Fault(
-                    f"{element_told(path, element)}: persons are not routed here; take them out, or compute their "
-                    "cars' trips with duarouter"
-                )
-            if element.tag in TAGS:
-                self.told_types.append(ElementTree.tostring(element, encoding="unicode").strip())
-                self.types.read_element(path, element)
-            elif element.tag in readers:
-                readers[element.tag](path, element)
-            elif element.tag in NOT_DRIVEN:
-                self.report.skipped[f"{NOT_DRIVEN[element.tag]}, which streetsim does not have"] += 1
-            else:
-                self.report.ignored[f"<{element.tag}> of route files"] += 1
+    def read_element(self, path: FilePath, element: ElementTree.Element) -> None:
+        """Adds an element of a file of trips, flows or routes, as Demand does, but trips too; Fault where persons drive
+        in it."""
+        if element.tag in PERSONS and any(element.find(name) is not None for name in DRIVEN):
+            raise Fault(
+                f"{element_told(path, element)}: persons are not routed here; take them out, or compute their "
+                "cars' trips with duarouter"
+            )
+        if element.tag in TAGS:
+            self.told_types.append(ElementTree.tostring(element, encoding="unicode").strip())
+        if element.tag == "trip":
+            self.read_vehicle(path, element)
+        else:
+            super().read_element(path, element)
 
     def add_vehicles(
         self, path: FilePath, element: ElementTree.Element, departures: Sequence[tuple[str, float]]
@@ -90,8 +86,7 @@ class TripDemand(Demand):
             super().add_vehicles(path, element, departures)
             return
         ends = self.ends(path, element)
-        for name in set(element.keys()) - READ - ENDS - ASIDE:
-            self.report.ignored[f"{name} of {element.tag}s"] += 1
+        self.note_ignored(element, READ | ENDS | ASIDE)
         self.vehicles += [self.vehicle_of(path, element, departure, ends) for departure in departures]
         self.without.update(name for name, _ in departures)
 
