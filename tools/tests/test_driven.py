@@ -228,11 +228,16 @@ class Runs(Case):
         read = read_run(run), read_map(mapping)
         made = iter([(*read, []), None])
         engine = DrivenEngine(PROGRAM, own_lines(read[0]), lambda: next(made) or self.refuse())
+        self.check_nothing_runs(engine)
         engine.begin_run()
         with self.assertRaisesRegex(Fault, "not joint"):
             engine.begin_run()
-        with self.assertRaisesRegex(Fault, "nothing is running"):
-            engine.ask([b'{"cmd":"count"}\n'])
+        self.check_nothing_runs(engine)
+
+    def check_nothing_runs(self, engine):
+        for line in (b'{"cmd":"count"}\n', b'{"cmd":"advance","steps":1}\n'):
+            with self.assertRaisesRegex(Fault, "nothing is running"):
+                engine.ask([line])
 
     def refuse(self):
         raise Fault("not joint")

@@ -526,6 +526,21 @@ class Vehicles(Started):
         with self.assertRaisesRegex(traci.TraCIException, "Vehicle 'v' is not known"):
             traci.vehicle.setRoute("v", ["a", "b"])
 
+    def test_other_ways_in_a_junction(self):
+        """Of several the last one is driven, though the vehicle is already to enter on the first."""
+        self.start()
+        while not traci.vehicle.getRoadID("v").startswith(":"):
+            traci.simulationStep()
+        for edges in (["a", "c"], ["a", "b"], ["a", "c"], ["a", "b"]):
+            traci.vehicle.setRoute("v", edges)
+            self.assertEqual((traci.vehicle.getRoute("v"), traci.vehicle.getRoadID("v")), (tuple(edges), ":B"))
+        self.assertEqual((traci.vehicle.getIDList(), traci.simulation.getMinExpectedNumber()), (("v",), 2))
+        traci.simulationStep()
+        self.assertEqual((traci.vehicle.getRoadID("v"), traci.vehicle.getRouteIndex("v")), ("b", 1))
+        traci.vehicle.setRoute("v", ["b"])
+        self.steps(20)
+        self.assertEqual((traci.vehicle.getIDList(), traci.simulation.getMinExpectedNumber()), ((), 1))
+
     def test_ways_by_travel_times(self):
         self.start()
         stage = traci.simulation.findRoute("a", "c")

@@ -40,7 +40,7 @@ class DrivenEngine(Engine):
 
     def replies_to(self, lines: list[bytes]) -> list[bytes]:
         """The replies to lines of the page; lights are looked at between the steps that these make."""
-        replies: list[bytes] = []
+        replies = self.exchange([])  # Fault where nothing runs, as there are no lights then
         waiting: list[bytes] = []  # that are sent together, as no light is looked at between them
         ahead = 0  # steps of these
         for line in lines:

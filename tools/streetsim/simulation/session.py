@@ -226,7 +226,7 @@ class Session(Simulation):
             where = self.view.on_road.get(car)
             if where is None or where.link != link:
                 del self.pending[car]
-            elif where.cell is None and car not in self.view.held:
+            elif where.cell is None:
                 del self.pending[car]
                 if links:
                     self.change_way(car, links, where)

@@ -98,6 +98,7 @@ class View:
         """Notes that a vehicle at a node (where) goes on as number new, and stands there until it is seen again."""
         self.seen.add(new)
         self.on_road.pop(car)
+        self.held.pop(car, None)
         self.on_road[new] = self.held[new] = OnRoad(where.link, where.lane, None, 0)
 
     def remove(self, name: str, car: int) -> None:
