@@ -78,6 +78,9 @@ class Scripts(Case):
         # When the light is looked at next stays, as in SUMO: at 58 s it ends the phase that was set at 54.
         self.start(street(PHASES))
         traci.simulationStep(54)
+        sent = list(traci._now().client.changes)
+        traci.trafficlight.setPhase("L", 0)  # which is shown: nothing changes, and no green begins anew
+        self.assertEqual((self.told(), traci._now().client.changes), ((0, "G", 58.0), sent))
         traci.trafficlight.setPhase("L", 2)
         self.assertEqual(self.told(), (2, "r", 58.0))
         traci.simulationStep(58)

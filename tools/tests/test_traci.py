@@ -881,6 +881,60 @@ class Lights(Started):
         traci.simulationStep(35)
         self.assertEqual(told(), (1, "yr", 39.0))
 
+    def test_a_phase_that_is_set_anew_while_it_is_shown_goes_on(self):
+        """It ends its seconds from then on, as in SUMO; who gives way in it goes, though it never comes to its end."""
+        self.start(SIGNALLED.replace('state="Gr"', 'state="gr"'))
+        light = traci.trafficlight
+        traci.simulationStep(6)
+        for clock in range(6, 40):
+            light.setPhase("L", 0)
+            self.assertEqual((light.getPhase("L"), light.getNextSwitch("L")), (0, clock + 10))
+            traci.simulationStep()
+        self.assertNotIn("v", traci.vehicle.getIDList())
+        traci.simulationStep(48)
+        self.assertEqual((light.getPhase("L"), light.getNextSwitch("L")), (0, 49.0))
+        traci.simulationStep(50)
+        self.assertEqual((light.getPhase("L"), light.getNextSwitch("L")), (1, 54.0))
+
+    def test_programs_go_on_unseen_from_where_a_script_left_them(self):
+        """As in SUMO: the third phase is set at 7 s, so that a cycle of 30 s begins at 22; a cycle of 28 s of a program
+        of the script begins at 10 s, as its second phase does at 30; and a phase is told to end at 100 s."""
+        self.start()
+        light, state = traci.trafficlight, str(self.folder / "state.json")
+
+        def told():
+            return light.getProgram("L"), light.getPhase("L"), light.getNextSwitch("L")
+
+        traci.simulationStep(7)
+        light.setPhase("L", 2)
+        traci.simulationStep(8)
+        light.setProgram("L", "day")
+        self.assertEqual(told(), ("day", 2, 22.0))
+        light.setRedYellowGreenState("L", "rr")
+        traci.simulationStep(25)
+        light.setProgram("L", "day")
+        self.assertEqual(told(), ("day", 0, 32.0))
+        traci.simulationStep(30)
+        phases = [light.Phase(20, "rr"), light.Phase(8, "GG")]
+        light.setProgramLogic("L", light.Logic("mine", 0, 1, phases))
+        traci.simulationStep(33)
+        light.setProgram("L", "day")
+        traci.simulation.saveState(state)
+        traci.close()
+        self.start()
+        traci.simulation.loadState(state)
+        traci.simulationStep(60)
+        light.setProgram("L", "mine")
+        self.assertEqual(told(), ("mine", 1, 66.0))
+        traci.simulationStep(90)
+        light.setProgram("L", "day")
+        self.assertEqual(told(), ("day", 0, 92.0))
+        light.setPhaseDuration("L", 10)
+        light.setProgram("L", "mine")
+        traci.simulationStep(101)
+        light.setProgram("L", "day")
+        self.assertEqual(told(), ("day", 1, 105.0))
+
     def test_program(self):
         self.start()
         logic = traci.trafficlight.Logic(

@@ -129,12 +129,15 @@ class Actuated:
         """The clock at which it may go on, as scripts ask for it: when it is looked at next, as in SUMO."""
         return self.due
 
-    def go_to(self, index: int, now: int) -> None:
+    def go_to(self, index: int, now: int) -> bool:
         """Goes on at the clock `now` with the phase at a place, from its begin, and adds the one that was shown to
-        `ended`; nothing where it is shown already. When it is looked at next stays as it was, as in SUMO."""
-        if index != self.at:
-            self.ended.append(Ended(self.at, self.since, now - self.since, BY_SCRIPT))
-            self.at, self.since = index, now
+        `ended`; nothing where it is shown already. Says whether it does. When it is looked at next stays as it was, as
+        in SUMO."""
+        if index == self.at:
+            return False
+        self.ended.append(Ended(self.at, self.since, now - self.since, BY_SCRIPT))
+        self.at, self.since = index, now
+        return True
 
     def end_at(self, clock: int) -> None:
         """Has the phase that is shown end at a clock, whoever the detectors see."""

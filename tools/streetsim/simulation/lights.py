@@ -49,7 +49,8 @@ class Control:
         self, simulation: Simulation, lights: dict[str, Light], offsets: Mapping[tuple[str, str], float]
     ) -> None:
         """lights: by name, as the files have them; offsets: seconds, by light and program."""
-        self.simulation, self.lights, self.offsets = simulation, lights, offsets
+        self.simulation, self.lights = simulation, lights
+        self.begins = dict(offsets)  # by light and program: a clock at which its cycle begins, as it goes on unseen
         self.timers: list[tuple[int, str, int]] = []  # (clock, light, index): the phase that begins then
         self.changes = deque(simulation.map.switches)  # by time of day, that the lights are still to be told of
         self.note_switches(simulation.clock)
@@ -62,7 +63,7 @@ class Control:
             if name in self.lights and not self.simulation.shown.forgotten & {*self.simulation.shown.nodes(name)}:
                 light = self.lights[name]
                 light.phases, light.names = light.programs[program]
-                light.program, light.begin = program, self.offsets.get((name, program), 0.0)
+                light.program, light.begin = program, self.begins.get((name, program), 0.0)
 
     def light(self, name: str) -> Light:
         """A light by its name, with the program that it has by time of day."""
@@ -76,23 +77,26 @@ class Control:
         return self.simulation.driving.driver.controller_of(name)
 
     def run_program(self, name: str, program: str) -> None:
-        """Runs one of a light's programs from the second of its cycle that belongs to this clock; one that detectors
-        drive, from where they have brought it meanwhile. TraCIException where the light has none of this name."""
+        """Runs one of a light's programs, from the second of its cycle that it has come to unseen, as a script has left
+        it; one that detectors drive, from where they have brought it meanwhile. Nothing where it runs already.
+        TraCIException where the light has none of this name."""
         light, driver = self.light(name), self.simulation.driving.driver
         if program not in light.programs:
             raise TraCIException(f"Traffic light '{name}' has no program {program!r}")
+        if program == light.program:
+            return
         phases, names = light.programs[program]
         if program in light.scripted or (found := driver.controller_of(name, program)) is None:
-            self.show_program(name, program, phases, names, self.offsets.get((name, program), 0.0))
+            self.show_program(name, program, phases, names, self.begins.get((name, program), 0.0))
             return
-        self.end_timers(name)
+        self.leave_program(name)
         self.simulation.shown.forget(name)
         driver.release(name, self.simulation.clock)
         self.simulation.show(found.resumes(self.simulation.clock))
         light.phases, light.program, light.names = phases, program, names
 
     def state(self, name: str) -> str:
-        """A light's state now, SUMO's letter for each signal; g also where G is shown instead (hold, end_phase)."""
+        """A light's state now, SUMO's letter for each signal; g also where G is shown (hold, end_phase, go_to)."""
         if (driven := self.driven(name)) is not None:
             return driven.logic.state()
         return self.light(name).phases[self.present_phase(name)[0]][1]
@@ -127,7 +131,7 @@ class Control:
         light = self.light(name)
         check_phases(name, phases, light.states)
         self.show(name, phases, begin)
-        self.end_timers(name)
+        self.leave_program(name)
         light.phases, light.program, light.names, light.begin = phases, program, names, begin
 
     def set_program(self, name: str, program: str, phases: Phases, names: list[str], begin: float) -> None:
@@ -137,14 +141,26 @@ class Control:
         self.lights[name].scripted.add(program)
 
     def go_to(self, name: str, index: int) -> None:
-        """Shows the phase of an index from now on, whatever end was set for the present one; a light that detectors
-        drive stays driven. TraCIException for a wrong index, and for a NEMA light that they drive."""
-        check_index(name, self.light(name).phases, index)
-        if (driven := self.driven(name)) is None:
-            self.show_phase(name, index)
+        """Shows the phase of an index for its seconds from now on, whatever end was set for the present one. Where that
+        is the present one it goes on, with its end set as by end_phase; but where detectors drive the light, which
+        stays driven, nothing changes. TraCIException for a wrong index, and for a NEMA light that they drive."""
+        phases, clock = self.light(name).phases, self.simulation.clock
+        check_index(name, phases, index)
+        if (driven := self.driven(name)) is not None:
+            if actuated_of(name, driven).go_to(index, clock):
+                self.simulation.show(driven.begins(clock))
+        elif index == self.present_phase(name)[0]:
+            self.end_phase(name, clock + max(1, round(phases[index][0])))
         else:
-            actuated_of(name, driven).go_to(index, self.simulation.clock)
-            self.simulation.show(driven.begins(self.simulation.clock))
+            self.show_phase(name, index)
+            self.end_timers(name)
+
+    def leave_program(self, name: str) -> None:
+        """Notes where the cycle of a light's program is, with the end that a script has set for a phase, so that it
+        goes on unseen from there."""
+        light = self.lights[name]
+        ends = (end - seconds_of(light.phases[:index]) for end, one, index in self.timers if one == name)
+        self.begins[name, light.program] = next(ends, light.begin)
         self.end_timers(name)
 
     def end_timers(self, name: str) -> None:

@@ -11,7 +11,7 @@ from streetsim.simulation.fleet import OnRoad
 from streetsim.simulation.lights import Phases
 from streetsim.simulation.session import Session
 
-FORMAT = "streetsim state 5"
+FORMAT = "streetsim state 6"
 State = Json
 TALLIED = ("waiting", "waited", "lost", "travelled", "reached")
 
@@ -42,6 +42,7 @@ def save_state(session: Session, path: str) -> None:
             for name, one in lights
         },
         **{"timers": session.control.timers, "changes": list(session.control.changes)},
+        "begins": [[*key, begin] for key, begin in session.control.begins.items()],
         "driver": kept_driver(session.driving.driver),
         **{"forgotten": sorted(session.shown.forgotten), "coming": list(session.shown.coming)},
     }
@@ -125,6 +126,7 @@ def restore_lights(session: Session, state: State) -> None:
         light.programs = {one: (read_phases(phases), named) for one, (phases, named) in programs.items()}
         light.scripted = set(scripted)
     control.changes = deque((clock, name, program) for clock, name, program in state["changes"])
+    control.begins = {(name, program): begin for name, program, begin in state["begins"]}
     restore_driver(session.driving.driver, state["driver"])
     for one in session.driving.driver.controllers:
         shown.signals.update({command["node"]: command for command in one.shows if one.in_force})

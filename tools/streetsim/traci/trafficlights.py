@@ -120,8 +120,9 @@ class TrafficLight(Domain):
         light.names = [*light.names[:index], str(text), *light.names[index + 1 :]]
 
     def setPhase(self, name: str, index: int) -> None:
-        """Shows the phase of an index from now on, from its begin; the program goes on from there. TraCIException for a
-        wrong index, and where a program of type NEMA drives the light."""
+        """Shows the phase of an index for its seconds from now on; the program goes on from there. The present phase
+        goes on so, with g as G until its end, but where detectors drive the light, which leave its end as it was.
+        TraCIException for a wrong index, and where a program of type NEMA drives the light."""
         self.now().control.go_to(name, index)
 
     def setPhaseDuration(self, name: str, seconds: float) -> None:
@@ -148,8 +149,9 @@ class TrafficLight(Domain):
         self.now().control.hold(name, shown[:index] + state + shown[index + 1 :])
 
     def setProgram(self, name: str, programID: str) -> None:
-        """Runs a program of the files or of setProgramLogic from the second of its cycle that belongs to this clock;
-        one that detectors drive, from where they have brought it meanwhile. TraCIException for an unknown one."""
+        """Runs a program of the files or of setProgramLogic, from where it has come to unseen, as in SUMO: by its
+        seconds since the script left it, or by its detectors. Nothing where it runs already. TraCIException for an
+        unknown one."""
         self.now().control.run_program(name, programID)
 
     def setProgramLogic(self, name: str, logic: Program) -> None:
