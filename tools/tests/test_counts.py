@@ -1,5 +1,6 @@
 """Counts, zones, matrices and turn ratios as planners and SUMO write them, the fit and its whole vehicles."""
 import gzip
+import hashlib
 import io
 import json
 import random
@@ -19,10 +20,11 @@ from streetsim.counts.cells import clock_of
 from streetsim.counts.fitting import Expecting
 from streetsim.counts.judging import Compared, differences_of, without_parts
 from streetsim.counts.passing import CountsByEdges, Slices
-from streetsim.counts.seen import Driven, Traces, fewest_links, passed_in
+from streetsim.counts.seen import Driven, Traces, fewest_links, passed_in, plans_in
 from streetsim.counts.values import Count, Ratio
 from streetsim.counts.walking import Turns
-from streetsim.model.folder import read_folder
+from streetsim.model.folder import Folder, read_folder
+from streetsim.model.mapping import map_from
 from streetsim.model.tables import EDGES, TRIPS
 from streetsim.routes.loading import read_town
 from streetsim.sumo.network import Options
@@ -375,6 +377,23 @@ class Following(Case):
         day = Count(0, 86_400, ("a", "b"), 1, "")
         self.assertEqual(passed_in(read_folder(str(self.folder)), [hour, day]), [9, 7])
         self.assertEqual(passed_in(read_folder(str(self.folder)), [quarter]), [2])
+
+    def test_the_run_file_of_another_run(self):
+        """As many vehicles on the same links, which go otherwise; the run's own file lies behind it."""
+        links, enter = [[0, 0, 1, 1, 10, 5], [1, 1, 2, 1, 10, 5]], {"cmd": "enter", "plan": [0, 1], "depart": 0}
+        own, other = (
+            "".join(json.dumps(line) + "\n" for line in ({"cmd": "load", "links": links}, {**enter, "plan": plan}))
+            for plan in ([0, 1], [1])
+        )
+        path, made = self.folder / "out", {"run": "one.jsonl", "lines": hashlib.sha256(own.encode()).hexdigest()}
+        path.mkdir()
+        folder = Folder(str(path), map_from("", MAP), [], 0, 10, 900, made)
+        (path / "run.jsonl.gz").write_bytes(gzip.compress(other.encode()))
+        self.assertEqual(plans_in(folder, 1), [()])
+        self.write("one.jsonl", own)
+        self.assertEqual(plans_in(folder, 1), [[0, 1]])
+        folder.made = {"run": "one.jsonl"}
+        self.assertEqual(plans_in(folder, 1), [[1]], "of a run whose setting has no sum")
 
     def test_who_leaves_the_plan(self):
         self.assertEqual(self.passed([Driven((0, 1), 0, 40)], [(10, {0: 0}), (20, {3: 0})]), [1, 0, 0, 1])

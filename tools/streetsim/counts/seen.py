@@ -11,7 +11,8 @@ from streetsim.counts.checking import check_periods
 from streetsim.counts.values import Count
 from streetsim.model.folder import KEPT, Folder
 from streetsim.model.mapping import Map
-from streetsim.model.runs import read_run
+from streetsim.model.runs import read_run, texts_of
+from streetsim.model.sources import sum_of_lines
 from streetsim.model.stops import vehicle_classes_of
 
 MOST_APART = 60  # seconds between two polls, so that it is known by which ways vehicles went between them
@@ -189,16 +190,17 @@ def driven_in(folder: Folder) -> list[Driven]:
 
 
 def plans_in(folder: Folder, count: int) -> list[Sequence[int]]:
-    """The links of each vehicle by the run file, where it is found (in the folder, above it or in the current folder)
-    and has as many vehicles (count) and the same links as this run; else an empty list for each. Fault where it cannot
-    be read."""
+    """The links of each vehicle by the first run file that is found (in the folder, above it or in the current folder)
+    and is of this run: with as many vehicles (count), the same links and, where the setting has their sum, the same
+    lines. An empty list for each where there is none. Fault where one that is found cannot be read."""
     name = str(folder.made.get("run", ""))
     above = os.path.dirname(os.path.abspath(folder.path))
     paths = (f"{folder.path}/{KEPT}", f"{above}/{KEPT}", os.path.join(above, name), name)
-    path = next((path for path in paths if name and os.path.isfile(path)), None)
-    run = read_run(path) if path else None
-    if run and len(run.enters) == count and run.load.command.get("links") == folder.mapping.load_links():
-        return [line.command["plan"] for line in run.enters]
+    for run in map(read_run, (path for path in paths if name and os.path.isfile(path))):
+        lines = sum_of_lines(texts_of(run))
+        here = len(run.enters), run.load.command.get("links"), lines
+        if here == (count, folder.mapping.load_links(), folder.made.get("lines", lines)):
+            return [line.command["plan"] for line in run.enters]
     return [()] * count
 
 
