@@ -228,11 +228,7 @@ class Vehicles(Started):
         self.assertIn("mine", traci.vehicle.getIDList())
         traci.vehicle.remove("mine")
         self.assertNotIn("mine", traci.vehicle.getIDList())
-        for call in (
-            lambda: traci.vehicle.add("mine", "way"),
-            lambda: traci.vehicle.add("v", "way"),
-            lambda: traci.vehicle.add("x", "none"),
-        ):
+        for call in (lambda: traci.vehicle.add("v", "way"), lambda: traci.vehicle.add("x", "none")):
             with self.assertRaises(traci.TraCIException):
                 call()
 
@@ -270,6 +266,38 @@ class Vehicles(Started):
                 traci.vehicle.add("x", "way", depart=depart)
         traci.simulationStep(3)
         self.assertEqual(set(traci.vehicle.getIDList()), {"v", "w"})
+
+    def test_a_name_is_free_again_when_its_vehicle_has_ended(self):
+        """As in SUMO, of the file and of a script; nothing of the one before is left but that it has arrived."""
+        self.start()
+        traci.route.add("way", ["a", "c"])
+        traci.simulationStep()
+        traci.vehicle.subscribe("v", [tc.VAR_ROAD_ID])
+        traci.vehicle.setParameter("v", "key", "text")
+        traci.vehicle.setColor("v", (1, 2, 3, 4))
+        while "v" not in traci.simulation.getArrivedIDList():
+            traci.simulationStep()
+        for _ in range(2):
+            traci.vehicle.add("v", "way")
+            with self.assertRaisesRegex(traci.TraCIException, "'v' exists already"):
+                traci.vehicle.add("v", "way")
+            traci.simulationStep()
+            self.assertEqual((traci.vehicle.getIDList(), traci.simulation.getDepartedIDList()), (("v",), ("v",)))
+            self.assertEqual((traci.vehicle.getRoute("v"), traci.vehicle.getLaneID("v")), (("a", "c"), "a_1"))
+            self.assertEqual(traci.vehicle.getAllSubscriptionResults(), {})
+            self.assertEqual(traci.vehicle.getParameter("v", "key"), "")
+            self.assertEqual((traci.vehicle.getColor("v"), traci.vehicle.getWaitingTime("v")), ((255, 255, 0, 255), 1))
+            traci.vehicle.remove("v")
+            self.assertEqual((traci.vehicle.getIDList(), traci.simulation.getMinExpectedNumber()), ((), 1))
+        with self.assertRaisesRegex(traci.TraCIException, "Vehicle 'v' is not known"):
+            traci.vehicle.getSpeed("v")
+
+    def test_an_empty_lane_counts_for_an_edge_as_one_vehicle_at_the_limit(self):
+        """As in SUMO's edge.getLastStepMeanSpeed and getTraveltime; v stands in the first cell of one of two lanes."""
+        self.start()
+        traci.simulationStep()
+        self.assertEqual((traci.lane.getLastStepMeanSpeed("a_0"), traci.lane.getLastStepMeanSpeed("a_1")), (0, 13.89))
+        self.assertEqual((traci.edge.getLastStepMeanSpeed("a"), traci.edge.getTraveltime("a")), (13.89 / 2, 150 / 13.89))
 
     def test_subscriptions(self):
         self.start()

@@ -153,17 +153,20 @@ class Session(Simulation):
             self.fleet.note(name, car, command)
             self.announce_departure(name, command["depart"])
 
-    def add(self, name: str, route: str, kind: str, depart: int) -> None:
-        """Adds a vehicle of a script. route, kind: names of its route and of a known type; depart: clock.
-        TraCIException, after which all is as before, where its name is taken, also by one that is to come or has ended,
+    def add(self, name: str, route: str, kind: str, depart: int) -> bool:
+        """Adds a vehicle of a script; gives whether it has the name of one that has ended. route, kind: names of its
+        route and of a known type; depart: clock. TraCIException where its name is taken, also by one that is to come,
         and as of route_links."""
-        if name in self.fleet.cars or name in self.types.indexes:
+        again = name in self.fleet.cars or name in self.types.indexes
+        if again and name not in self.follow().view.gone:
             raise TraCIException(f"Vehicle '{name}' exists already.")
         plan = self.route_links(route)
         self.enter(name, plan, self.connections.departure_lane(plan), depart, self.types.cells_of_type(kind))
         self.types.kind_of[name], self.types.route_of[name] = kind, route
+        self.view.gone.pop(name, None)
         self.loaded.append(name)
         self.announce_departure(name, depart)
+        return again
 
     def announce_departure(self, name: str, depart: int) -> None:
         """Tells the output files, where some are written, of a vehicle that is to depart at a clock."""

@@ -74,8 +74,7 @@ class Lane(LaneCalls[Session], Stretches):
         return [car for place in places for car in on_lane.get(place, ())]
 
     def speed_of_nobody(self, name: str) -> float:
-        """The mean speed where nobody is on it: its limit, metres a second, as in SUMO. Of an edge with some vehicles
-        SUMO counts each empty lane as one at the limit; here the vehicles alone count."""
+        """The mean speed where nobody is on it: its limit, metres a second, as in SUMO."""
         return self.getMaxSpeed(name)
 
     def metres(self, name: str) -> float:
@@ -168,6 +167,14 @@ class Edge(Lane):
         """The names of the vehicles on it, lane after lane, and on each the rearmost first, as in SUMO."""
         names, on_lane = self.now().fleet.names, self.now().follow().view.on_lane
         return tuple(names[car] for place in self.places(name) for car in reversed(on_lane.get(place, ())))
+
+    def getLastStepMeanSpeed(self, name: str) -> float:
+        """The mean speed of the vehicles on it, metres a second; each empty lane counts as one at its limit, as in
+        SUMO."""
+        session, speeds = self.now().follow(), self.speeds(name)
+        empty = [place for place in self.places(name) if not session.view.on_lane.get(place)]
+        speeds += [session.facts.lanes[session.map.lane_name(*place)].speed for place in empty]
+        return sum(speeds) / len(speeds)
 
     def getLaneNumber(self, name: str) -> int:
         """How many of its lanes the import kept; their indexes need not begin at 0."""

@@ -52,6 +52,13 @@ class Vehicle(VehicleCalls[Session], Outlined):
         super().forget()
         self.colours.clear()
 
+    def forget_one(self, name: str) -> None:
+        """Forgets subscriptions to a vehicle that has ended and what scripts keep of it, as its name is used again."""
+        self.unsubscribe(name)
+        self.around.pop(name, None)
+        self.colours.pop(name, None)
+        self.parameters = {key: text for key, text in self.parameters.items() if key[0] != name}
+
     def getIDList(self) -> tuple[str, ...]:
         """The vehicles on lanes and in junctions, in no certain order (in SUMO sorted by name)."""
         session = self.now().follow()
@@ -329,13 +336,14 @@ class Vehicle(VehicleCalls[Session], Outlined):
     ) -> None:  # fmt: skip
         """Adds a vehicle on a route of the files or of route.add, in the first cell of a lane that leads on. depart:
         None, "now", "triggered", -2 and -3: now, else seconds (rounded up; at once where that is over). Further
-        arguments, as departLane or departPos, have no effect. TraCIException where its name is taken, also by one that
-        has ended (in SUMO free again), route or type is unknown, its edges have no connection, or as of clock_of."""
+        arguments, as departLane or departPos, have no effect. TraCIException where its name is taken, also by one of
+        the file that is to come, route or type is unknown, its edges have no connection, or as of clock_of."""
         session = self.now()
         if typeID not in session.types.kinds:
             raise TraCIException(f"Vehicle type '{typeID}' is not known.")
         now = depart is None or depart in ("now", "triggered", -2, "-2", -3)
-        session.add(vehID, routeID, typeID, session.clock if now else clock_of(vehID, depart))
+        if session.add(vehID, routeID, typeID, session.clock if now else clock_of(vehID, depart)):
+            self.forget_one(vehID)
 
     def remove(self, name: str, reason: object = None) -> None:
         """Takes a vehicle out; TraCIException before the program was told of it. reason has no effect."""
