@@ -297,7 +297,8 @@ class Vehicles(Started):
         self.start()
         traci.simulationStep()
         self.assertEqual((traci.lane.getLastStepMeanSpeed("a_0"), traci.lane.getLastStepMeanSpeed("a_1")), (0, 13.89))
-        self.assertEqual((traci.edge.getLastStepMeanSpeed("a"), traci.edge.getTraveltime("a")), (13.89 / 2, 150 / 13.89))
+        self.assertEqual(traci.edge.getLastStepMeanSpeed("a"), 13.89 / 2)
+        self.assertEqual(traci.edge.getTraveltime("a"), 150 / 13.89)
 
     def test_subscriptions(self):
         self.start()
