@@ -3,6 +3,7 @@ import csv
 import json
 import unittest
 from dataclasses import replace
+from types import SimpleNamespace
 
 from support import PROGRAM, Case, needs_simulator
 from test_pictures import needs_matplotlib
@@ -103,7 +104,7 @@ class Seen(unittest.TestCase):
             (115, dict(a0=[(1, 28, 0)], a1=[(3, 34, 2)])), (135, dict(a0=[], a1=[(1, 35, 2), (4, 31, 2)])),
         ]  # fmt: skip
         for clock, seen in looks:
-            one.note_look(clock, lanes(**{"a0": (), "a1": (), **seen}), lambda car, link: True)
+            one.note_look(clock, lanes(**{"a0": (), "a1": (), **seen}), lambda *_: True)
         # 2 was past them at the first look; 3 was seen in cell 10, ten seconds from them; 4 came between two looks.
         self.assertEqual(one.passed, [WorksPassing(115, 0.0), WorksPassing(135, 25.0), WorksPassing(135, 0.0)])
         self.assertEqual([stand.seconds for stand in one.stands], [0, 0, 5, 0])
@@ -112,12 +113,12 @@ class Seen(unittest.TestCase):
         """Car 1 stands upstream, is taken out, and comes to the works as car 2: one vehicle passes, not two."""
         one = self.watched()
         near = [(car, 29 - 3 * car, 0) for car in range(3, 12)]
-        one.note_look(105, lanes(a0=near, z0=[(1, 39, 0)]), lambda car, link: True)
+        one.note_look(105, lanes(a0=near, z0=[(1, 39, 0)]), lambda *_: True)
         one.rescue(1, 2)
-        one.note_look(110, lanes(a0=near, z0=()), lambda car, link: True)
+        one.note_look(110, lanes(a0=near, z0=()), lambda *_: True)
         self.assertEqual(one.passed, [])
-        one.note_look(115, lanes(a0=[*near, (2, 1, 1)], z0=()), lambda car, link: True)
-        one.note_look(145, lanes(a0=near, z0=()), lambda car, link: True)
+        one.note_look(115, lanes(a0=[*near, (2, 1, 1)], z0=()), lambda *_: True)
+        one.note_look(145, lanes(a0=near, z0=()), lambda *_: True)
         # Alone it would take half a second to the end of z, one in the junction, and 15 s from there to cell 30.
         self.assertEqual(one.passed, [WorksPassing(145, 145 - 105 - 16.5)])
 
@@ -129,8 +130,14 @@ class Seen(unittest.TestCase):
         near = lane(*((car, 29 - 3 * car, 0) for car in range(3, 10)))
         far, buffered = lane((50, 36, 1)), Lane((), ((51, 0, 0),), (), ())
         seen = {(2, 0): near, (2, 1): lane(), (1, 0): lane(), (1, 1): lane(), (0, 0): far, (0, 1): buffered}
-        one.note_look(110, seen, lambda car, link: True)
+        one.note_look(110, seen, lambda *_: True)
         self.assertEqual([one.coming[car].free for car in (50, 51)], [2 + 1 + 20 + 1 + 15, 20 + 1 + 15])
+
+    def test_who_has_passed_them_does_not_come_to_them_again(self):
+        """Vehicle 0 turns back behind works on link 1 and drives away over link 0, which leads to them; vehicle 1 comes
+        over that to them, vehicle 2 over another one."""
+        run = SimpleNamespace(owners=[0, 1, 2], run=run_of([[1, 0, 5], [0, 1, 5], [4, 1]]))
+        self.assertEqual([Recorder.is_bound(run, car, 0, 1) for car in range(3)], [False, True, False])
 
     def test_links_upstream_are_looked_at_where_the_queue_comes_near_them(self):
         one = self.watched()
@@ -138,11 +145,11 @@ class Seen(unittest.TestCase):
         self.assertEqual(one.further(120, lanes(a0=(), a1=())), [])
         self.assertEqual(one.further(120, lanes(a0=near, a1=())), [0])
         self.assertEqual(one.further(120, lanes(a0=near, a1=(), z0=(), z1=())), [])
-        one.note_look(110, lanes(a0=near, a1=(), z0=[(50, 39, 0)], z1=[(51, 38, 0)]), lambda car, link: car != 51)
+        one.note_look(110, lanes(a0=near, a1=(), z0=[(50, 39, 0)], z1=[(51, 38, 0)]), lambda car, *_: car != 51)
         self.assertEqual((one.coming[50].free, 51 in one.coming), (0.5 + 1 + 15, False))
         self.assertEqual(one.left, None)
         full = [(car, 38 - 3 * car, 0) for car in range(13)]
-        one.note_look(115, lanes(a0=near, a1=(), z0=full, z1=()), lambda car, link: True)
+        one.note_look(115, lanes(a0=near, a1=(), z0=full, z1=()), lambda *_: True)
         self.assertEqual(one.left, 115)
         [told] = doubts_of([one], TWO)
         self.assertIn("the queue before the works on a_0 left the network at 115 s", told)
@@ -150,14 +157,14 @@ class Seen(unittest.TestCase):
     def test_who_stands_for_two_minutes_is_a_doubt(self):
         one = self.watched()
         for clock in range(105, 231, 5):
-            one.note_look(clock, lanes(a0=[(1, 29, 0)], a1=()), lambda car, link: True)
+            one.note_look(clock, lanes(a0=[(1, 29, 0)], a1=()), lambda *_: True)
         [told] = doubts_of([one], TWO)
         self.assertIn("before the works on a_0 1 stood for more than 120 s in one cell, one for 125 s", told)
 
     def test_rows(self):
         one = self.watched()
         for clock in range(105, 1901, 5):
-            one.note_look(clock, lanes(a0=[(1, 29, 0)] if clock <= 1100 else [], a1=()), lambda car, link: True)
+            one.note_look(clock, lanes(a0=[(1, 29, 0)] if clock <= 1100 else [], a1=()), lambda *_: True)
             one.passed.append(WorksPassing(clock, 4.0 if clock < 1000 else 6.0))
         found = [dict(zip(("begin", "end"), row[:2])) | {"rest": row[2:]} for row in works_rows([one], TWO, 0, 900)]
         self.assertEqual([(row["begin"], row["end"]) for row in found], [(100, 900), (900, 1800), (1800, 1900)])

@@ -105,8 +105,8 @@ class Desk:
         """Sends commands of merging, buses or lights at a clock, as send_at does."""
         self.send_at(clock, list(map(own_line, commands)))
 
-    def is_bound(self, car: int, link: int) -> bool:
-        """Whether a car, by its number in the program, has a link in its plan; always False here, without works."""
+    def is_bound(self, _car: int, _here: int, _ahead: int) -> bool:
+        """Whether a car that is on one link has another ahead in its plan; always False here, without works."""
         return False
 
     def ask_vehicles(self, _owners: Iterable[int]) -> list[Vehicle]:

@@ -97,10 +97,11 @@ class Recorder(Desk):
             self.owners.append(owner)
         super().enter(last)
 
-    def is_bound(self, car: int, link: int) -> bool:
-        """Whether a car, by its number in the program, has a link anywhere in its vehicle's plan as the run file has
-        it, links that it has left among them."""
-        return link in self.run.enters[self.owners[car]].command["plan"]
+    def is_bound(self, car: int, here: int, ahead: int) -> bool:
+        """Whether a car, by its number in the program, that is on one link has another ahead in its vehicle's plan. It
+        counts as where its link stands first in the plan; False where that does not have it."""
+        plan = self.run.enters[self.owners[car]].command["plan"]
+        return here in plan and ahead in plan[plan.index(here) + 1 :]
 
     def do_all_due(self, clock: int) -> None:
         """Does all that is due at a clock: polls, samples, a census, rescues, the reading of detectors; a run without a

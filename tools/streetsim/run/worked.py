@@ -37,8 +37,8 @@ class WorksUnderWay:
 
     def commands_after_look(self, clock: int, lanes: Look, bound: Bound) -> Iterator[Command]:
         """Looks at what is due at a clock, notes what is seen before works, and gives the commands to send before the
-        next step; it looks as these are taken. lanes: gives what stands on lanes; bound: whether a car has a link in
-        its plan."""
+        next step; it looks as these are taken. lanes: gives what stands on lanes; bound: whether a car that is on one
+        link has another ahead in its plan."""
         watched = [one for one in self.watched if due_after(one, clock - 1) == clock]
         merging = self.merges.due_links(clock)
         seen = self.look_at_links({*merging, *(one.closure.link for one in watched)}, lanes)

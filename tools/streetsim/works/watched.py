@@ -10,7 +10,8 @@ from streetsim.works.queues import Reach, Streets, reach_of
 LONG = 120  # seconds in one cell, after which a run is doubted
 MOST_LINKS = 12  # upstream, that are looked at for one place
 
-Bound = Callable[[int, int], bool]  # whether a car, by its number, has a link in its plan
+# Whether a car, by its number, that is on one link has another one ahead in its plan: (car, its link, the other).
+Bound = Callable[[int, int, int], bool]
 
 
 @dataclass(slots=True, frozen=True)
@@ -96,7 +97,7 @@ class Watched:
 
     def note_look(self, clock: int, lanes: Mapping[Place, Lane], bound: Bound) -> None:
         """Notes what the lanes of the link, and of those upstream that `further` asks for until it asks for none, show
-        at a clock. bound: whether a car has a link in its plan."""
+        at a clock. bound: whether a car has the link of the works ahead."""
         self.note_passing(clock, lanes, bound)
         self.note_standing(clock, lanes)
         self.note_queue(clock, self.reach(clock, lanes))
@@ -124,7 +125,7 @@ class Watched:
         for car, sight in before.items():
             if car in self.coming:
                 self.coming[car].link = sight.link
-            elif sight.link == self.closure.link or bound(car, self.closure.link):
+            elif sight.link == self.closure.link or bound(car, sight.link, self.closure.link):
                 self.coming[car] = Coming(clock, sight.free, sight.link)
 
     def sights(self, lanes: Mapping[Place, Lane]) -> tuple[dict[int, Sight], set[int]]:
@@ -201,7 +202,7 @@ def doubts_of(watched: Iterable[Watched], mapping: Map) -> Iterator[str]:
             longest = max(stand.seconds for stand in one.stands)
             yield (
                 f"before the works on {name} {len(one.long):,} stood for more than {LONG} s in one cell, "
-                f"one for {longest:,} s: they found no gap"
+                f"one for {longest:,} s"
             )
         if one.left is not None:
             yield (
