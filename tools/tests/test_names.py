@@ -140,7 +140,7 @@ class Written(Crossing):
         names = Names(folder.mapping)
         self.assertEqual(junction_name_on_path(names, "M", ["n", "s"]), "Market Street")
         self.assertEqual(junction_name_on_path(names, "W", ["n", "s"]), "W")
-        rows = [(10, "n", 0, 2, 15.0, "stop line"), (10, "w", 0, 2, 9.0, "stop line")]
+        rows = [(10, "n", 0, 2, 15.0, "stop line", ""), (10, "w", 0, 2, 9.0, "stop line", "")]
         write_table(f"{self.out}/queues.csv", QUEUES, rows)
         self.assertEqual([lane for lane, _ in longest_queues(folder, 9)[0]], ["Hill Street n_0", "w_0"])
         shown = [link["name"] for link in player_data(folder, 0, 100)["links"]]

@@ -46,7 +46,7 @@ class Given(Case):
         self.write_polls(polls)
         self.write("trips.csv", ",".join(TRIPS) + "\nv,0,30,30,4,26,2,0,arrived\nw,1,,,4,,2,0,cell\n")
         rows = ("10,a,0,3,22.5", "20,a,0,1,7.5", "20,b,0,2,15")
-        lines = [",".join(QUEUES), *(f"{row},stop line" for row in rows)]
+        lines = [",".join(QUEUES), *(f"{row},stop line," for row in rows)]
         self.write("queues.csv", "".join(f"{line}\n" for line in lines))
         self.write(
             "counts.csv",

@@ -1,4 +1,5 @@
 """Road works and counts on a page, of folders written by hand."""
+import gzip
 import html
 import re
 import shutil
@@ -12,6 +13,7 @@ from streetsim.model.tables import EDGES, QUEUES, WORKS, write_table
 from streetsim.base.shapes import point_along
 from streetsim.reports.works import closed_shape, closed_shapes, seen_in
 from streetsim.results.reading import read_runs
+from streetsim.results.works import works_places_of
 
 PLACE = {"edge": "a", "lane": 0, "from_m": "30.0", "to_m": "60.0"}
 
@@ -40,7 +42,7 @@ class Works(Given):
         numbers = (100 + seed, 1200 + 100 * seed, "10.0", "40.0", "5.0", "15.0", 20 + seed, 12)
         rows = [(300, 900, *head, *numbers), (900, 1200, *head, 50, "", "", "", "0.0", "0.0", "0.0", 0)]
         write_table(f"{folder}/works.csv", WORKS, rows)
-        queues = [(310, "a", 0, 2, 10.0 * seed, "works"), (320, "a", 0, 9, 70.0, "stop line")]
+        queues = [(310, "a", 0, 2, 10.0 * seed, "works", "30.0"), (320, "a", 0, 9, 70.0, "stop line", "")]
         write_table(f"{folder}/queues.csv", QUEUES, queues)
 
     def test_where_it_is(self):
@@ -56,6 +58,21 @@ class Works(Given):
         """Polls every 10 s from 310 s on, 10 and 20 m then, no queue later; those at stop lines are none."""
         [seen] = seen_in(read_runs(str(self.folder / "after")))
         self.assertEqual((seen.queues[310], seen.queues[320], max(seen.queues)), ([10.0, 20.0], [0.0, 0.0], 1200))
+
+    def test_two_works_on_a_lane(self):
+        """At 310 s 10 m queue before those at 30 m and 5 m before those at 67.5 m; at 320 s before these alone."""
+        path, rest = self.folder / "after/seed-1", (9, "", "", "", "0.0", "0.0", "0.0", 0)
+        rows = [(300, 900, "a", 0, *metres, *rest) for metres in (("30.0", "60.0"), ("67.5", "75.0"))]
+        write_table(path / "works.csv", WORKS, rows)
+        queues = [(310, 10.0, "30.0"), (310, 5.0, "67.5"), (320, 6.0, "67.5")]
+        rows = [(clock, "a", 0, 1, metres, "works", begin) for clock, metres, begin in queues]
+        write_table(path / "queues.csv", QUEUES, rows)
+        with gzip.open(path / "lanes.jsonl.gz", "wt") as file:
+            file.write('{"clock": 310, "lanes": []}\n')
+        runs = read_runs(str(path))
+        self.assertEqual([(one.queues[310], one.queues[320]) for one in seen_in(runs)], [([10], [0]), ([5], [6])])
+        lengths = [one.lengths for one in works_places_of(runs.first)]
+        self.assertEqual(lengths, [{310: 10.0}, {310: 5.0, 320: 6.0}])
 
     def test_the_page(self):
         page = self.page(*self.plans())

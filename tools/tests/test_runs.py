@@ -66,7 +66,7 @@ class Tables(Runs):
     def test_queue_at_red(self):
         self.given(RED, enter([0, 1]), enter([0, 1]), enter([0, 1]), enter([0], 1000), cars=["x", "y", "z", "later"])
         self.run_tool("--until", 100, "--every", 100, "--rescue", 0)
-        self.assertEqual(self.table("queues.csv"), [["100", "a", "0", "3", "22.5", "stop line"]])
+        self.assertEqual(self.table("queues.csv"), [["100", "a", "0", "3", "22.5", "stop line", ""]])
         self.assertEqual([row[-1] for row in self.table("trips.csv")], ["cell", "cell", "cell", "not departed"])
 
     def test_rescue(self):

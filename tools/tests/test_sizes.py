@@ -157,7 +157,7 @@ class Tables(Runs):
         red = {"cmd": "signal", "node": 1, "offset": 0, "phases": [[600, []]]}
         self.given(red, {**enter([0, 1]), "size": 3}, {**enter([0, 1]), "size": 2}, cars=["long", "bus"])
         self.run_tool("--until", 900, "--every", 100)
-        self.assertIn(["100", "a", "0", "2", "37.5", "stop line"], self.table("queues.csv"))
+        self.assertIn(["100", "a", "0", "2", "37.5", "stop line", ""], self.table("queues.csv"))
         trips = self.table("trips.csv")
         self.assertEqual([trip[-2:] for trip in trips], [["1", "arrived"]] * 2)
         with gzip.open(self.folder / "out/lanes.jsonl.gz", "rt") as file:

@@ -377,7 +377,8 @@ class Written(Case):
         self.assertAlmostEqual(int(row["vehicles"]) * 3600 / 400, 1600, delta=160)
         with open(out / "queues.csv", encoding="utf-8") as file:
             queues = [line for line in csv.DictReader(file) if line["before"] == "works"]
-        self.assertEqual({(line["edge"], line["lane"]) for line in queues}, {("a", "0")})
+        places = {(line["edge"], line["lane"], line["from_m"]) for line in queues}
+        self.assertEqual(places, {("a", "0", row["from_m"])})
         self.assertAlmostEqual(max(float(line["metres"]) for line in queues), float(row["queue_max_m"]), delta=40)
         pictures = []
         for name in ("one.png", "two.png"):

@@ -19,7 +19,7 @@ AREAS = (
     *("mean_jam_vehicles", "longest_jam_vehicles"),
 )
 STOP_LINE, BEFORE_WORKS = "stop line", "works"  # what a queue stands before
-QUEUES = ("time", "edge", "lane", "vehicles", "metres", "before")
+QUEUES = ("time", "edge", "lane", "vehicles", "metres", "before", "from_m")
 PHASES_FILE = "phases.csv"
 PHASES = ("begin", "light", "phase", "state", "seconds", "ended")
 STOPS_FILE = "stops.csv"

@@ -63,11 +63,11 @@ def note_queues(folder: Folder, places: Sequence[Seen]) -> None:
     """Adds to `queues` of each place of works the metres of the queue before it at each poll of a run while they last;
     0 where none is listed."""
     rows = (row for row in folder.queues() if row["before"] == tables.BEFORE_WORKS)
-    queues = {(row["edge"], row["lane"], int(row["time"])): float(row["metres"]) for row in rows}
+    queues = {(row["edge"], row["lane"], row["from_m"], int(row["time"])): float(row["metres"]) for row in rows}
     for seen in places:
-        edge, lane, *_ = seen.place
+        edge, lane, begin, _ = seen.place
         for time in poll_clocks(folder, *seen.span()):
-            seen.queues[time].append(queues.get((edge, lane, time), 0.0))
+            seen.queues[time].append(queues.get((edge, lane, begin, time), 0.0))
 
 
 def poll_clocks(folder: Folder, first: int, last: int) -> range:

@@ -9,6 +9,7 @@ from streetsim.model.folder import Folder
 
 ROOM = 60.0  # metres shown beyond the longest queue
 LEAST = 150.0  # metres shown at least
+PLACE = ("edge", "lane", "from_m")  # columns by which a queue is that before some works
 
 
 @dataclass(slots=True, frozen=True)
@@ -63,7 +64,7 @@ def works_place_of(folder: Folder, rows: Sequence[dict[str, str]], seen: Counter
     lengths = {
         int(row["time"]): float(row["metres"])
         for row in folder.queues()
-        if row["before"] == tables.BEFORE_WORKS and (row["edge"], row["lane"]) == (edge, lane)
+        if row["before"] == tables.BEFORE_WORKS and all(row[name] == rows[0][name] for name in PLACE)
     }
     capacity = min((row["capacity_per_hour"] for row in rows if row["capacity_per_hour"]), key=float, default="")
     if (place := folder.mapping.place_of(f"{edge}_{lane}")) is None:

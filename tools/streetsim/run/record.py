@@ -141,7 +141,7 @@ class Recorder(Desk):
                 count, covered = standing_at_line(reply.cells, self.mapping.links[link].cells)
                 if count:
                     metres = covered * self.mapping.links[link].cell_metres
-                    self.records.queues.append((clock, link, lane, count, metres, STOP_LINE))
+                    self.records.queues.append((clock, link, lane, count, metres, STOP_LINE, None))
                 cells = [(self.owners[car], *rest) for car, *rest in reply.cells]
                 if cells or reply.buffer or reply.closed:
                     shown.append([link, lane, cells, [self.owners[car] for car, _, _ in reply.buffer], reply.closed])
@@ -155,7 +155,8 @@ class Recorder(Desk):
         for one in self.works.watched:
             place = one.closure
             if place.begin < clock <= place.end and (reach := one.reach(clock, lanes)).vehicles:
-                row = clock, place.link, place.lane, reach.vehicles, reach.metres, BEFORE_WORKS
+                begin, _ = place.metres(self.mapping)
+                row = clock, place.link, place.lane, reach.vehicles, reach.metres, BEFORE_WORKS, begin
                 self.records.queues.append(row)
 
     def ask_vehicles(self, owners: Iterable[int]) -> list[Vehicle]:

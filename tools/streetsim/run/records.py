@@ -17,7 +17,8 @@ from streetsim.works.watched import Watched
 
 Tell = Callable[[int, Census | None], object]  # gets the clock and the last census
 Rescue = tuple[int, int, Command]  # clock, car, enter command
-QueueRow = tuple[int, int, int, int, float, str]  # clock, link, lane, vehicles that stand, metres, before what
+# Clock, link, lane, vehicles that stand, metres, before what, metres where works begin (None at a stop line).
+QueueRow = tuple[int, int, int, int, float, str, float | None]
 ProgramStart = Callable[[], AbstractContextManager[Client]]  # starts the program of a run
 
 

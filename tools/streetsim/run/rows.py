@@ -74,11 +74,12 @@ def vehicle_names(run: Run, mapping: Map) -> list[str]:
 
 
 def queues(records: Records, mapping: Map) -> Iterator[Entry]:
-    """The rows of queues.csv, (clock, edge, SUMO's index of the lane, vehicles, metres that they cover, before what),
-    for each poll and lane where vehicles stand at the stop line or before works."""
-    for clock, link, lane, count, metres, before in records.queues:
+    """The rows of queues.csv, (clock, edge, SUMO's index of the lane, vehicles, metres that they cover, before what,
+    metres where works begin), for each poll and lane where vehicles stand at the stop line or before works; the last is
+    empty at a stop line."""
+    for clock, link, lane, count, metres, before, begin in records.queues:
         at = mapping.links[link]
-        yield clock, at.edge, at.lanes[lane], count, round(metres, 1), before
+        yield clock, at.edge, at.lanes[lane], count, round(metres, 1), before, "" if begin is None else f"{begin:.1f}"
 
 
 def summary(records: Records) -> Iterator[Entry]:
