@@ -50,6 +50,12 @@ class Networks(Case):
         why = "22 km/h when free, on 25 % fewer cells, so that it takes as long as in SUMO"
         self.assertEqual(self.said.warnings, [f"30 km/h becomes 1 cells a step, {why}: 1 links"])
 
+    def test_streets_have_limits_where_all_slow_down_in_each_step(self):
+        """At one cell a step the free speed is 0 then, so a street of 9 km/h has two, on 60 cells."""
+        text = net([("a", "A", "B", [lane("a", 0, 150.0, 2.5)])], [])
+        network, *_ = self.network(text, dawdle=1000)
+        self.assertEqual([(link.limit, link.cells) for link in network.links], [(2, 60)])
+
     def test_a_street_with_fewer_cells_has_room_in_the_buffers_before_it(self):
         edges = [("a", "A", "B", [lane("a", 0)]), ("b", "B", "C", [lane("b", 0, 300.0, 30 / 3.6)])]
         network, *_ = self.network(net(edges, [("a", 0, "b", 0, "")]))

@@ -8,6 +8,7 @@ from functools import lru_cache
 from streetsim.model.mapping import Map
 
 FAR = 1_000  # cells, after which a vehicle alone has its mean speed
+SLOWEST = 0.001  # cells a step: the least mean speed, also where nobody ever moves (a limit of 1, dawdle 1,000)
 
 
 class FreeFlow:
@@ -16,8 +17,8 @@ class FreeFlow:
     gains speed."""
 
     def __init__(self, mapping: Map, dawdle: float) -> None:
-        """dawdle: the chance, 0 to 1, to go on by a cell a step less; mean speeds are 0.001 cells a step at least."""
-        self.driving = [link.cells / max(0.001, link.limit - dawdle) for link in mapping.links]
+        """dawdle: the chance, 0 to 1, to go on by a cell a step less; mean speeds are SLOWEST at least."""
+        self.driving = [link.cells / max(SLOWEST, link.limit - dawdle) for link in mapping.links]
         self.crossing = [mapping.nodes[link.end][3] for link in mapping.links]
 
     def __call__(self, plan: Sequence[int]) -> float:

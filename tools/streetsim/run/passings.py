@@ -3,6 +3,7 @@ from collections import defaultdict
 from collections.abc import Sequence
 from dataclasses import dataclass
 
+from streetsim.model.freeflow import SLOWEST
 from streetsim.model.mapping import Map, Place
 from streetsim.model.runs import Line
 
@@ -28,10 +29,10 @@ class Passings:
 
     def __init__(self, mapping: Map, enters: Sequence[Line], dawdle: int) -> None:
         """enters: the enter lines of the run's vehicles, by number in the file; dawdle: of 1,000 steps so many are by a
-        cell less."""
+        cell less; speeds of the free road are SLOWEST at least."""
         self.links = mapping.links
         self.plans = [line.command["plan"] for line in enters]
-        self.speeds = [link.limit - dawdle / 1000 for link in mapping.links]
+        self.speeds = [max(SLOWEST, link.limit - dawdle / 1000) for link in mapping.links]
         self.stays = [node[3] for node in mapping.nodes]
         self.seen = [Sight(0, line.command["depart"], line.command.get("lane", 0), 0, False) for line in enters]
         self.came = [float(line.command["depart"]) for line in enters]  # when each came to the link that it is on

@@ -10,6 +10,7 @@ from typing import Any
 from streetsim.base import limits
 from streetsim.base.files import Fault, Json
 from streetsim.base.report import Report, first_few
+from streetsim.model.freeflow import SLOWEST
 from streetsim.model.runs import Command
 from streetsim.model.stops import Visit
 from streetsim.model.waiting import GivingWay, TurnKey
@@ -411,7 +412,7 @@ def limit_and_cells(lane: Lane, dawdle: float, in_ring: bool, free_limits: range
     free = (limit - dawdle) * limits.CELL_METRES
     if in_ring or not lane.speed or abs(free - lane.speed) <= OTHER_SPEED * lane.speed:
         return limit, limits.cells_of_length(lane.metres)
-    limit = min(free_limits, key=lambda cells: abs(log((cells - dawdle) * limits.CELL_METRES / lane.speed)))
+    limit = min(free_limits, key=lambda one: abs(log(max(SLOWEST, one - dawdle) * limits.CELL_METRES / lane.speed)))
     return limit, max(1, round(lane.metres / lane.speed * (limit - dawdle)))
 
 
