@@ -71,6 +71,18 @@ class When(unittest.TestCase):
         passings.arrived(0, 42)
         self.assertEqual(dict(passings.found), {(0, 0): [(16.0, 1, 10.0)], (1, 0): [(30.0, 2, 28.0)]})
 
+    def test_a_road_on_which_nobody_moves(self):
+        """At a limit of one cell a step nobody drives who slows down in each step. One that is seen to have passed all
+        the same was slow on its way, so it came to the line when it is seen behind it; it was due 20,000 s on."""
+
+        class Slow(Links):
+            links = [MapLink("x", (0,), at, at + 1, 20, 1, 150.0, ()) for at in range(3)]
+
+        passings = Passings(Slow, [Line(0, "", {"plan": [0, 1, 2], "lane": 0, "depart": 0})], 1000)
+        passings.note(0, 10, 0, 0, 0)
+        passings.note(0, 30, 1, 0, 0)
+        self.assertEqual(dict(passings.found), {(0, 0): [(30, 1, 20_000.0)]})
+
     def test_a_link_that_is_not_on_the_way(self):
         passings = Passings(Links, [Line(0, "", {"plan": [0, 1], "depart": 0})], 0)
         passings.note(0, 30, 2, 0, 4)
@@ -217,17 +229,18 @@ class Lines(unittest.TestCase):
         self.assertEqual(phases_of_reds(reds), [(1, (0, 0)), (1, (0, 1)), (1, (1, 1)), (1, (1, 0))])
         self.assertEqual([length for length, _ in phases_of_reds([bytearray(1300)])], [600, 600, 100])
 
-    def test_a_signal_line(self):
-        # Link 0 gives way at node 1 to one who comes from link 1 at second 130:
-        # red from 130 - 4 on, with what rounding owes.
+    def test_signal_lines(self):
+        # Link 0 gives way at node 1 to one who comes from link 1 at second 130: red from 130 - 4 on, with what rounding
+        # owes. From 30 s after that on it is green for good: a plan begins anew at its end, so no red is in this one.
         class Yielding(Links):
             yields = [GivingWay(1, ((0, 0, 1),), (Foe(1, 0, 2, Gap(4.0, 0.0, 0.0), False),))]
 
-        [(clock, line)] = gap_lines(Yielding, {(1, 0): [(130.0, 2, 130.0)]}, 100)
-        self.assertEqual(json.loads(json.dumps(line.command)), json.loads(line.text))
-        self.assertEqual(clock, 100)
-        phases = '[26,[[0,0,1]]],[5,[]],[29,[[0,0,1]]],[600,[[0,0,1]]]'
-        self.assertEqual(line.text, f'{{"cmd":"signal","node":1,"offset":560,"phases":[{phases}]}}')
+        found = gap_lines(Yielding, {(1, 0): [(130.0, 2, 130.0)]}, 100)
+        expected = (100, 20, "[26,[[0,0,1]]],[5,[]],[29,[[0,0,1]]]"), (160, 440, "[600,[[0,0,1]]]")
+        for (clock, line), (begin, offset, phases) in zip(found, expected, strict=True):
+            self.assertEqual(json.loads(json.dumps(line.command)), json.loads(line.text))
+            self.assertEqual(clock, begin)
+            self.assertEqual(line.text, f'{{"cmd":"signal","node":1,"offset":{offset},"phases":[{phases}]}}')
 
 
 # From, to, and metres a second.

@@ -3,7 +3,7 @@ import math
 from bisect import bisect_left, bisect_right
 from collections import defaultdict
 from collections.abc import Collection, Iterable, Iterator, Mapping, Sequence
-from itertools import accumulate, groupby
+from itertools import groupby
 
 from streetsim.base import limits
 from streetsim.model.mapping import Map, Place
@@ -87,7 +87,8 @@ def standing_seconds(passing: Iterable[tuple[float, int, float]]) -> Iterator[tu
 
 def node_lines(node: int, turns: Sequence[TurnKey], groups: Sequence[Group], start: int) -> Iterator[tuple[int, Line]]:
     """The signal lines of a node, (clock, line), from the clock start on. turns: all of the node; groups: turns that
-    give way, with a byte for each second, 1: red. Other turns are always green, and all for PHASE_STEPS at the end."""
+    give way, with a byte for each second, 1: red. Other turns are always green, and by the last line, which has one
+    phase, all are from the end of these seconds on."""
     waits = {turn for each, _ in groups for turn in each}
     always = [turn for turn in turns if turn not in waits]
 
@@ -97,16 +98,18 @@ def node_lines(node: int, turns: Sequence[TurnKey], groups: Sequence[Group], sta
         turns = sorted([*always, *shown])
         return turns, ",".join(f"[{link},{lane},{following}]" for link, lane, following in turns)
 
-    phases = [*phases_of_reds([red for _, red in groups]), (limits.PHASE_STEPS, (0,) * len(groups))]
-    shown = {state: green(state) for state in {state for _, state in phases}}
-    begins = list(accumulate((length for length, _ in phases), initial=start))
-    for first in range(0, len(phases), limits.PHASES):
-        part, clock = phases[first : first + limits.PHASES], begins[first]
+    phases, open_ = phases_of_reds([red for _, red in groups]), (limits.PHASE_STEPS, (0,) * len(groups))
+    shown = {state: green(state) for state in {state for _, state in [*phases, open_]}}
+    parts = [phases[first : first + limits.PHASES] for first in range(0, len(phases), limits.PHASES)]
+    clock = start
+    for part in [*parts, [open_]]:
         listed = ",".join(f"[{length},[{shown[state][1]}]]" for length, state in part)
-        offset = -clock % sum(length for length, _ in part)
+        seconds = sum(length for length, _ in part)
+        offset = -clock % seconds
         text = f'{{"cmd":"signal","node":{node},"offset":{offset},"phases":[{listed}]}}'
         told = [(length, shown[state][0]) for length, state in part]
         yield clock, Line(0, text, {"cmd": "signal", "node": node, "offset": offset, "phases": told})
+        clock += seconds
 
 
 def phases_of_reds(reds: Sequence[Sequence[int]]) -> list[tuple[int, State]]:
