@@ -71,6 +71,17 @@ class Signals(Case):
         [command], _ = self.made(street(phases((10, "G"), (20, "r"))), additional=[other])
         self.assertEqual([duration for duration, _ in command["phases"]], [1, 3, 6])
 
+    def test_a_next_phase_of_listed_seconds_is_told(self):
+        """SUMO goes there; one that names the phase behind it, or none, as -1, is as one without."""
+        def told(first, last):
+            shown = phases((10, "G"), (5, "y"), (20, "r"))
+            shown = shown.replace('"G"/>', f'"G" {first}/>').replace('"r"/>', f'"r" {last}/>')
+            return [text for text in self.made(street(shown))[1] if "next" in text]
+
+        self.assertEqual(told('next="1"', 'next="0"') + told('next="-1"', ""), [])
+        why = "phases that name another as their next, which does nothing here: they come in their order"
+        self.assertEqual(told('next="2"', ""), [f"light 'L' has {why}"])
+
     def test_offset_alone_keeps_the_phases(self):
         # As SUMO's tlsCoordinator writes it: place (t - 4) mod 30 of the program in the network.
         other = '<additional><tlLogic id="L" programID="0" offset="4"/></additional>'

@@ -892,6 +892,16 @@ class Lights(Started):
         traci.simulationStep(26)
         self.assertEqual((traci.trafficlight.getPhase("L"), traci.trafficlight.getNextSwitch("L")), (1, 30.0))
 
+    def test_an_offset_that_another_file_gives(self):
+        """As SUMO's tlsCoordinator writes it: of 30 s the first phase begins at 12. A program off is no other one."""
+        alone, off = '<tlLogic id="L" programID="day" offset="12"/>', LIGHT.replace('"day"', '"off"')
+        self.start(additional=f"<additional>{alone}{off}</additional>")
+        light = traci.trafficlight
+        self.assertEqual((light.getProgram("L"), light.getPhase("L"), light.getNextSwitch("L")), ("day", 2, 12.0))
+        traci.simulationStep(13)
+        self.assertEqual((light.getPhase("L"), light.getRedYellowGreenState("L")), (0, "Gr"))
+        self.assertEqual([one.programID for one in light.getAllProgramLogics("L")], ["day"])
+
     def test_a_phase_that_is_extended_stays(self):
         """Beyond its end by the program, also where a script sets the end anew there; SUMO 1.15 tells the same."""
         self.start()

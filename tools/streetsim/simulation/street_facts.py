@@ -6,6 +6,7 @@ from xml.etree.ElementTree import Element
 
 from streetsim.base.files import at_least_zero, attribute, elements, number, optional, seconds
 from streetsim.sumo.configuration import NOWHERE as NO_FILE
+from streetsim.sumo.net import OFF
 from streetsim.simulation.lights import Light
 
 Point = tuple[float, float]
@@ -97,15 +98,20 @@ class Facts:
         return metres + self.metres_inside(self.onward[via]) if via in self.onward else metres
 
     def read_light(self, path: str, element: Element) -> None:
-        """Notes a program of a light, if it has phases; the last one of a light runs, the others can be chosen."""
-        found = list(element.iter("phase"))
+        """Notes a program of a light, as the import takes it (read_program); the last one of a light runs, the others
+        can be chosen. One without phases gives the program of its name another offset."""
+        name, program = attribute(path, element, "id"), element.get("programID", "0")
+        found, begin = list(element.iter("phase")), optional(path, element, "offset", seconds, 0.0)
+        if program == OFF or not found and (name, program) not in self.offsets:
+            return
+        self.offsets[name, program] = begin
         if not found:
+            if self.lights[name].program == program:
+                self.lights[name].begin = begin
             return
         phases = [(attribute(path, one, "duration", seconds), attribute(path, one, "state")) for one in found]
         names = [one.get("name") or "" for one in found]
-        name, program = attribute(path, element, "id"), element.get("programID") or "0"
-        light = Light(phases, optional(path, element, "offset", seconds, 0.0), program, names=names)
-        self.offsets[name, program] = light.begin
+        light = Light(phases, begin, program, names=names)
         light.programs = {**(self.lights[name].programs if name in self.lights else {}), program: (phases, names)}
         self.lights[name] = light
 

@@ -144,8 +144,14 @@ def signal_commands(
 
 
 def warn_of_kind(light: str, program: Program, report: Report) -> None:
-    """Reports that a light's program, where it is not static, goes by its listed seconds here."""
-    if program.kind != STATIC:
+    """Reports that a light's program, where it is not static, goes by its listed seconds here, and that a static one
+    shows its phases in their order, where one names another than the one behind it as its next."""
+    count = len(program.phases)
+    if program.kind == STATIC:
+        if any(then and then[0] >= 0 and then[0] != (at + 1) % count for at, then in enumerate(program.following)):
+            why = "phases that name another as their next, which does nothing here: they come in their order"
+            report.warn(f"light {light!r} has {why}", [light], kind=f"lights have {why}")
+    else:
         but = ", but where streetsim-run drives it by detectors" if program.kind in DRIVEN else ""
         kind = f"lights are {program.kind}: their listed durations are used{but}"
         report.warn(f"light {light!r} is {program.kind}: its listed durations are used{but}", [light], kind=kind)
