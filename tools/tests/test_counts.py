@@ -159,7 +159,7 @@ class Inputs(Case):
         # As jtrrouter of SUMO 1.15 has them depart.
         flows = '<flow id="f" from="a" number="4"/><flow id="g" from="b" begin="20" period="15"/>'
         text = f'<flows><interval begin="10" end="50">{flows}</interval></flows>'
-        found = ratios.read_inflows([self.write("f.xml", text)], 1)
+        found = ratios.read_inflows([self.write("f.xml", text)], 1, Report())
         self.assertEqual([(one.edge, one.departs) for one in found], [("a", [10, 20, 30, 40]), ("b", [20, 35])])
 
     def test_ratios(self):
@@ -230,9 +230,9 @@ class Inputs(Case):
 
     def test_flows_begin_at_times_as_sumo_writes_them(self):
         flow = '<routes><flow id="f" from="a" begin="00:30:00" end="01:00:00" number="{}"/></routes>'
-        [one] = ratios.read_inflows([self.write("f.xml", flow.format(2))], 0)
+        [one] = ratios.read_inflows([self.write("f.xml", flow.format(2))], 0, Report())
         self.assertEqual(one.departs, [1800, 2700])
-        [none] = ratios.read_inflows([self.write("f.xml", flow.format(0))], 0)
+        [none] = ratios.read_inflows([self.write("f.xml", flow.format(0))], 0, Report())
         self.assertEqual(none.departs, [])
 
     def test_slices_begin_with_the_soonest_departure(self):
@@ -472,6 +472,19 @@ class Fit(Tool):
         found = self.edges()
         self.assertEqual((len(found), set(found)), (100, {"a b", "a c"}))
         self.assertTrue(65 < found.count("a b") < 92)
+
+    def test_what_has_no_effect_is_told(self):
+        """A rerouter of an additional file, and the type of a flow: its vehicles are cars here."""
+        flow = '<vType id="t" vClass="truck"/><flow id="f" from="w" begin="0" end="900" number="9" type="t"/>'
+        turns = '<turns><interval begin="0" end="900"><fromEdge id="m"><toEdge id="e" probability="1"/></fromEdge>'
+        files = "--flows", self.write("f.xml", f"<routes>{flow}</routes>")
+        files += "--ratios", self.write("t.xml", f"{turns}</interval></turns>")
+        more = self.write("m.add.xml", '<additional><rerouter id="r" edges="m"/></additional>')
+        outputs = "-o", self.folder / "o.rou.xml", "--out", self.folder / "out"
+        _, error = self.run_tool(demand.main, self.write("n.net.xml", HOURGLASS), more, *files, *outputs)
+        [warning, *ignored] = error.splitlines()
+        self.assertTrue(warning.startswith(f"warning: {more}: <rerouter> does nothing here: r"), warning)
+        self.assertEqual(ignored, ["ignored: 1 x <vType> of files of flows", "ignored: 1 x type of flows"])
 
     def test_routes_of_a_file_alone(self):
         routes = self.write("r.rou.xml", '<routes><route id="x" edges="w m e"/><route id="y" edges="n m s"/></routes>')

@@ -221,7 +221,7 @@ def ways_by_ratios(
     """(pairs that turn ratios give, their ways, (departure in seconds, index of its way among these) of each vehicle).
     free: seconds of each movement. Fault for a file that is wrong, and where the ratios lead to no end."""
     found, sinks = ratios.read_ratios(asked.ratios)
-    inflows = ratios.read_inflows(asked.flows, asked.seed)
+    inflows = ratios.read_inflows(asked.flows, asked.seed, town.types.report)
     turns = walking.Turns(found, sinks, town.net, town.graph)
     walks = list(walking.walks_of(inflows, turns, free, town.net, asked.seed))
     routes = [town.graph.names(path) for _, path in walks]

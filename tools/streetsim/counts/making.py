@@ -84,8 +84,11 @@ def best_demand(basis: Basis, asked: Asked, fitted: Fitted, tried: list[Attempt]
 
 
 def tell_inputs(basis: Basis, fitted: Fitted) -> None:
-    """Prints on standard error what is noticed before anything runs: counts that contradict each other, counts that no
-    way passes, pairs of a matrix without a way, and how many of the pairs were kept, where not all were."""
+    """Prints on standard error what is noticed before anything runs: what is reported of the files, counts that
+    contradict each other, counts that no way passes, pairs of a matrix without a way, and how many of the pairs were
+    kept, where not all were."""
+    for line in basis.town.types.report.lines():
+        print(line, file=sys.stderr)
     apart = [f"counts contradict each other: {one.line()}" for one in basis.contradictions]
     warn(apart, "{:,} more contradictions: contradictions.csv")
     none = [

@@ -4,31 +4,38 @@ import random
 from collections.abc import Iterable
 
 from streetsim.base.files import Fault, FilePath, element_told
+from streetsim.base.report import Report
 from streetsim.counts.cells import MOST_SECONDS, clock_of, name_of, period_of, vehicle_number
 from streetsim.counts.tags import Tag, read_tags
 from streetsim.counts.values import Inflow, Ratio
-from streetsim.sumo.flows import departs, route_elements
+from streetsim.sumo.flows import RATES, departs, route_elements
+from streetsim.sumo.types import TAGS
 
 FLOWS = ("routes", "additional", "add", "flows")
 ENDS = ("to", "toTaz", "toJunction", "via", "route", "routeDistribution")  # of flows that do not go on by ratios
+READ = {"id", "from", "begin", "end", "number", *RATES}  # of a flow
 TURNS = ("turns", "edgeRelations", "turn-defs", "data")
 
 
-def read_inflows(paths: Iterable[FilePath], seed: int) -> list[Inflow]:
-    """Flows that have a `from` alone, each with its departures. Fault where a file cannot be read or has no flow, for a
-    flow with one of ENDS, and for another element; vehicle types are passed over. seed: of departures by chance."""
+def read_inflows(paths: Iterable[FilePath], seed: int, report: Report) -> list[Inflow]:
+    """Flows that have a `from` alone, each with its departures; their attributes that are not in READ, and vehicle
+    types, are reported as ignored. Fault where a file cannot be read or has no flow, for a flow with one of ENDS, and
+    for another element. seed: of departures by chance."""
     found: list[Inflow] = []
     draws = random.Random(f"inflows {seed}")
     for path in paths:
         before = len(found)
         for element in route_elements(path, FLOWS):
-            if element.tag in ("vType", "vTypeDistribution"):
+            if element.tag in TAGS:
+                report.ignored[f"<{element.tag}> of files of flows"] += 1
                 continue
             if element.tag != "flow" or not element.get("from"):
                 raise Fault(f"{element_told(path, element)}: expected a <flow> with from, which turn ratios lead on")
             if ends := [name for name in ENDS if element.get(name) or element.find(name) is not None]:
                 told = f"it has an end ({ends[0]}): give it to --candidates or streetsim-route --trips"
                 raise Fault(f"{element_told(path, element)}: {told}")
+            for name in set(element.keys()) - READ:
+                report.ignored[f"{name} of flows"] += 1
             times = departs(path, element, draws)
             found.append(Inflow(element.get("from", ""), times, element_told(path, element)))
         if len(found) == before:
