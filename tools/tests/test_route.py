@@ -40,7 +40,7 @@ from streetsim.ways.graph import END, Graph
 from streetsim.ways.minor import Minor
 from streetsim.ways.router import FAR, Found, Router, Wish, wish_parts
 from streetsim.ways.seconds import free_seconds, red_lengths
-from streetsim.ways.trips import Trip, read_trips, vehicles_from_trips, write_routes
+from streetsim.ways.trips import Trip, Trips, read_trips, vehicles_from_trips, write_routes
 
 # From a to d by b or by c; from b to c as well. Nobody may go from c to d's twin e.
 GRAPH = Graph(
@@ -209,6 +209,17 @@ class Written(Case):
         self.assertEqual(stops, {"v": [("b_0", "99")], "t": [], "f.0": [("c_0", "30")], "f.1": [("c_0", "45")]})
         self.assertEqual(report.ignored["accel of vTypes"], 1)
         self.assertEqual([one.line for one in vehicles_from_trips(trips.all, town.graph)], ["12", "", "", ""])
+
+
+    def test_departures_are_in_the_second_in_which_they_were(self):
+        """An import and SUMO have vehicles depart at the first whole second that is not before."""
+        town = read_town(self.write("x.net.xml", STREET), [], Options(), Report())
+        path = tuple(town.graph.number[name] for name in "abc")
+        departs = (8.0, 8.004, 8.1, 8.996)
+        made = [Trip(str(at), depart, path[0], path[-1], DEFAULT, path, depart) for at, depart in enumerate(departs)]
+        write_routes(str(self.folder / "out.xml"), Trips(made, []), town.graph)
+        read = [one.get("depart") for one in ElementTree.parse(self.folder / "out.xml").iter("vehicle")]
+        self.assertEqual(read, ["8.00", "8.01", "8.10", "9.00"])
 
 
 class Stepping(Search):
@@ -549,7 +560,7 @@ class Equilibria(Commands):
         self.assertIn("warning: 1 vehicles have a route back to the edge where it begins, which they keep\n", said)
         self.assertEqual(self.routes(), {"v": way.split()})
 
-    def test_the_run_is_that_of_streetsim_import(self):
+    def test_the_run_and_its_map_are_those_of_streetsim_import(self):
         types = '<vType id="truck" length="12"/>'
         self.given(lit((15, "G"), (45, "r")), flow(100, 600, 'type="truck"').replace("<routes>", f"<routes>{types}"))
         self.route("--iterations", 2, "--run", self.folder / "a.jsonl", "--map", self.folder / "a.json", "--gap", 1)
@@ -557,7 +568,11 @@ class Equilibria(Commands):
             "import", self.net, "--routes", self.folder / "out.rou.xml", "-o", self.folder / "b.jsonl",
             "--map", self.folder / "b.json",
         )
-        self.assertEqual((self.folder / "a.jsonl").read_bytes(), (self.folder / "b.jsonl").read_bytes())
+        for name in ("jsonl", "json"):
+            self.assertEqual((self.folder / f"a.{name}").read_bytes(), (self.folder / f"b.{name}").read_bytes())
+        closed = "--close", "short_0:100-200:60-120", "--works-limit", 30  # for which the files are imported anew
+        words = [self.folder / "a.jsonl", "--map", self.folder / "a.json", *closed, "--program", PROGRAM]
+        self.tool("run", *words, "--out", self.folder / "closed")
 
 
 class GivingWay(Commands):

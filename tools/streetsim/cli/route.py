@@ -155,7 +155,7 @@ def job_of(words: argparse.Namespace) -> Job:
         before = read_trips([words.before], town.net, town.graph, town.types, town.options, Report())
         give_ways_of_file(trips.all, before, town.graph, words.before)
     if unmade := unmade_stops_told(sum(len(trip.stops) for trip in trips.all)):
-        report.warn(f"{unmade}; they are not in the routes that are written")
+        report.warn(f"{unmade}; the routes that are written have those that lie on them")
     print(*report.lines(), sep="\n", end="\n" if any(report.lines()) else "", file=sys.stderr)
     last = int(trips.all[-1].depart)
     until = min(limits.CLOCK, last + AFTER) if words.until is None else words.until

@@ -122,7 +122,7 @@ def write_made(paths: Outputs, made: Made, setting: Json) -> None:
     types = [f'<vType id="{kind}" vClass="{kind}"/>' for kind in basis.kinds if kind]
     write_routes(paths.routes, Trips(list(made.trips), types), basis.town.graph)
     if paths.run and paths.mapping:
-        write_loaded(loaded, paths.run, paths.mapping)
+        write_loaded(loaded, basis.town, paths.routes, paths.run, paths.mapping)
     with whole_folder(paths.folder, NAME, AT_WISH) as folder:
         write_demand(folder, basis, made.fitted, made.tried)
         if made.judged:

@@ -100,10 +100,11 @@ def write_found(job: Job, all_: Sequence[Diverted]) -> None:
     target, many, found = job.target, len(all_) > 2, all_[1:] or all_
     for one in found:
         trips = Trips(list(one.trips), job.trips.types)
-        write_routes(path_for_share(target.routes, one.share, many), trips, job.town.graph)
+        routes = path_for_share(target.routes, one.share, many)
+        write_routes(routes, trips, job.town.graph)
         if target.run and target.map:
             paths = (path_for_share(path, one.share, many) for path in (target.run, target.map))
-            write_loaded(one.search.town.loaded(one.trips), *paths)
+            write_loaded(one.search.town.loaded(one.trips), one.search.town, routes, *paths)
     with whole_folder(target.folder, NAME, AT_WISH) as folder:
         for one in found:
             own = f"{folder}/{one.label.replace(' ', '-')}" if many else folder

@@ -6,8 +6,10 @@ from dataclasses import dataclass, replace
 
 from streetsim.base.files import Fault, whole_file
 from streetsim.base.report import Report
+from streetsim.importing.convert import convert, write_run
 from streetsim.model.mapping import Map
 from streetsim.model.runs import Line, Run, run_of
+from streetsim.model.sources import Sources
 from streetsim.sumo.additional import read_additional
 from streetsim.sumo.converting import converted, map_of, refuse_over_limits
 from streetsim.sumo.net import SumoNet, read_net
@@ -34,9 +36,9 @@ class Loaded:
 class Town:
     """A network and its vehicle types, read once, with the works that its runs have."""
 
-    def __init__(self, net: SumoNet, types: Types, options: Options) -> None:
-        """options: of the import, which each run of the town is made with."""
-        self.net, self.types, self.options = net, types, options
+    def __init__(self, net: SumoNet, types: Types, options: Options, files: Sources) -> None:
+        """options: of the import, which each run of the town is made with; files: the network's and additional ones."""
+        self.net, self.types, self.options, self.files = net, types, options, files
         self.graph: Graph = graph_of_net(net)
         self.minor = Minor(self.graph, net)
         self.works: tuple[str, ...] = ()  # as streetsim-run --close takes them
@@ -95,12 +97,18 @@ def read_town(net_path: str, additional: Sequence[str], options: Options, report
     net, types = read_net(net_path, options.classes, report), Types(options.seed, report)
     for path in additional:
         read_additional(path, net, types, report)
-    return Town(net, types, options)
+    return Town(net, types, options, Sources(net_path, [*additional]))
 
 
-def write_loaded(loaded: Loaded, run_path: str, map_path: str) -> None:
-    """Writes a run, with the lines of its works, and its map to files in the form of streetsim-import's; the map names
-    no files of an import. Fault where one cannot be written."""
+def write_loaded(loaded: Loaded, town: Town, routes: str, run_path: str, map_path: str) -> None:
+    """Writes the run of a file of routes (routes: its path), which has the ways of `loaded`, and its map, both as
+    streetsim-import makes them. Of a town with works `loaded` itself is written, with the lines of its works, which an
+    import would lose, so that its map names no files of one. Fault where a file cannot be read or written."""
+    if not town.works:
+        files, report = replace(town.files, routes=[routes]), Report()
+        made = convert(files.net, files.additional, files.routes, town.options, report)
+        write_run(run_path, map_path, made, report, files)
+        return
     run = loaded.run
     timed = [json.dumps({"at": clock, **line.command}, separators=(",", ":")) for clock, line in run.timed]
     texts = [run.load.text, *(line.text for line in run.first), *timed, *(line.text for line in run.enters)]

@@ -3,6 +3,7 @@ them. All that reads raises Fault, with file and element, where an attribute is 
 from collections.abc import Iterable, Iterator, Sequence
 from dataclasses import dataclass
 from itertools import pairwise
+from math import ceil
 from xml.etree import ElementTree
 from xml.sax.saxutils import quoteattr
 
@@ -211,11 +212,15 @@ def write_routes(path: str, trips: Trips, graph: Graph) -> None:
 
 
 def attributes_in(trip: Trip) -> dict[str, str]:
-    """The attributes, {name: text}, of a trip in a file of routes; its departure in seconds with two decimals, no type
-    where it is the usual one (DEFAULT). It departs on the best lane where its own file tells none."""
+    """The attributes, {name: text}, of a trip in a file of routes; its departure in seconds with two decimals, up
+    where down would be a whole second earlier for who departs at whole seconds; no type where it is the usual one
+    (DEFAULT). It departs on the best lane where its own file tells none."""
+    depart = round(trip.depart, 2)
+    if ceil(depart) < trip.depart:
+        depart += 0.01
     kind = {"type": trip.type} if trip.type != DEFAULT else {}
     line = {"line": trip.line} if trip.line else {}
-    return {"id": trip.name, "depart": f"{trip.depart:.2f}", **kind, "departLane": "best", **line, **dict(trip.more)}
+    return {"id": trip.name, "depart": f"{depart:.2f}", **kind, "departLane": "best", **line, **dict(trip.more)}
 
 
 def calls_on(trip: Trip, edges: Sequence[str]) -> Iterator[str]:
