@@ -18,7 +18,7 @@ from streetsim.counts import checking, demanding, judging, matrices, ratios, rea
 from streetsim.counts.candidates import Pair, Way, with_given_routes
 from streetsim.counts.cells import clock_of
 from streetsim.counts.fitting import Expecting
-from streetsim.counts.judging import Compared, differences_of, without_parts
+from streetsim.counts.judging import Compared, differences_of, is_part_of, without_parts
 from streetsim.counts.passing import CountsByEdges, Slices
 from streetsim.counts.seen import Driven, Traces, fewest_links, passed_in, plans_in
 from streetsim.counts.values import Count, Ratio
@@ -227,6 +227,31 @@ class Inputs(Case):
         self.assertEqual(differences_of(hourly), {"a": -5.0, "b": -1.0})
         # Ten fewer in a quarter of an hour.
         self.assertEqual(differences_of([Compared(0, 900, ("a",), "", "", 90.0, 80.0, 900)]), {"a": -40.0})
+
+    def test_a_map_of_many_hours_looks_at_those_in_common(self):
+        """An edge and its turn in each of 300 hours: of each the two of its hour are looked at."""
+        hourly = [
+            Compared(at * 3600, (at + 1) * 3600, tuple(edges), "", "", 9.0, 8.0, 3600)
+            for at in range(300) for edges in ("a", "ab")
+        ]  # fmt: skip
+        with mock.patch("streetsim.counts.judging.is_part_of", wraps=is_part_of) as looks:
+            self.assertEqual([one.edges for one in without_parts(hourly)], [("a",)] * 300)
+        self.assertLessEqual(looks.call_count, 2 * len(hourly))
+
+    def test_ratios_of_many_periods_are_read_once_each(self):
+        class Watched(Ratio):
+            """A ratio that counts how often its begin is asked for."""
+
+            asked = 0
+
+            def __getattribute__(self, name):
+                Watched.asked += name == "begin"
+                return super().__getattribute__(name)
+
+        town = read_town(self.write("n.net.xml", FORK), [], Options(), Report())
+        some = [Watched(at * 900, (at + 1) * 900, "a", "b", 1.0, "") for at in range(300)]
+        self.assertEqual(len(Turns(some, set(), town.net, town.graph).by_edge[0]), 300)
+        self.assertLess(Watched.asked, 10 * len(some))
 
     def test_flows_begin_at_times_as_sumo_writes_them(self):
         flow = '<routes><flow id="f" from="a" begin="00:30:00" end="01:00:00" number="{}"/></routes>'

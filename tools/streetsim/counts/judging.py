@@ -208,11 +208,13 @@ def volume_at_geh_5(counted: float, sign: int) -> float:
 def without_parts(hourly: Iterable[Compared]) -> list[Compared]:
     """Counts of hours without those that others replace (is_part_of), so that sums by first edge have none twice: of a
     time in which all vehicles are counted those of a class are left out, and those of turns where their edge is."""
-    by_edge: defaultdict[str, list[Compared]] = defaultdict(list)
     hourly = list(hourly)
-    for one in hourly:
-        by_edge[one.edges[0]].append(one)
-    return [one for one in hourly if not any(is_part_of(one, other) for other in by_edge[one.edges[0]])]
+    keys = [[(one.edges[0], hour) for hour in range(one.begin // HOUR, -(-one.end // HOUR))] for one in hourly]
+    beside: defaultdict[tuple[str, int], list[Compared]] = defaultdict(list)
+    for key, one in ((key, one) for one, own in zip(hourly, keys, strict=True) for key in own):
+        beside[key].append(one)
+    others = ((other for key in own for other in beside[key]) for own in keys)
+    return [one for one, some in zip(hourly, others, strict=True) if not any(is_part_of(one, other) for other in some)]
 
 
 def is_part_of(one: Compared, other: Compared) -> bool:

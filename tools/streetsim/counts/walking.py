@@ -1,6 +1,6 @@
 """Draws the ways that turn ratios give, as SUMO's jtrrouter does: vehicle by vehicle, turn by turn, until a sink."""
 import random
-from bisect import bisect_right
+from bisect import bisect_left, bisect_right
 from collections import defaultdict
 from collections.abc import Iterator, Sequence
 from itertools import accumulate, pairwise
@@ -32,10 +32,15 @@ class Turns:
         self.graph, self.sinks = graph, {graph.number[name] for name in sinks}
         self.by_edge: defaultdict[int, list[tuple[int, int, Turning]]] = defaultdict(list)
         for source, some in found.items():
-            for begin, end in pairwise(sorted({bound for one in some for bound in (one.begin, one.end)})):
-                weights = {graph.number[one.target]: one.weight for one in some if one.begin <= begin < one.end}
-                if weights:
-                    self.by_edge[source].append((begin, end, (list(weights), list(accumulate(weights.values())))))
+            bounds = sorted({bound for one in some for bound in (one.begin, one.end)})
+            weights: list[dict[int, float]] = [{} for _ in bounds]
+            for one in some:
+                for own in weights[bisect_left(bounds, one.begin) : bisect_left(bounds, one.end)]:
+                    own[graph.number[one.target]] = one.weight
+            self.by_edge[source] = [
+                (begin, end, (list(own), list(accumulate(own.values()))))
+                for (begin, end), own in zip(pairwise(bounds), weights) if own
+            ]  # fmt: skip
 
     def next_edge(self, edge: int, clock: float, draws: random.Random) -> int | None:
         """The edge on which a vehicle goes on from an edge at a clock, drawn by the weights; none at a sink, where all
