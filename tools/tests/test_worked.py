@@ -337,6 +337,9 @@ class Crowding(unittest.TestCase):
         run.timed = [(0, Line(1, json.dumps(close), close))]
         told = with_works(run, mapping, "map", [works_of("b_0:150-200:0-900", mapping)])[2]
         self.assertIn("edge a: some 2,001 vehicles an hour come to works that leave 1 of 2 lanes", "; ".join(told))
+        run.timed = [(1798, Line(1, json.dumps(close), close))]
+        told = with_works(run, mapping, "map", [works_of("b_0:150-200:0-900", mapping)])[2]
+        self.assertNotIn("edge a", "; ".join(told), "one vehicle comes, in the last second of departures")
 
     def test_two_lanes_at_other_hours(self):
         """Each leaves one lane; where both are closed at once none is left, which is told otherwise."""

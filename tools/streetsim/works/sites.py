@@ -25,7 +25,7 @@ from streetsim.model.sources import sources_of
 from streetsim.sumo.converting import options_again, run_and_map
 from streetsim.works.asked import Site, Works, really_closed, sites_of
 from streetsim.works.closures import Closure, begun_here, closures_of
-from streetsim.works.crowding import Times, told_of_crowding
+from streetsim.works.crowding import SHORT, Times, told_of_crowding
 from streetsim.works.lowering import limits_of, told_of_limits, works_on_parts
 from streetsim.works.movements import (
     Movement, closed_ends, closures_at, lost_movements, lost_times, told_of_lost, without_led_turns,
@@ -81,9 +81,9 @@ def with_works(
 
 def while_vehicles_depart(run: Run, closures: Iterable[Closure]) -> list[Closure]:
     """The closures, of which those that last to the greatest clock, as nothing reopens them, end behind the run's last
-    departure, so that vehicles an hour can be told of them; a second after their begin at the earliest."""
+    departure, so that vehicles an hour can be told of them; SHORT seconds after their begin at the earliest."""
     last = max((line.command["depart"] for line in run.enters), default=0) + 1
-    return [replace(one, end=max(one.begin + 1, last)) if one.end == limits.CLOCK else one for one in closures]
+    return [replace(one, end=max(one.begin + SHORT, last)) if one.end == limits.CLOCK else one for one in closures]
 
 
 def with_closures(
