@@ -5,7 +5,7 @@ import json
 import subprocess
 import unittest
 
-from support import MAP, NUMBERED, PROGRAM, TOOLS, Case, needs_simulator
+from support import FORK, MAP, NUMBERED, PROGRAM, TOOLS, Case, needs_simulator
 from streetsim.base.files import Fault, read_json
 from streetsim.base.words import Parser, integer_within, names_in, paths_in, time_within
 
@@ -66,6 +66,16 @@ class Words(Case):
         run, mapped = self.write("x.jsonl", json.dumps({"cmd": "load", **NUMBERED})), self.write("x.json", "{}")
         told = self.tool("live", run, "--map", mapped, "-o", run, status=2)[1]
         self.assertIn("-o names a file that is read", told)
+
+    def test_outputs_whose_folder_is_not_there(self):
+        """Told before anything is written, or read."""
+        lost = self.folder / "none"
+        outputs = "-o", self.folder / "x.jsonl", "--map", self.folder / "x.json", "--warnings", lost / "w.csv"
+        said = self.tool("import", self.write("x.net.xml", FORK), *outputs, status=2)[1]
+        self.assertEqual(said, f"streetsim-import: {lost}/w.csv: there is no folder {lost}\n")
+        said = self.tool("report", "out", "-o", self.folder / "x.html", "--csv", lost / "c.csv", status=2)[1]
+        self.assertEqual(said, f"streetsim-report: {lost}/c.csv: there is no folder {lost}\n")
+        self.assertEqual([path.name for path in self.folder.iterdir()], ["x.net.xml"])
 
     def test_times(self):
         time = time_within(0, 100_000)

@@ -5,7 +5,7 @@ from dataclasses import replace
 from typing import Any
 
 from streetsim.base import limits
-from streetsim.base.files import Fault, checked_output_path, refuse_equal
+from streetsim.base.files import Fault, refuse_unwritable
 from streetsim.base.progress import Slow
 from streetsim.base.report import COLUMNS, Report
 from streetsim.base.words import FALSE, Parser, add_names, integer_within, names_in, paths_in, share_of
@@ -157,10 +157,7 @@ def main(arguments: list[str]) -> int:
     words.additional, words.routes, words.trips = map(paths_in, (words.additional, words.routes, words.trips))
     sources = Sources(words.net, words.additional, words.routes, words.trips)
     outputs = {"-o": words.output, "--map": words.map, "--warnings": words.warnings}
-    refuse_equal(
-        {name: path for name, path in outputs.items() if path}, [*sources.paths(), *filter(None, [words.names])]
-    )
-    checked_output_path(words.output), checked_output_path(words.map)
+    refuse_unwritable(".", outputs, [*sources.paths(), *filter(None, [words.names])])
     report, options = Report(), replace(options_of(words), slow=tuple(names_in(words.slow)))
     with Slow(f"importing {words.net}"):
         made = read_and_converted(sources, options, report, told)

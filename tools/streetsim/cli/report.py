@@ -8,7 +8,7 @@ from collections.abc import Sequence
 from html import escape
 from pathlib import Path
 
-from streetsim.base.files import Fault, checked_output_path, refuse_equal, whole_file
+from streetsim.base.files import Fault, refuse_unwritable, whole_file
 from streetsim.base.report import first_few
 from streetsim.base.words import Parser, add_names, integer_within, names_in, paths_in
 from streetsim.cli.given import given_words
@@ -89,10 +89,9 @@ def main(arguments: list[str]) -> int:
     words = made.parse_args(arguments)
     given = given_words(made, words, ELSEWHERE)
     refuse_clashing_words(words)
-    checked_output_path(words.output)
     beside = {f"{COUNTS}{at}": path for at, path in enumerate(paths_in(words.counts), 1)}
     beside |= {NAMES: words.names} if words.names else {}
-    refuse_equal({"-o": words.output, **({"--csv": words.csv} if words.csv else {})}, beside.values())
+    refuse_unwritable(".", {"-o": words.output, "--csv": words.csv}, beside.values())
     plans = read_plans(words)
     shown = interval_of(plans, words)
     seal: Seal | None = None
