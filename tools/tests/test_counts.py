@@ -119,6 +119,12 @@ class Inputs(Case):
         path = self.write("d.xml", f'<data><interval begin="0" end="9">{edge}</interval></data>')
         self.assertEqual(reading.read_counts([path], "seen")[0].vehicles, 2)
 
+    def test_xml_of_another_encoding(self):
+        path, text = self.folder / "z.xml", '<tazs><taz id="Süd" edges="a"/></tazs>'
+        for head, encoding in (('<?xml version="1.0" encoding="ISO-8859-1"?>', "latin-1"), ("\r\n ", "utf-8-sig")):
+            path.write_bytes((head + text).encode(encoding))
+            self.assertEqual(list(zones.read_zones([path])), ["Süd"])
+
     def test_zones(self):
         table = zones.read_zones([self.write("z.csv", "zone,edges\n1,a b\n2,c\n")])
         self.assertEqual((dict(table["1"].sources), dict(table["2"].sinks)), ({"a": 1, "b": 1}, {"c": 1}))

@@ -34,6 +34,21 @@ class Demand(Case):
         self.assertEqual(self.flow('begin="5" period="10" number="3"'), [5, 15, 25])
         self.assertEqual(self.flow('begin="5" end="5" number="3"'), [5, 5, 5])
 
+    def test_flows_without_an_end(self):
+        # SUMO 1.15 takes the end of the run, else says that it is "defaulting to 24hour duration".
+        self.assertEqual(self.flow('begin="10" period="10000"'), [10 + 10_000 * at for at in range(9)])
+        self.assertEqual(len(self.flow('begin="86000" period="100"')), 864)
+        self.assertEqual(self.flow('begin="0" number="5"'), [0, 17_280, 34_560, 51_840, 69_120])
+        for rate, expected in (
+            ('begin="0" number="5"', [0, 200, 400, 600, 800]),
+            ('begin="990" period="5"', [990, 995]),
+            ('begin="980" number="3" period="8"', [980, 988, 996]),
+        ):
+            found = self.enters(f'<flow id="f" {rate}><route edges="a b"/></flow>', end=1000)
+            self.assertEqual([depart for _, depart in found], expected)
+        found = self.enters('<flow id="f" period="50000"><route edges="a b"/></flow>', end=200_000)
+        self.assertEqual([depart for _, depart in found], [0, 50_000, 100_000, 150_000])
+
     def test_flows_in_an_interval(self):
         # As SUMO 1.15 has them depart, but in the same file as vehicles that depart later.
         route = '<route edges="a b"/>'

@@ -1,12 +1,13 @@
 """Tables as planners keep them: CSV with commas, semicolons or tabs, whose rows know their line."""
 import csv
+from codecs import BOM_UTF8
 from collections.abc import Callable, Collection, Iterable, Iterator, Mapping, Sequence
 from dataclasses import dataclass
 from difflib import get_close_matches
 from itertools import chain
 from typing import TypeVar
 
-from streetsim.base.files import Fault, FilePath, at_least_zero, number, open_text, reading
+from streetsim.base.files import Fault, FilePath, at_least_zero, number, open_bytes, open_text, reading
 
 Value = TypeVar("Value")
 SEPARATORS = (";", "\t", ",")
@@ -126,6 +127,8 @@ def period_of(begin: int, end: int, where: str) -> tuple[int, int]:
 
 
 def begins_with(path: FilePath, mark: str) -> bool:
-    """Whether a file begins with a mark, blanks and blank lines apart; Fault where it cannot be read."""
-    with reading(path), open_text(path) as file:
-        return next((line for line in file if line.strip()), "").lstrip().startswith(mark)
+    """Whether a file begins with a mark of ASCII, blanks, blank lines and a byte order mark apart; Fault where it cannot
+    be read. It may be of any encoding that has ASCII in it, as files of XML tell theirs inside."""
+    with reading(path), open_bytes(path) as file:
+        lines = (line.removeprefix(BOM_UTF8).strip() for line in file)
+        return next(filter(None, lines), b"").startswith(mark.encode())

@@ -63,7 +63,7 @@ def convert(
     lane that is not there, and where why_no_way raises one; vehicles without a way are else left out."""
     net = read_net(net_path, options.classes, report)
     types = Types(options.seed, report)
-    demand = None if trips else Demand(net, types, options.seed, report)
+    demand = None if trips else Demand(net, types, options.seed, report, options.end)
     for path in additional:
         read_additional(path, net, types, report, demand)
     if trips:
@@ -72,7 +72,7 @@ def convert(
         assert demand is not None
         for path in routes:
             demand.read_file(path)
-        vehicles = demand.completed_vehicles(options.end)
+        vehicles = demand.completed_vehicles()
     made = converted(net, types, vehicles, options, report)
     if not made[-1] and (routes or trips):
         report.warn("no vehicle drives")

@@ -60,9 +60,9 @@ class Demand:
 
     roots: Sequence[str] = ("routes", "additional", "add")  # of its files
 
-    def __init__(self, net: SumoNet, types: Types, seed: int, report: Report) -> None:
-        """seed: of the draws of flows and of routes from distributions."""
-        self.net, self.types, self.report = net, types, report
+    def __init__(self, net: SumoNet, types: Types, seed: int, report: Report, end: float | None = None) -> None:
+        """seed: of the draws of flows and of routes from distributions; end: of the run, seconds (None: not told)."""
+        self.net, self.types, self.report, self.end = net, types, report, end
         self.draws, self.choices = random.Random(seed), random.Random(f"routes {seed}")
         self.routes: dict[str, tuple[str, ...]] = {}  # name: edges
         self.mixes: dict[str, Mix] = {}  # by distribution of routes
@@ -217,13 +217,13 @@ class Demand:
 
     def read_flow(self, path: FilePath, element: Element) -> None:
         """Adds the vehicles of a flow, called NAME.NUMBER from 0 on, at the seconds of flows.departs."""
-        name, found = attribute(path, element, "id", filled), departs(path, element, self.draws)
+        name, found = attribute(path, element, "id", filled), departs(path, element, self.draws, self.end)
         self.add_vehicles(path, element, [(f"{name}.{at}", depart) for at, depart in enumerate(found)])
 
-    def completed_vehicles(self, end: float | None = None) -> list[Vehicle]:
-        """All vehicles that depart before an end in seconds (None: all), with routes and types, which are drawn, in
-        order of departure and then of the files; how many are left out is noted. Called once, after all files, as it
-        changes the vehicles. Fault where two have one name, or a route is named that no file has."""
+    def completed_vehicles(self) -> list[Vehicle]:
+        """All vehicles that depart before the end of the run, with routes and types, which are drawn, in order of
+        departure and then of the files; how many are left out is noted. Called once, after all files, as it changes the
+        vehicles. Fault where two have one name, or a route is named that no file has."""
         for vehicle, where in self.later:
             vehicle.route = self.draw_route(vehicle.route)
             if vehicle.route not in self.routes:
@@ -240,9 +240,9 @@ class Demand:
             count = f"{len(self.unsorted):,} vehicles or flows stand behind later ones in their file"
             text = f"{count}, and drive here, where SUMO leaves them out: {first_few(self.unsorted)}"
             self.report.warn(text, self.unsorted, "sort the file by departure")
-        before = [vehicle for vehicle in self.vehicles if end is None or vehicle.depart < end]
+        before = [vehicle for vehicle in self.vehicles if self.end is None or vehicle.depart < self.end]
         if after := len(self.vehicles) - len(before):
-            self.report.notes.append(f"{after:,} vehicles that depart at the end, {end:,} s, or later are left out")
+            self.report.notes.append(f"{after:,} vehicles that depart at the end, {self.end:,} s, or later are left out")
         return sorted(before, key=lambda vehicle: vehicle.depart)
 
 

@@ -37,14 +37,18 @@ def elements_in_interval(path: FilePath, interval: Element) -> Iterator[Element]
         yield one
 
 
-def departs(path: FilePath, element: Element, draws: Random) -> list[float]:
+def departs(path: FilePath, element: Element, draws: Random, last: float | None = None) -> list[float]:
     """The seconds at which the vehicles of a flow depart, in order: its number spread evenly from its begin to its end;
-    or begin + k * period below its end, its number at most (without number and end it ends at 86,400 s); with a
-    probability, or a period exp(RATE), by draws. Fault where there are more than may drive, it ends before it begins,
-    or refuse_two_rates or moments raises one. element: the <flow>."""
+    or begin + k * period below its end, its number at most; with a probability, or a period exp(RATE), by draws. A flow
+    that tells no end, nor both a rate and a number, has the end of the run (last), else a day, as in SUMO. Fault where
+    there are more than may drive, it ends before it begins, or refuse_two_rates or moments raises one. element: the
+    <flow>."""
     begin = optional(path, element, "begin", at_least_zero(seconds), 0.0)
     most = optional(path, element, "number", only(int, lambda value: 0 <= value <= LARGEST), None)
-    end = optional(path, element, "end", seconds, DAY if most is None else math.inf)
+    usual = begin + DAY if last is None else max(begin, last)
+    if most is not None and any(element.get(name) is not None for name in RATES):
+        usual = math.inf
+    end = optional(path, element, "end", seconds, usual)
     if end < begin:
         raise Fault(f"{element_told(path, element)}: ends at {end:g} s, before it begins at {begin:g} s")
     refuse_two_rates(path, element)
@@ -82,7 +86,7 @@ def moments(path: FilePath, element: Element, begin: float, draws: Random) -> It
         return by_rate(begin, attribute(path, element, "period", rate_of), draws)
     if element.get("period") is None:
         raise Fault(
-            f"{element_told(path, element)}: no rate (number with end, period, vehsPerHour, perHour or probability)"
+            f"{element_told(path, element)}: no rate (number, period, vehsPerHour, perHour or probability)"
         )
     period = attribute(path, element, "period", above_zero(seconds))
     return (begin + at * period for at in count())

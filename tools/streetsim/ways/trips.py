@@ -52,9 +52,9 @@ class TripDemand(Demand):
 
     roots = (*Demand.roots, "trips")
 
-    def __init__(self, net: SumoNet, types: Types, seed: int, report: Report) -> None:
-        """As Demand takes them; seed: of the draws of flows and of routes from distributions."""
-        super().__init__(net, types, seed, report)
+    def __init__(self, net: SumoNet, types: Types, seed: int, report: Report, end: float | None = None) -> None:
+        """As Demand takes them."""
+        super().__init__(net, types, seed, report, end)
         self.without: set[str] = set()  # vehicles without a route
         self.told_types: list[str] = []  # vehicle types as they stand in the files
 
@@ -133,11 +133,11 @@ def read_trips(
     too. Left out and reported are those that reason_against gives a reason for, with options.begin, and those that
     depart at options.end or later. Fault where a file cannot be read or is wrong, or no trip is left. graph: of the
     net; options: also the seed of draws of flows and routes."""
-    demand = TripDemand(net, types, options.seed, report)
+    demand = TripDemand(net, types, options.seed, report, options.end)
     for path in paths:
         demand.read_file(path)
     found = []
-    for one in demand.completed_vehicles(options.end):
+    for one in demand.completed_vehicles():
         if why := reason_against(one, net, options.begin):
             report.skipped[why] += 1
             continue
