@@ -106,10 +106,10 @@ def driven_lights(run: Run, mapping: Map) -> Lights:
     driven: list[DrivenLight] = []
     idle: list[DrivenLight] = []
     listed: dict[str, str] = {}
-    use = passing(run.enters, mapping)
+    use, later = passing(run.enters, mapping), {(light, program) for _, light, program in mapping.switches}
     for light in sorted(mapping.actuated, key=lambda one: -use[one]):
         try:
-            own = kept_of(mapping.programs, light, {program for _, name, program in mapping.switches if name == light})
+            own = kept_of(mapping.programs, light, {program for name, program in later if name == light})
             if any(node in timed for name, node in mapping.signals if name == light) and any(map(is_long, own)):
                 raise Listed("as lines of the run show their phases one by one")
             found = [driven_of(one, mapping) for one in own]

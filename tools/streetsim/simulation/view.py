@@ -103,9 +103,9 @@ class View:
 
     def remove(self, name: str, car: int) -> None:
         """Notes that a vehicle was taken out: it is on no lane and in no junction."""
-        for cars in (*self.on_lane.values(), *self.in_buffer.values()):
-            if car in cars:
-                cars.remove(car)
+        if (where := self.on_road.pop(car, None)) is not None:
+            for lanes in (self.on_lane, self.in_buffer):
+                if car in (cars := lanes.get((where.link, where.lane), [])):
+                    cars.remove(car)
         self.gone[name] = self.simulation.clock
-        self.on_road.pop(car, None)
         self.held.pop(car, None)
