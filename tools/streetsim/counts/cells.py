@@ -127,8 +127,8 @@ def period_of(begin: int, end: int, where: str) -> tuple[int, int]:
 
 
 def begins_with(path: FilePath, mark: str) -> bool:
-    """Whether a file begins with a mark of ASCII, blanks, blank lines and a byte order mark apart; Fault where it cannot
-    be read. It may be of any encoding that has ASCII in it, as files of XML tell theirs inside."""
+    """Whether a file begins with a mark of ASCII, blanks, blank lines and a byte order mark apart; Fault where it
+    cannot be read. It may be of any encoding that has ASCII in it, as files of XML tell theirs inside."""
     with reading(path), open_bytes(path) as file:
         lines = (line.removeprefix(BOM_UTF8).strip() for line in file)
         return next(filter(None, lines), b"").startswith(mark.encode())

@@ -242,7 +242,8 @@ class Demand:
             self.report.warn(text, self.unsorted, "sort the file by departure")
         before = [vehicle for vehicle in self.vehicles if self.end is None or vehicle.depart < self.end]
         if after := len(self.vehicles) - len(before):
-            self.report.notes.append(f"{after:,} vehicles that depart at the end, {self.end:,} s, or later are left out")
+            told = f"{after:,} vehicles that depart at the end, {self.end:,} s, or later are left out"
+            self.report.notes.append(told)
         return sorted(before, key=lambda vehicle: vehicle.depart)
 
 
