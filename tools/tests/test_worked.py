@@ -250,10 +250,20 @@ class Movements(unittest.TestCase):
         run, lost = self.lost(20, 39)
         signal = {"cmd": "signal", "node": 1, "offset": 0, "phases": [[30, [[0, 0, 1], [0, 0, 2], [0, 1, 2]]]]}
         run.first = [Line(2, json.dumps(signal), signal)]
-        made = without_led_turns(run, self.MAP, lost)
+        made, mapping = without_led_turns(run, self.MAP, lost)
         self.assertEqual(made.load.command["turns"], [[0, 0, 1, 0], [0, 1, 1, 1], [0, 1, 2, 0]])
         self.assertEqual(json.loads(made.first[0].text)["phases"], [[30, [[0, 0, 1], [0, 1, 2]]]])
+        self.assertEqual([(one.link, one.lane, one.next) for one in mapping.turns], [(0, 0, 1), (0, 1, 1), (0, 1, 2)])
         self.assertIn("these wait until the works end", *told_of_lost(lost, self.MAP, "wait"))
+
+    def test_who_does_not_wait(self):
+        """A plan that goes to c over a further link of a, from which the import added a turn, keeps that turn."""
+        beside = replace(link("a"), lanes=(2,))
+        turns = [turn(0, 1, 2), turn(0, 0, 2, added=True), turn(3, 0, 2, added=True)]
+        mapping = mapped(link("a"), link("b"), link("c"), beside, turns=turns)
+        run = run_of([[0, 2], [3, 2]], [(0, 1, 2, 0), (0, 0, 2, 0), (3, 0, 2, 0)])
+        lost = lost_movements(run, mapping, [Closure(0, 1, 20, 39, 0, 900)])
+        self.assertEqual(without_led_turns(run, mapping, lost)[0].load.command["turns"], [[0, 1, 2, 0], [3, 0, 2, 0]])
 
 
 class Pockets(unittest.TestCase):

@@ -18,16 +18,24 @@ from streetsim.works.asked import sites_of, works_of
 from streetsim.works.sites import shut_links, with_works
 
 
-def fan(lanes):
-    """A street z of some lanes into one a of as many, of which each lane leads to an edge of its own: to0, to1, .."""
+LIGHT = (
+    '<tlLogic id="L" type="actuated" programID="0" offset="0"><phase duration="60" state="GG" minDur="60" maxDur="60"/>'
+    '<phase duration="3" state="yy"/></tlLogic>'
+)
+
+
+def fan(lanes, light=False):
+    """A street z of some lanes into one a of as many, of which each lane leads to an edge of its own: to0, to1, ..;
+    light: of two lanes, whether one that detectors drive stands before these."""
     count = range(lanes)
     edges = [
         (name, *ends, [lane(name, at, metres) for at in count])
         for name, ends, metres in (("z", "YA", 150), ("a", "AB", 300))
     ]
     edges += [(f"to{at}", "B", f"C{at}", [lane(f"to{at}", 0, 150)]) for at in count]
-    turns = [("z", at, "a", at, "") for at in count] + [("a", at, f"to{at}", 0, "") for at in count]
-    return net(edges, turns)
+    signals = [f'tl="L" linkIndex="{at}"' if light else "" for at in count]
+    turns = [("z", at, "a", at, "") for at in count] + [("a", at, f"to{at}", 0, signals[at]) for at in count]
+    return net(edges, turns, LIGHT if light else "")
 
 
 def flows(lanes, hourly):
@@ -62,8 +70,8 @@ class Groups(unittest.TestCase):
 
 @needs_simulator
 class Works(Case):
-    def imported(self, lanes=2, hourly=300, more=()):
-        self.write("x.net.xml", fan(lanes))
+    def imported(self, lanes=2, hourly=300, more=(), light=False):
+        self.write("x.net.xml", fan(lanes, light))
         self.write("x.rou.xml", flows(lanes, hourly))
         words = [self.folder / "x.net.xml", "--routes", self.folder / "x.rou.xml", *more]
         self.tool("import", *words, "-o", self.folder / "run.jsonl", "--map", self.folder / "map.json", "--strict")
@@ -112,6 +120,13 @@ class Works(Case):
             self.assertEqual((arrived, "joint" in told), (100, False))
             self.assertGreater(late, mean + 100)
             self.assertIn(words, told)
+
+    def test_who_waits_before_a_light_that_detectors_drive(self):
+        """It shows green to the turns of the run alone, without that of the lane beside, which is joint for the run."""
+        run, mapped = self.imported(light=True)
+        told, _, arrived = self.run_with(run, mapped, "a_1:200-300:60-900", more=("--lost", "wait"))
+        self.assertIn("these wait until the works end", told)
+        self.assertEqual(arrived, 100)
 
     def test_works_that_share_metres(self):
         """Works that end reopen nothing that others still close, in whichever order they are given."""

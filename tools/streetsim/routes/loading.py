@@ -80,8 +80,7 @@ class Town:
         led = lanes_to_lead(works, mapping) if self.lost == "lead" else []
         if (names := lanes_to_join(works, mapping)) or led:
             run, mapping = self.imported(trips, names, led)
-        run, told = with_closures(run, mapping, works, self.lost, searched=True)
-        return run, mapping, told
+        return with_closures(run, mapping, works, self.lost, searched=True)
 
     def told_of_lost(self, trips: Sequence[Trip]) -> list[str]:
         """The texts on those of some trips who lose their only lane by the town's works; empty where nobody does. Fault

@@ -127,18 +127,20 @@ def lanes_apart(place: Place, mapping: Map, other: Place) -> int:
     return abs(one - beside)
 
 
-def without_led_turns(run: Run, mapping: Map, lost: Iterable[Lost]) -> Run:
-    """The run without the turns by which those who lose their lane would be led from the lane beside on their link, in
-    its load and its signals, so that they wait; the same run where there are no such turns."""
-    left = {(place, one.movement[1]) for one in lost if one.is_joint() for place in one.others}
+def without_led_turns(run: Run, mapping: Map, lost: Iterable[Lost]) -> tuple[Run, Map]:
+    """(the run, its map) without the turns by which those who lose their lane would be led from the lane beside on
+    their link, so that they wait, in the load, its signals and the map; the same ones where there are no such turns.
+    Turns from other links of the edge stay, as plans have them."""
+    left = {(place, one.movement[1]) for one in lost for place in one.others if place[0] in dict(one.lanes)}
     turns = ((turn, mapping.links[turn.next].edge) for turn in mapping.turns)
     gone = {(turn.link, turn.lane, turn.next) for turn, edge in turns if ((turn.link, turn.lane), edge) in left}
     if not gone:
-        return run
+        return run, mapping
     load = {**run.load.command, "turns": [turn for turn in run.load.command["turns"] if tuple(turn[:3]) not in gone]}
     first = [line_without(line, gone) for line in run.first]
     timed = [(clock, line_without(line, gone)) for clock, line in run.timed]
-    return replace(run, load=rewritten(run.load, load), first=first, timed=timed)
+    kept = [turn for turn in mapping.turns if (turn.link, turn.lane, turn.next) not in gone]
+    return replace(run, load=rewritten(run.load, load), first=first, timed=timed), replace(mapping, turns=kept)
 
 
 def line_without(line: Line, gone: Collection[TurnKey]) -> Line:

@@ -71,7 +71,7 @@ def with_works(
     if names:
         edges = first_few(sorted(edges_of_names(names, mapping)))
         told.append(f"joint for this run, so that vehicles change lane: edges {edges}")
-    run, lost = with_closures(run, mapping, works, options.lost)
+    run, mapping, lost = with_closures(run, mapping, works, options.lost)
     sites = sites_of(works, mapping)
     told += [*really_closed(sites, mapping), *all_closed(run, mapping, shut_links(sites, mapping))]
     closures = begun_here(while_vehicles_depart(run, closures_of(run, limits.CLOCK)), mapping) if sites else ()
@@ -88,10 +88,11 @@ def while_vehicles_depart(run: Run, closures: Iterable[Closure]) -> list[Closure
 
 def with_closures(
     run: Run, mapping: Map, works: Iterable[Works], how: str, searched: bool = False
-) -> tuple[Run, list[str]]:
-    """(the run with works, whose lanes its map has, joint where they must be; the texts on those who lose their only
-    lane). how: of movements.LOST: with lead these are led from a lane beside, where one has the turn; all others wait,
-    and who asks for bar has to give them other ways before. searched: whether it does, which only the texts tell."""
+) -> tuple[Run, Map, list[str]]:
+    """(the run with works, whose lanes its map has, joint where they must be; its map; the texts on those who lose
+    their only lane). how: of movements.LOST: with lead these are led from a lane beside, where one has the turn; all
+    others wait, and who asks for bar has to give them other ways before. searched: whether it does, which only the
+    texts tell."""
     sites = sites_of(works, mapping)
     closures = closures_at(sites)
     lost = lost_movements(run, mapping, closures)
@@ -99,7 +100,9 @@ def with_closures(
     stay = () if how == "lead" else lost_times(closures, mapping)
     made = round_works(replace(run, timed=timed), mapping, shut_links(sites, mapping), stay)
     told = list(told_of_lost(lost, mapping, how, searched))
-    return made if how == "lead" else without_led_turns(made, mapping, lost), told
+    if how != "lead":
+        made, mapping = without_led_turns(made, mapping, lost)
+    return made, mapping, told
 
 
 def works_lines(sites: Sequence[Site]) -> list[tuple[int, Line]]:
