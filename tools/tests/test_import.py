@@ -234,6 +234,15 @@ class Networks(Case):
         with self.assertRaisesRegex(Fault, "no lane is open to passenger; lanes are opened to: bus"):
             self.network(net([("a", "A", "B", [lane("a", 0, more='allow="bus"')])], []))
 
+    def test_a_lane_of_others_between(self):
+        # In SUMO nobody changes over it, as vehicles look at the next lane alone.
+        lanes = [lane("a", 0), lane("a", 1, more='allow="bicycle"'), lane("a", 2)]
+        turns = [("a", at, "b", 0, "") for at in (0, 2)]
+        network, *_ = self.network(net([("a", "A", "B", lanes), ("b", "B", "C", [lane("b", 0)])], turns))
+        self.assertEqual(network.links[0].lanes, (0, 2))
+        told = "on 1 edges a lane that is left out lies between lanes, over which vehicles change here: a"
+        self.assertIn(told, self.said.warnings)
+
     def test_too_many_vehicles_and_too_long_a_line(self):
         network, *_ = self.network(FORK)
         refuse_over_limits(network, "x" * 1_048_576, range(1_000_000))

@@ -93,7 +93,8 @@ def warn_of_merges(net: SumoNet, report: Report) -> None:
 
 
 def warn_of_lanes(net: SumoNet, network: Network, report: Report) -> None:
-    """Reports connections that give way, turns and parallel links that SUMO does not have, and lanes that are joint."""
+    """Reports connections that give way, turns and parallel links that SUMO does not have, lanes that are joint, and
+    lanes of a link between which another one lies."""
     if minor := sum(connection.state in "m=sw" and not connection.light for connection in net.connections):
         told = f"{minor} connections have to give way in SUMO; here those that routes use do, by rounds before each run"
         report.warn(told, light=True)
@@ -103,6 +104,9 @@ def warn_of_lanes(net: SumoNet, network: Network, report: Report) -> None:
     if split := sorted(edge for edge, links in network.links_of.items() if len(links) > 1):
         links = "parallel links of one or two lanes, between which nobody changes lane"
         report.warn(f"{len(split)} edges became {links}: {first_few(split)}", split, "--joint EDGES joins their lanes")
+    if apart := sorted({one.edge for one in network.links if one.lanes[-1] - one.lanes[0] > 1}):
+        between = "a lane that is left out lies between lanes, over which vehicles change here"
+        report.warn(f"on {len(apart)} edges {between}: {first_few(apart)}", apart, "judge them by SUMO")
     if network.closing:
         names = first_few(sorted(network.closing))
         report.warn(f"lanes are joint that lead to different edges, as --joint asks: edges {names}", light=True)
