@@ -17,8 +17,9 @@ class Still(unittest.TestCase):
         records = SimpleNamespace(censuses=[Census(1, 0, 0, 1, 0, 0, 0)], ended="")
         run = Run("run", Line(1, "", {}))
         desk = SimpleNamespace(
-            run=run, settings=settings, records=records, entered=0, sent=0, places=[], poll_lanes=lambda places: {},
-            fleet=SimpleNamespace(is_holding=False), has_ended=lambda clock: False, end_at=lambda clock: None,
+            run=run, settings=settings, records=records, is_to_come=lambda clock: False, sent=0, places=[],
+            poll_lanes=lambda places: {}, fleet=SimpleNamespace(is_holding=False), has_ended=lambda clock: False,
+            end_at=lambda clock: None,
         )  # fmt: skip
         ending = Ending(run)
         for clock in range(60, 1_561, 60):
@@ -61,6 +62,16 @@ class Endings(Case):
             told,
             "ended at 1,[0-9]{3} s: no vehicle has changed its cell for 660 s, longer than the longest cycle, 600 s",
         )
+
+    def test_vehicles_that_stand_before_others_that_depart_earlier(self):
+        """The run waits for the departure at 2,000 s, and nobody waits to enter before."""
+        told = self.run_lines([2000, 10])
+        self.assertIn("2 vehicles, 2 arrived", told)
+        self.assertIn("ended at 2,040 s: all have arrived", told)
+        with open(self.folder / "out/summary.csv", encoding="utf-8") as file:
+            rows = [(row["time"], row["entered"], row["waiting"]) for row in csv.DictReader(file)]
+        self.assertEqual((rows[0], rows[-1]), (("60", "1", "0"), ("2040", "2", "0")))
+        self.assertEqual(json.loads((self.folder / "out/setting.json").read_text())["not_trusted"], [])
 
     def test_each_seed_has_its_end(self):
         self.assertIn("seed 1: 1 vehicles, 1 arrived", told := self.run_lines([0], "--seeds", "1-2"))

@@ -1,5 +1,6 @@
 """One process of the program on a run: its lines in time, detectors and samples of some lanes."""
 import json
+from bisect import bisect_left
 from collections import defaultdict
 from collections.abc import Iterable, Mapping, Sequence
 from dataclasses import replace
@@ -7,7 +8,7 @@ from typing import Any, TypeVar
 
 from streetsim.actuated.driver import Driver, Senses
 from streetsim.base import limits
-from streetsim.base.client import Client, Lane, Row, Rows, Vehicle, line_of, read_reply
+from streetsim.base.client import Census, Client, Lane, Row, Rows, Vehicle, line_of, read_reply
 from streetsim.base.files import Fault
 from streetsim.buses.fleet import Fleet
 from streetsim.buses.planned import NONE
@@ -39,6 +40,7 @@ class Desk:
         self.lines = {(link, lane): line_of({"cmd": "lane", "link": link, "lane": lane}) for link, lane in self.places}
         self.meters: list[tuple[dict[Any, dict[int, Row]], Any]] = []  # by number: (where its rows go, key there)
         self.entered = self.sent = 0  # of the run's enters, of its timed lines
+        self.departs = sorted(line.command["depart"] for line in run.enters)
         # Those of a run that repeats another: it has the lines that this one sent.
         self.works, self.driver = WorksUnderWay([], mapping), Driver((), mapping)
         self.senses = Senses(
@@ -150,10 +152,20 @@ class Desk:
         """Takes a car, by its number in the program, out and enters its vehicle anew by a command. Fault if refused."""
         self.replies([line_of({"cmd": "takeout", "car": car}), line_of(command)], int, f"{self.run.path}: a rescue")
 
+    def is_to_come(self, clock: int) -> bool:
+        """Whether a vehicle of the file wishes to depart at a clock or later."""
+        return bool(self.departs) and self.departs[-1] >= clock
+
+    def count_all(self, clock: int) -> Census:
+        """A count of all vehicles at a clock, to which the run has come, without those that wish to depart then or
+        later, of which the program was told as they stand in the file before others."""
+        census, early = self.sim.count(), self.entered - bisect_left(self.departs, clock)
+        return replace(census, admitted=census.admitted - early, waiting=census.waiting - early)
+
     def has_ended(self, clock: int) -> bool:
         """Whether all vehicles have entered, and by a census at a clock arrived or been taken out; False where the last
         census is of another clock."""
-        if not self.records.censuses or self.entered < len(self.run.enters):
+        if not self.records.censuses or self.is_to_come(clock):
             return False
         last = self.records.censuses[-1]
         return last.clock == clock and last.admitted == last.arrived + last.taken

@@ -55,7 +55,7 @@ class Ending:
         of its own, and no vehicle or line is still to come; notes what it saw, so it is asked once at each look."""
         census = desk.records.censuses[-1]
         figures = census.admitted, census.arrived, census.taken, census.cells, census.buffers, census.waiting
-        waits = desk.entered < len(desk.run.enters) or desk.sent < len(desk.run.timed)
+        waits = desk.is_to_come(clock) or desk.sent < len(desk.run.timed)
         if waits or desk.fleet.is_holding or figures != self.census:
             self.census, self.since, self.lanes = figures, clock, None
             return False

@@ -128,7 +128,7 @@ class Recorder(Desk):
     def take_census(self, clock: int) -> None:
         """Adds a count of all vehicles to the records; nothing where the last census is of this clock."""
         if not self.records.censuses or self.records.censuses[-1].clock != clock:
-            self.records.censuses.append(self.sim.count())
+            self.records.censuses.append(self.count_all(clock))
             self.records.calls += 1
 
     def note_lanes(self, clock: int, lanes: Mapping[Place, Lane]) -> None:
@@ -222,7 +222,7 @@ class Repeater(Desk):
             while rescued and rescued[-1][0] == clock:
                 self.repeat(*rescued.pop())
             self.read_meters(clock)
-        if self.sim.count() != first.censuses[-1]:
+        if self.count_all(clock) != first.censuses[-1]:
             raise Fault(f"{self.run.path}: a run that repeats another one came to other vehicles")
         self.records.edgedata.turn_into_means(asking.measured if asking.samples else ())
         return self.records
