@@ -129,6 +129,9 @@ class Faults(Tool):
         self.assertIn("--ways 0 leaves no candidates", self.fault("--counts", counts, "--ways", 0))
         self.assertIn("--runs compares with counts", self.fault("--matrix", counts, "--runs", 1))
         self.assertIn("'2' is not 0 to 1", self.fault("--counts", counts, "--error", 2))
+        self.assertIn("--end is of files of vehicles", self.fault("--counts", counts, "--end", 900))
+        told = "--begin 100: what is given begins sooner, at 0 s"
+        self.assertEqual(self.fault("--counts", counts, "--begin", 100), told)
         files = "--counts", counts, "--candidates", routes
         self.assertIn("no connection leads from edge 'b' to 'a'", self.fault(*files))
         self.assertIn("No such file", self.fault("--counts", self.folder / "none.csv"))

@@ -121,6 +121,8 @@ def check_words(words: argparse.Namespace, inputs: Sequence[str]) -> None:
     refuse_half_run(words)
     if words.runs and not words.counts:
         raise Fault("--runs compares with counts: give --counts")
+    if words.end is not None:
+        raise Fault("--end is of files of vehicles: a demand ends with the last period of its counts, matrix or flows")
     if words.ends == "all" and (words.zones or words.matrix or words.flows):
         raise Fault("--ends says where trips begin without zones: give no --zones, --matrix or --flows beside")
     refuse_unwritable(words.out, {"-o": words.output, "--run": words.run, "--map": words.map}, inputs)

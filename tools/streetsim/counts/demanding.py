@@ -112,6 +112,8 @@ def basis_of(town: Town, asked: Asked, told: Told) -> Basis:
         raise Fault("no way leads from any place where trips begin to one where they end")
     lead = max(way.seconds for way in ways) if counts and not cells and not departs else 0.0
     slices = slices_of(slice_bounds(counts, cells, departs), lead, town.options.begin)
+    if slices.bounds[0] < town.options.begin:
+        raise Fault(f"--begin {town.options.begin}: what is given begins sooner, at {slices.bounds[0]:,} s")
     by_edges = CountsByEdges(counts, town.graph)
     given = cell_vehicles(cells, pairs, ways, slices) if cells else departing_vehicles(departs, slices, len(ways))
     begins, ends = {one for pair in pairs for one in pair.sources}, {one for pair in pairs for one in pair.sinks}
