@@ -524,6 +524,16 @@ class Fit(Tool):
         # Who departs last passes after the period.
         self.assertIn((self.edges().count("w m e"), self.edges().count("n m s")), [(30, 20), (31, 20), (31, 21)])
 
+    def test_routes_with_errors_are_no_candidates_where_these_are_ignored(self):
+        routes = "".join(f'<route id="{edges}" edges="{edges}"/>' for edges in ("w m e", "n m", "e m n s"))
+        counts = self.write("c.csv", HEAD + "0,900,m,e,30\n")
+        words = "--counts", counts, "--candidates", self.write("r.rou.xml", f"<routes>{routes}</routes>")
+        with self.assertRaisesRegex(Fault, "no connection leads from edge 'e' to 'm'"):
+            self.demand(HOURGLASS, *words)
+        _, error = self.demand(HOURGLASS, *words, "--ignore-route-errors")
+        self.assertIn("warning: 1 routes have edges without a connection, and are no candidates\n", error)
+        self.assertEqual(set(self.edges()) - {"n m"}, {"w m e"})
+
     def test_equal_words_give_equal_bytes(self):
         counts = self.write("c.csv", HEAD + "0,900,m,e,31\n0,900,m,s,17\n")
         self.demand(HOURGLASS, "--counts", counts)

@@ -199,8 +199,9 @@ def ways_of_pairs(
 
 def given_routes(town: Town, asked: Asked) -> list[tuple[str, ...]]:
     """The edges, by name, of each route of the files of candidates: as often as vehicles have it, once where none has.
-    Routes of one edge are left out, so that it may be empty. The vehicle types of the files are added to the town's.
-    Fault where the files have no route, or no connection leads from an edge to the next."""
+    Routes of one edge are left out, so that it may be empty; and those with edges without a connection where the
+    options ignore them, which is reported. The vehicle types of the files are added to the town's. Fault where the
+    files have no route, or else no connection leads from an edge to the next."""
     demand = Demand(town.net, town.types, asked.seed, Report())
     for path in asked.candidates:
         demand.read_file(path)
@@ -209,12 +210,16 @@ def given_routes(town: Town, asked: Asked) -> list[tuple[str, ...]]:
     found = [*driven, *(edges for edges in demand.routes.values() if edges not in taken)]
     if not found:
         raise Fault(f"{', '.join(asked.candidates)}: no route is in it")
-    for edges in found:
-        for source, target in pairwise(edges):
-            numbers = town.graph.number.get(source), town.graph.number.get(target)
-            if numbers not in town.graph.movement_of:
-                raise Fault(f"{', '.join(asked.candidates)}: no connection leads from edge {source!r} to {target!r}")
-    return [edges for edges in found if len(edges) > 1]
+    number, movement_of = town.graph.number.get, town.graph.movement_of
+    ways = ((edges, one, other) for edges in found for one, other in pairwise(edges))
+    apart = [way for way in ways if (number(way[1]), number(way[2])) not in movement_of]
+    if apart and not town.options.ignore_route_errors:
+        _, source, target = apart[0]
+        raise Fault(f"{', '.join(asked.candidates)}: no connection leads from edge {source!r} to {target!r}")
+    lost = {edges for edges, *_ in apart}
+    if lost:
+        town.types.report.warn(f"{len(lost):,} routes have edges without a connection, and are no candidates")
+    return [edges for edges in found if len(edges) > 1 and edges not in lost]
 
 
 def ways_by_ratios(
