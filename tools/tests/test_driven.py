@@ -43,8 +43,10 @@ class Scripts(Case):
         self.start(street(PHASES))
         self.assertEqual(self.told(), (0, "G", 30.0))
         traci.simulationStep(30)
+        self.assertEqual(self.told(), (0, "G", 30.0))  # the step that ends there, as in SUMO
+        traci.simulationStep(31)
         self.assertEqual(self.told(), (1, "y", 33.0))
-        traci.simulationStep(53)
+        traci.simulationStep(54)
         self.assertEqual(self.told(), (0, "G", 58.0))
         self.assertEqual(traci.trafficlight.getPhaseDuration("L"), 30.0)  # as listed, as in SUMO
         [logic] = traci.trafficlight.getAllProgramLogics("L")
@@ -55,7 +57,7 @@ class Scripts(Case):
         light = traci.trafficlight
         with self.assertRaisesRegex(traci.TraCIException, "at most 200,000 s"):
             light.setProgramLogic("L", light.Logic("mine", 0, 0, [light.Phase(300_000, "G")]))
-        traci.simulationStep(53)
+        traci.simulationStep(54)
         self.assertEqual((light.getProgram("L"), self.told()), ("0", (0, "G", 58.0)))
 
     def test_a_script_changes_a_program_that_detectors_drive(self):
@@ -83,11 +85,11 @@ class Scripts(Case):
         self.assertEqual((self.told(), traci._now().client.changes), ((0, "G", 58.0), sent))
         traci.trafficlight.setPhase("L", 2)
         self.assertEqual(self.told(), (2, "r", 58.0))
-        traci.simulationStep(58)
+        traci.simulationStep(59)
         self.assertEqual(traci.trafficlight.getPhase("L"), 0)
         traci.trafficlight.setPhaseDuration("L", 11)
-        self.assertEqual(self.told(), (0, "G", 69.0))
-        traci.simulationStep(69)
+        self.assertEqual(self.told(), (0, "G", 70.0))
+        traci.simulationStep(71)
         self.assertEqual(traci.trafficlight.getPhase("L"), 1)
 
     def test_there_and_back_between_programs(self):
@@ -109,9 +111,9 @@ class Scripts(Case):
         self.start(ringed())
         light = traci.trafficlight
         self.assertEqual((light.getPhaseName("L"), light.getRedYellowGreenState("L")), ("2+6", "G"))
-        traci.simulationStep(5)
+        traci.simulationStep(6)
         self.assertEqual((light.getPhaseName("L"), light.getRedYellowGreenState("L")), ("2+6", "y"))
-        traci.simulationStep(10)
+        traci.simulationStep(11)
         self.assertEqual((light.getPhaseName("L"), light.getRedYellowGreenState("L")), ("4+8", "r"))
         with self.assertRaisesRegex(traci.TraCIException, "NEMA, whose rings choose its phases"):
             light.setPhase("L", 0)
@@ -154,7 +156,7 @@ class Scripts(Case):
 
     def test_listed_seconds_by_a_word(self):
         self.start(street(PHASES), "--lights", "listed")
-        traci.simulationStep(53)
+        traci.simulationStep(54)
         self.assertEqual(self.told(), (0, "G", 83.0))
         traci.close()
         with self.assertRaisesRegex(traci.FatalTraCIError, "--lights soon: is not actuated or listed"):

@@ -860,8 +860,8 @@ class Vehicles(Started):
 
 class Lights(Started):
     def test_states(self):
-        """Offset 5: the first phase runs from 5 to 14, the second from 15 to 19,
-        the third from 20 to 34 and so from 0 to 4."""
+        """Offset 5: the first phase runs from 5 to 14, the second from 15 to 19, the third from 20 to 34 and so from 0
+        to 4; as in SUMO, a clock tells the step that ends there, and the first one that which begins."""
         self.start()
         told = []
         for _ in range(35):
@@ -874,7 +874,7 @@ class Lights(Started):
             )
             traci.simulationStep()
         third, first, second = (2, "rG"), (0, "Gr"), (1, "yr")
-        expected = [(*third, 5.0)] * 5 + [(*first, 15.0)] * 10 + [(*second, 20.0)] * 5 + [(*third, 35.0)] * 15
+        expected = [(*third, 5.0)] * 6 + [(*first, 15.0)] * 10 + [(*second, 20.0)] * 5 + [(*third, 35.0)] * 14
         self.assertEqual(told, expected)
         self.assertEqual(
             (traci.trafficlight.getControlledLanes("L"), traci.trafficlight.getProgram("L")), (("a_0", "a_1"), "day")
@@ -886,11 +886,14 @@ class Lights(Started):
         traci.trafficlight.setPhase("L", 2)
         self.assertEqual((traci.trafficlight.getPhase("L"), traci.trafficlight.getNextSwitch("L")), (2, 22.0))
         traci.simulationStep(22)
-        self.assertEqual(traci.trafficlight.getPhase("L"), 0)
+        self.assertEqual((traci.trafficlight.getPhase("L"), traci.trafficlight.getNextSwitch("L")), (2, 22.0))
+        traci.trafficlight.setPhaseDuration("L", 1)  # it is still to end, so it may go on
+        traci.simulationStep(24)
+        self.assertEqual((traci.trafficlight.getPhase("L"), traci.trafficlight.getNextSwitch("L")), (0, 33.0))
         traci.trafficlight.setPhaseDuration("L", 3)
-        self.assertEqual((traci.trafficlight.getPhase("L"), traci.trafficlight.getNextSwitch("L")), (0, 25.0))
-        traci.simulationStep(26)
-        self.assertEqual((traci.trafficlight.getPhase("L"), traci.trafficlight.getNextSwitch("L")), (1, 30.0))
+        self.assertEqual((traci.trafficlight.getPhase("L"), traci.trafficlight.getNextSwitch("L")), (0, 27.0))
+        traci.simulationStep(28)
+        self.assertEqual((traci.trafficlight.getPhase("L"), traci.trafficlight.getNextSwitch("L")), (1, 32.0))
 
     def test_an_offset_that_another_file_gives(self):
         """As SUMO's tlsCoordinator writes it: of 30 s the first phase begins at 12. A program off is no other one."""
@@ -1027,8 +1030,9 @@ class Lights(Started):
                 self.start()
                 traci.simulation.loadState(path)
             traci.simulationStep(700)
-            self.assertEqual((traci.vehicle.getRoadID("v"), traci.trafficlight.getNextSwitch("L")), ("a", 9800.0))
+            self.assertEqual((traci.vehicle.getRoadID("v"), traci.trafficlight.getNextSwitch("L")), ("a", 700.0))
             traci.simulationStep(703)
+            self.assertEqual(traci.trafficlight.getNextSwitch("L"), 9800.0)
             self.assertNotEqual(traci.vehicle.getRoadID("v"), "a")
 
     def test_vehicles_of_an_edge_and_how_full_it_is(self):
@@ -1099,9 +1103,10 @@ class Lights(Started):
 
     def test_light(self):
         light = Light([(10, "G"), (20, "r")], 95, "0")
-        self.assertEqual(
-            [light.phase_at(clock) for clock in (95, 104, 105, 124, 125)], [(0, 10), (0, 1), (1, 20), (1, 1), (0, 10)]
-        )
+        told = [light.phase_at(clock) for clock in (95, 96, 105, 106, 125, 126)]
+        self.assertEqual(told, [(1, 0), (0, 9), (0, 0), (1, 19), (1, 0), (0, 9)])
+        light.since = 105  # a script has set its second phase then
+        self.assertEqual([light.phase_at(clock) for clock in (105, 106)], [(1, 20), (1, 19)])
 
 
 class Spoilt(Case):

@@ -164,10 +164,10 @@ class Runs(Case):
         files = self.write("x.net.xml", street(PHASES)), self.write("x.rou.xml", NOBODY)
         traci.start(["sumo", "-n", files[0], "-r", files[1], "-a", self.write("w.add.xml", self.DAY)])
         light, found = traci.trafficlight, []
-        for clock in (0, 100, 101, 109, 115, 200, 201, 301):
+        for clock in (0, 100, 101, 110, 115, 200, 201, 301):
             traci.simulationStep(clock)
             found.append((light.getProgram("L"), light.getRedYellowGreenState("L")))
-        self.assertEqual(found[:3], [("fixed", "G"), ("fixed", "y"), ("0", "r")])
+        self.assertEqual(found[:3], [("fixed", "G"), ("fixed", "G"), ("0", "r")])
         self.assertEqual(found[3:], [("0", "G"), ("0", "y"), ("0", "y"), ("fixed", "G"), ("0", "r")])
         # What a script has set stays.
         light.setProgram("L", "fixed")

@@ -20,7 +20,8 @@ Link = tuple[str, str, str] | None  # lane, next lane, lane inside the junction
 
 @dataclass(slots=True)
 class Light:
-    """What a light shows: phases of (seconds, state), over and over, of which the first began at the clock begin."""
+    """What a light shows: phases of (seconds, state), over and over, of which the first began at the clock begin;
+    since: the clock at which a script set what it shows, or the run began."""
 
     phases: Phases
     begin: float
@@ -30,12 +31,16 @@ class Light:
     names: list[str] = field(default_factory=list)  # of the phases
     programs: dict[str, tuple[Phases, list[str]]] = field(default_factory=dict)  # to choose from: phases, names
     scripted: set[str] = field(default_factory=set)  # those of them that a script has set, which detectors do not drive
+    since: int = 0
 
     def phase_at(self, clock: float) -> tuple[int, float]:
-        """(index of the phase at a clock, seconds that are left of it)."""
-        elapsed = (clock - self.begin) % seconds_of(self.phases)
+        """(index of the phase in the step that ends at a clock, or begins there if that is `since`; seconds, at a
+        clock, that are left of it, 0 where the next one begins)."""
+        elapsed, last = (clock - self.begin) % seconds_of(self.phases), len(self.phases) - 1
+        if elapsed == 0 and clock != self.since:
+            return last, 0.0
         for index, (duration, _) in enumerate(self.phases):
-            if elapsed < duration:
+            if elapsed < duration or elapsed == duration and clock != self.since:
                 return index, duration - elapsed
             elapsed -= duration
         return 0, self.phases[0][0]
@@ -53,6 +58,8 @@ class Control:
         self.begins = dict(offsets)  # by light and program: a clock at which its cycle begins, as it goes on unseen
         self.timers: list[tuple[int, str, int]] = []  # (clock, light, index): the phase that begins then
         self.changes = deque(simulation.map.switches)  # by time of day, that the lights are still to be told of
+        for light in lights.values():
+            light.since = simulation.clock
         self.note_switches(simulation.clock)
 
     def note_switches(self, clock: int) -> None:
@@ -96,20 +103,20 @@ class Control:
         light.phases, light.program, light.names = phases, program, names
 
     def state(self, name: str) -> str:
-        """A light's state now, SUMO's letter for each signal; g also where G is shown (hold, end_phase, go_to)."""
+        """A light's state in its present phase, SUMO's letter for each signal; g also where G is shown for it (hold,
+        end_phase, go_to)."""
         if (driven := self.driven(name)) is not None:
             return driven.logic.state()
         return self.light(name).phases[self.present_phase(name)[0]][1]
 
     def present_phase(self, name: str) -> tuple[int, float]:
-        """(index of a light's phase from this clock on, seconds left of it), by its program and the end that a script
-        has set; not of a light that detectors drive."""
+        """(index of a light's phase in the last step, or since a script has set it at this clock; seconds left of it),
+        by its program and the end that a script has set; not of a light that detectors drive."""
         light, clock = self.light(name), self.simulation.clock
-        end, following = next(((end, index) for end, one, index in self.timers if one == name), (clock, None))
-        if following is None:
-            return light.phase_at(clock)
-        before = (following - 1) % len(light.phases)
-        return (before, end - clock) if end > clock else (following, light.phases[following][0])
+        for end, one, index in self.timers:
+            if one == name:
+                return (index - 1) % len(light.phases), end - clock
+        return light.phase_at(clock)
 
     def show_due(self) -> None:
         """Ends the phases that a script has set to end by this clock, and shows the next ones."""
@@ -133,6 +140,7 @@ class Control:
         self.show(name, phases, begin)
         self.leave_program(name)
         light.phases, light.program, light.names, light.begin = phases, program, names, begin
+        light.since = self.simulation.clock
 
     def set_program(self, name: str, program: str, phases: Phases, names: list[str], begin: float) -> None:
         """As show_program; the program may be chosen again by its name, also in place of one that detectors drive."""
@@ -154,6 +162,7 @@ class Control:
         else:
             self.show_phase(name, index)
             self.end_timers(name)
+            self.lights[name].since = clock
 
     def leave_program(self, name: str) -> None:
         """Notes where the cycle of a light's program is, with the end that a script has set for a phase, so that it

@@ -38,7 +38,7 @@ def save_state(session: Session, path: str) -> None:
         **{"wishes": session.wishes, "pending": [[car, *way] for car, way in session.pending.items()]},
         "loops": {name: loop.last for name, loop in session.loops.items()},
         "lights": {
-            name: [one.phases, one.begin, one.program, one.names, one.programs, sorted(one.scripted)]
+            name: [one.phases, one.begin, one.program, one.names, one.programs, sorted(one.scripted), one.since]
             for name, one in lights
         },
         **{"timers": session.control.timers, "changes": list(session.control.changes)},
@@ -120,11 +120,11 @@ def restore_vehicles(session: Session, state: State) -> None:
 def restore_lights(session: Session, state: State) -> None:
     """Puts into a session what a state knows of lights, what drives them, and what they are still to show."""
     control, shown = session.control, session.shown
-    for name, (phases, begin, program, names, programs, scripted) in state["lights"].items():
+    for name, (phases, begin, program, names, programs, scripted, since) in state["lights"].items():
         light = control.lights[name]
         light.phases, light.begin, light.program, light.names = read_phases(phases), begin, program, names
         light.programs = {one: (read_phases(phases), named) for one, (phases, named) in programs.items()}
-        light.scripted = set(scripted)
+        light.scripted, light.since = set(scripted), since
     control.changes = deque((clock, name, program) for clock, name, program in state["changes"])
     control.begins = {(name, program): begin for name, program, begin in state["begins"]}
     restore_driver(session.driving.driver, state["driver"])

@@ -84,8 +84,10 @@ class Simulation:
         self.advance(target)
 
     def advance(self, target: int) -> None:
-        """Makes the steps until the clock target, with all lines and phases that are due on the way."""
+        """Makes the steps until the clock target, with all lines and phases that are due on the way. Those that are due
+        at the target are of the next step, as in SUMO, so that a script comes before them."""
         while self.clock < target:
+            self.show(self.driving.look_at_lights(self.clock))
             steps = min(limits.STEPS, self.send_timed(target) - self.clock)
             merging = self.merges.next_clock()
             steps = steps if merging is None else max(1, min(steps, merging - self.clock))
@@ -93,7 +95,6 @@ class Simulation:
             reply = self.send_command({"cmd": "advance", "steps": steps})
             self.clock = reply.clock if isinstance(reply, Short) else reply
             self.send_merges()
-            self.show(self.driving.look_at_lights(self.clock))
 
     def send_timed(self, target: int) -> int:
         """Sends the lines of the file (but for lights that a script has set), the changes of driven lights by time of

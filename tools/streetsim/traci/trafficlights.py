@@ -44,7 +44,8 @@ Program = Logic  # which the class below has as an attribute of its own name
 
 
 class TrafficLight(Domain):
-    """As SUMO's traci.trafficlight: seconds; names are of lights. TraCIException for an unknown light."""
+    """As SUMO's traci.trafficlight: seconds; names are of lights. The present phase, and the state now, are those of
+    the last step, or what a script has set since. TraCIException for an unknown light."""
 
     kind, name = "Traffic light", "trafficlight"
     Phase, Logic = Phase, Logic
