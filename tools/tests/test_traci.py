@@ -638,6 +638,21 @@ class Vehicles(Started):
         with self.assertRaisesRegex(traci.TraCIException, "Lane 'a_7' is not known"):
             simulation.convert2D("a", 50, 7)
 
+    def test_places_on_edges_with_a_pavement(self):
+        """Places count along lane 0, as in SUMO, also where that is for others than those who are imported."""
+        two = {name: [lane(name, 0, more='allow="pedestrian"'), lane(name, 1)] for name in "ab"}
+        paved = [two["a"][0].replace("a_", "p_")]
+        edges = [("a", "A", "B", two["a"]), ("b", "B", "C", two["b"]), ("p", "C", "A", paved)]
+        self.start(net(edges, [("a", 1, "b", 1, "")]), "<routes/>", "<additional/>")
+        simulation = traci.simulation
+        self.assertEqual(traci.lane.getIDList(), ("a_1", "b_1"))
+        self.assertEqual(simulation.getDistanceRoad("a", 20, "a", 50, True), 30)
+        self.assertEqual(simulation.getDistanceRoad("a", 20, "b", 5, True), 55 + 5)
+        self.assertEqual(simulation.getDistance2D(20, 0, 50, 0, isDriving=True), 30)
+        self.assertEqual((simulation.convert2D("a", 20), simulation.convert2D("a", 20, 1)), ((20, 0), (20, 0)))
+        with self.assertRaisesRegex(traci.TraCIException, "Lane 'p_0' is not known"):
+            simulation.convert2D("p", 20)
+
     def test_states(self):
         """What follows a state is the same, in this run and in another one that loads it."""
 

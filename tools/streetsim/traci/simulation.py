@@ -149,11 +149,12 @@ class Simulation(Domain, SimulationCalls[Session]):
         return edge, min(metres, nearest((x, y), shapes[lane])[1] * metres / drawn), int(index)
 
     def lane_with(self, edge: str, pos: float, index: int = 0) -> LaneFacts:
-        """What the network's file says of a lane; TraCIException if that is not imported, or pos (metres) not on it."""
-        name = f"{edge}_{index}"
-        if name not in self.now().lane_of:
+        """What the network's file says of a lane, imported or not, of an edge that is imported; TraCIException for any
+        other, or if pos (metres) is not on it."""
+        session, name = self.now(), f"{edge}_{index}"
+        if edge not in session.map.links_of or name not in session.facts.lanes:
             raise TraCIException(f"Lane '{name}' is not known.")
-        lane = self.now().facts.lanes[name]
+        lane = session.facts.lanes[name]
         if not 0 <= pos <= lane.metres:
             raise TraCIException(f"Lane '{name}' has {lane.metres:g} m, and no place at {pos:g} m.")
         return lane
