@@ -129,6 +129,10 @@ class Faults(Tool):
         self.assertIn("--ways 0 leaves no candidates", self.fault("--counts", counts, "--ways", 0))
         self.assertIn("--runs compares with counts", self.fault("--matrix", counts, "--runs", 1))
         self.assertIn("'2' is not 0 to 1", self.fault("--counts", counts, "--error", 2))
+        told = "--attribute is of --counts: give it too"
+        self.assertEqual(self.fault("--matrix", counts, "--attribute", "seen"), told)
+        flows = "--flows", routes, "--ratios", routes
+        self.assertIn("give no --matrix, --zones, --candidates or --ways beside", self.fault(*flows, "--ways", 2))
         self.assertIn("--end is of files of vehicles", self.fault("--counts", counts, "--end", 900))
         told = "--begin 100: what is given begins sooner, at 0 s"
         self.assertEqual(self.fault("--counts", counts, "--begin", 100), told)

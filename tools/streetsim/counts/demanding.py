@@ -128,8 +128,10 @@ def check_asked(asked: Asked) -> None:
         raise Fault("nothing to make a demand of: give --counts, --matrix or --flows with --ratios")
     if bool(asked.flows) != bool(asked.ratios):
         raise Fault("--flows and --ratios are given together or not at all")
-    if asked.flows and (asked.matrices or asked.zones or asked.candidates):
-        raise Fault("--flows have ways by their ratios: give no --matrix, --zones or --candidates beside")
+    if asked.flows and (asked.matrices or asked.zones or asked.candidates or asked.ways is not None):
+        raise Fault("--flows have ways by their ratios: give no --matrix, --zones, --candidates or --ways beside")
+    if asked.attribute and not asked.counts:
+        raise Fault("--attribute is of --counts: give it too")
     if asked.ways == 0 and not asked.candidates:
         raise Fault("--ways 0 leaves no candidates: give files of routes after --candidates")
 
