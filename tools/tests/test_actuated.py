@@ -17,6 +17,7 @@ from streetsim.base.report import Report
 from streetsim.importing.convert import convert
 from streetsim.model.mapping import map_from
 from streetsim.model.runs import run_of_texts
+from streetsim.buses.coordinated import Coordinated
 from streetsim.sumo.converting import run_and_map
 from streetsim.sumo.network import Options
 
@@ -88,9 +89,16 @@ class Logic(unittest.TestCase):
         phases = [Phase("Gr", 5, 5, 5, next=2), Phase("rr", 3, 3, 3), Phase("rG", 4, 4, 4, next=0)]
         self.assertEqual([row[0] for row in drive(Actuated(phases, ()), {}, 14)], [0, 2, 0])
 
-    def test_it_begins_where_the_listed_seconds_are(self):
+    def test_it_begins_with_the_phase_that_is_listed(self):
+        """Phases and first switches of SUMO 1.15 with nobody on the roads: (offset, begin, phase, its end)."""
+        for offset, begin, place, end in ((0, 0, 0, 5), (1, 0, 3, 3), (20, 0, 2, 5), (43, 0, 2, 5), (0, 50, 2, 55)):
+            light = Actuated(TWO, (3.0, 3.0))
+            light.begin_at(begin, offset)
+            self.assertEqual((light.at, light.due), (place, end))
+
+    def test_it_comes_back_to_its_plan_from_where_this_is_at_the_begin(self):
         # A cycle of 90 s that began at -20 s, 10 s of the second green are gone at 55 - 20 s.
-        light = Actuated(TWO, (3.0, 3.0))
+        light = Coordinated(TWO, (3.0, 3.0))
         light.begin_at(100, 45)
         self.assertEqual((light.at, light.due), (2, 100 + 42 - 10))
         # With an offset of 10 the last 10 s of the cycle come first.
@@ -175,7 +183,9 @@ class Reading(unittest.TestCase):
             6: (Row(11, 1, 0, 0, 0),),
         }
         gap = partial(gap_at, 12, lambda meter: Rows(Row(12, 0, 0, 0, 0), rows[meter]), 4)
-        self.assertEqual([gap(at) for at in range(3)], [1.5, 1.0, inf])
+        # Where nobody was, since the detector was placed, a second ago: in SUMO too a max-gap of 10 s holds the first
+        # green for 10 s.
+        self.assertEqual([gap(at) for at in range(3)], [1.5, 1.0, 1.0])
 
     def test_bounds_as_sumo_reads_them(self):
         self.assertEqual(phase_of([42, "G", 5, 50, []]), Phase("G", 42, 5, 50))
@@ -308,14 +318,14 @@ class Runs(Case):
 
     @needs_simulator
     def test_a_run_whose_light_a_detector_drives(self):
-        # Nobody but one at 0 s: the listed seconds at first, as in SUMO, and then the least green.
+        # Nobody but one at 0 s, who is not at the detector yet: each green has its least seconds, as in SUMO.
         run, mapping = self.imported(departs=[0])
         out = self.folder / "out"
         said, _ = self.tool("run", run, "--map", mapping, "--out", out, "--until", 120)
         rows = self.rows(out)
         self.assertEqual(rows[:5], [
-            *(["0", "0", "30", "gap"], ["30", "1", "3", "listed"], ["33", "2", "20", "listed"]),
-            *(["53", "0", "5", "gap"], ["58", "1", "3", "listed"]),
+            *(["0", "0", "5", "gap"], ["5", "1", "3", "listed"], ["8", "2", "20", "listed"]),
+            *(["28", "0", "5", "gap"], ["33", "1", "3", "listed"]),
         ])
         self.assertNotIn("not to be trusted", said)
         with open(out / "setting.json", encoding="utf-8") as file:

@@ -39,15 +39,15 @@ class Scripts(Case):
         return light.getPhase("L"), light.getRedYellowGreenState("L"), light.getNextSwitch("L")
 
     def test_phases_as_detectors_end_them(self):
-        # Listed seconds of 30, 3 and 20 at first; a green then has its least, as nobody comes.
+        # Each green has its least of 5 s, as nobody comes; then come 3 and 20 s as listed.
         self.start(street(PHASES))
-        self.assertEqual(self.told(), (0, "G", 30.0))
-        traci.simulationStep(30)
-        self.assertEqual(self.told(), (0, "G", 30.0))  # the step that ends there, as in SUMO
-        traci.simulationStep(31)
-        self.assertEqual(self.told(), (1, "y", 33.0))
-        traci.simulationStep(54)
-        self.assertEqual(self.told(), (0, "G", 58.0))
+        self.assertEqual(self.told(), (0, "G", 5.0))
+        traci.simulationStep(5)
+        self.assertEqual(self.told(), (0, "G", 5.0))  # the step that ends there, as in SUMO
+        traci.simulationStep(6)
+        self.assertEqual(self.told(), (1, "y", 8.0))
+        traci.simulationStep(29)
+        self.assertEqual(self.told(), (0, "G", 33.0))
         self.assertEqual(traci.trafficlight.getPhaseDuration("L"), 30.0)  # as listed, as in SUMO
         [logic] = traci.trafficlight.getAllProgramLogics("L")
         self.assertEqual((logic.type, logic.phases[0].minDur, logic.phases[0].maxDur), (3, 5, 40))
@@ -57,8 +57,8 @@ class Scripts(Case):
         light = traci.trafficlight
         with self.assertRaisesRegex(traci.TraCIException, "at most 200,000 s"):
             light.setProgramLogic("L", light.Logic("mine", 0, 0, [light.Phase(300_000, "G")]))
-        traci.simulationStep(54)
-        self.assertEqual((light.getProgram("L"), self.told()), ("0", (0, "G", 58.0)))
+        traci.simulationStep(57)
+        self.assertEqual((light.getProgram("L"), self.told()), ("0", (0, "G", 61.0)))
 
     def test_a_script_changes_a_program_that_detectors_drive(self):
         self.start(street(PHASES))
@@ -77,29 +77,29 @@ class Scripts(Case):
             traci.simulation.loadState(state)
 
     def test_a_phase_that_a_script_chooses(self):
-        # When the light is looked at next stays, as in SUMO: at 58 s it ends the phase that was set at 54.
+        # When the light is looked at next stays, as in SUMO: at 61 s it ends the phase that was set at 57.
         self.start(street(PHASES))
-        traci.simulationStep(54)
+        traci.simulationStep(57)
         sent = list(traci._now().client.changes)
         traci.trafficlight.setPhase("L", 0)  # which is shown: nothing changes, and no green begins anew
-        self.assertEqual((self.told(), traci._now().client.changes), ((0, "G", 58.0), sent))
+        self.assertEqual((self.told(), traci._now().client.changes), ((0, "G", 61.0), sent))
         traci.trafficlight.setPhase("L", 2)
-        self.assertEqual(self.told(), (2, "r", 58.0))
-        traci.simulationStep(59)
+        self.assertEqual(self.told(), (2, "r", 61.0))
+        traci.simulationStep(62)
         self.assertEqual(traci.trafficlight.getPhase("L"), 0)
         traci.trafficlight.setPhaseDuration("L", 11)
-        self.assertEqual(self.told(), (0, "G", 70.0))
-        traci.simulationStep(71)
+        self.assertEqual(self.told(), (0, "G", 73.0))
+        traci.simulationStep(74)
         self.assertEqual(traci.trafficlight.getPhase("L"), 1)
 
     def test_there_and_back_between_programs(self):
-        # The fixed one is loaded last, so it runs. The other goes on unseen: from 53 s on it has a cycle of
-        # 5 + 3 + 20 s, of which the yellow is from 58 to 61.
+        # The fixed one is loaded last, so it runs. The other goes on unseen: it has a cycle of 5 + 3 + 20 s, of
+        # which the yellow is from 61 to 64.
         self.start(street(PHASES), "-a", self.write("x.add.xml", FIXED))
         self.assertEqual((traci.trafficlight.getProgram("L"), self.told()), ("fixed", (0, "G", 20.0)))
-        traci.simulationStep(59)
+        traci.simulationStep(62)
         traci.trafficlight.setProgram("L", "0")
-        self.assertEqual((traci.trafficlight.getProgram("L"), self.told()), ("0", (1, "y", 61.0)))
+        self.assertEqual((traci.trafficlight.getProgram("L"), self.told()), ("0", (1, "y", 64.0)))
         traci.simulationStep(85)
         traci.trafficlight.setProgram("L", "fixed")
         self.assertEqual(self.told(), (0, "G", 100.0))
@@ -173,10 +173,10 @@ class Runs(Case):
 
     def test_a_scenario(self):
         with Scenario(*self.imported(), PROGRAM) as sim:
-            sim.simulationStep(58)
+            sim.simulationStep(61)
             with self.assertRaisesRegex(Fault, "at most 200,000 s"):
                 sim.trafficlight.setProgramLogic("L", [(300_000, "G"), (30, "r")])
-            sim.simulationStep(59)
+            sim.simulationStep(62)
             self.assertEqual(sim.trafficlight.getRedYellowGreenState("L"), "y")
             sim.trafficlight.setProgramLogic("L", [(30, "G"), (30, "r")])
             with self.assertRaisesRegex(NotHere, "detectors do not drive 'L'"):
@@ -193,21 +193,21 @@ class Runs(Case):
         self.assertEqual(listed.lights(read, found).listed_lights(found), ["L"])
 
     def test_a_plan_by_time_of_day_takes_the_place_of_detectors(self):
-        # A line of the run's own at 60 s: until then the light is driven, as above.
+        # A line of the run's own at 63 s: until then the light is driven, as above.
         run, mapping = self.imported()
-        plan = {"cmd": "signal", "node": 1, "offset": 0, "phases": [[30, [[0, 0, 1]]], [30, []]], "at": 60}
+        plan = {"cmd": "signal", "node": 1, "offset": 0, "phases": [[30, [[0, 0, 1]]], [30, []]], "at": 63}
         with open(run, "a", encoding="utf-8") as file:
             file.write(json.dumps(plan) + "\n")
         out = self.folder / "out"
         said, _ = self.tool("run", run, "--map", mapping, "--out", out, "--until", 1200)
         self.assertNotIn("listed seconds", said)
         rows = (out / "phases.csv").read_text(encoding="utf-8").splitlines()
-        self.assertEqual(rows[-1], "58,L,1,y,2,")
+        self.assertEqual(rows[-1], "61,L,1,y,2,")
         signals = json.loads((out / "setting.json").read_text(encoding="utf-8"))["signals"]
         self.assertIn("[[30, [[0, 0, 1]]], [30, []]]", json.dumps(signals))
 
     def test_a_page(self):
-        # As above: 30 s of green, 3 of yellow, 20 of red, 5 of green; a reply to steps has what is shown from then on.
+        # As above: 5 s of green, 3 of yellow, 20 of red; a reply to steps has what is shown from then on.
         run, mapping = map(str, self.imported())
         read = read_run(run), read_map(mapping)
         engine = DrivenEngine(PROGRAM, own_lines(read[0]), lambda: (*read, []))
@@ -218,7 +218,7 @@ class Runs(Case):
             replies = [*map(json.loads, engine.ask([step, count] * 10))]
             self.assertTrue(all("admitted" in one for one in replies[1::2]))
             shown += [(one["clock"], len(one["shown"])) for one in replies[::2] if "shown" in one]
-        self.assertEqual(shown, [(1, 1), (30, 1), (33, 1), (53, 1), (58, 1)])
+        self.assertEqual(shown, [(1, 1), (5, 1), (8, 1), (28, 1), (33, 1), (36, 1), (56, 1)])
         # Of many steps at once the same; a plan that is set ends it, and one that is refused does not.
         [reply] = map(json.loads, engine.ask([b'{"cmd":"advance","steps":22}\n']))
         self.assertEqual((reply["clock"], len(reply["shown"])), (82, 2))

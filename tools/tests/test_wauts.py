@@ -144,15 +144,15 @@ class Runs(Case):
                     for row in csv.DictReader(file)]
 
     def test_detectors_drive_a_light_while_its_program_is_in_force(self):
-        # Unseen it has its listed 30, 3 and 20 s, and then 5, 3 and 20 s, as nobody comes: greens begin at 53, 81, 109,
-        # .. s. From 100 s it shows what that has come to, and at 200 s its phase is cut.
+        # Unseen it has 5, 3 and 20 s, as nobody comes: greens begin at 0, 28, 56, .. s. From 100 s it shows what that
+        # has come to, and at 200 s its phase is cut.
         rows = self.run_with("--until", 290)
         self.assertNotIn("were not sent", self.told)  # a change that is still to come is no line that was left out
         rows = self.run_with()
-        self.assertEqual(rows[:4], [(100, 2, 9, "listed"), (109, 0, 5, "gap"), (114, 1, 3, "listed"),
-                                    (117, 2, 20, "listed")])
+        self.assertEqual(rows[:4], [(100, 2, 12, "listed"), (112, 0, 5, "gap"), (117, 1, 3, "listed"),
+                                    (120, 2, 20, "listed")])
         self.assertEqual([row for row in rows if row[0] + row[2] >= 190 and row[0] < 305], [
-            (173, 2, 20, "listed"), (193, 0, 5, "gap"), (198, 1, 2, ""), (300, 2, 5, "listed"),
+            (176, 2, 20, "listed"), (196, 0, 4, ""), (300, 2, 8, "listed"),
         ])
 
     def test_listed_seconds_where_they_are_asked_for(self):
@@ -164,11 +164,11 @@ class Runs(Case):
         files = self.write("x.net.xml", street(PHASES)), self.write("x.rou.xml", NOBODY)
         traci.start(["sumo", "-n", files[0], "-r", files[1], "-a", self.write("w.add.xml", self.DAY)])
         light, found = traci.trafficlight, []
-        for clock in (0, 100, 101, 110, 115, 200, 201, 301):
+        for clock in (0, 100, 101, 113, 118, 200, 201, 301):
             traci.simulationStep(clock)
             found.append((light.getProgram("L"), light.getRedYellowGreenState("L")))
         self.assertEqual(found[:3], [("fixed", "G"), ("fixed", "G"), ("0", "r")])
-        self.assertEqual(found[3:], [("0", "G"), ("0", "y"), ("0", "y"), ("fixed", "G"), ("0", "r")])
+        self.assertEqual(found[3:], [("0", "G"), ("0", "y"), ("0", "G"), ("fixed", "G"), ("0", "r")])
         # What a script has set stays.
         light.setProgram("L", "fixed")
         traci.simulationStep(350)

@@ -205,15 +205,17 @@ class Driver:
 
 
 def gap_at(clock: int, read: Callable[[int], Rows], first: int, detector: int) -> float:
-    """The seconds since a detector, by its position, last saw anybody, by its rows of one second; infinite where its 32
-    rows have nobody. read: as of Senses; first: the number in the run of the detector at position 0. Who passed within
-    a second is taken to have left in its middle."""
-    for row in reversed(read(first + detector).rows):
+    """The seconds since a detector, by its position, last saw anybody, by its rows of one second; those since its first
+    row begins, 32 at most, where all have nobody: as in SUMO it is as if somebody had left when it was placed. read: as
+    of Senses; first: the number in the run of the detector at position 0. Who passed within a second is taken to have
+    left in its middle."""
+    rows = read(first + detector).rows
+    for row in reversed(rows):
         if row.occupied:
             return clock - row.start - 1.0
         if row.passes:
             return clock - row.start - 0.5
-    return inf
+    return clock - rows[0].start if rows else 0.0
 
 
 def present_by(clock: int, lane: Callable[[Place], Lane | None], areas: Sequence[Area]) -> Callable[[int], bool]:

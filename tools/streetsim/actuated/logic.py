@@ -77,14 +77,20 @@ class Actuated:
     called: Collection[int] = ()  # phases that buses keep, or fetch, within bounds
 
     def begin_at(self, now: int, offset: int = 0) -> None:
-        """Begins at the clock `now` where a light with the listed seconds would be whose first phase began at the clock
-        `offset`. The phase counts from `now` on, and is looked at first when its listed seconds would be over."""
-        self.since, place = now, (now - offset) % max(1, sum(phase.seconds for phase in self.phases))
-        for self.at, phase in enumerate(self.phases):
-            if place < phase.seconds:
-                break
-            place -= phase.seconds
-        self.due = now + max(1, self.phases[self.at].seconds - place)
+        """Begins at the clock `now` with the phase in which a light with the listed seconds would be whose first phase
+        began at the clock `offset`. As in SUMO this phase begins anew then, however much of it would be over."""
+        self.since, (self.at, _) = now, self.listed_at(now, offset)
+        self.due = now + self.phases[self.at].shortest
+
+    def listed_at(self, now: int, offset: int) -> tuple[int, int]:
+        """(the place of the phase that a light with the listed seconds shows at the clock `now` whose first phase began
+        at the clock `offset`; the seconds of this phase that are over, of the last one at most its own)."""
+        over = (now - offset) % max(1, sum(phase.seconds for phase in self.phases))
+        for place, phase in enumerate(self.phases):
+            if over < phase.seconds:
+                return place, over
+            over -= phase.seconds
+        return len(self.phases) - 1, over
 
     def moves_on(self, now: int, gap: GapOf) -> bool:
         """Goes on to the next phase, and adds this one, of which `due` has come, to `ended`, if it is over at the clock

@@ -15,7 +15,8 @@ class Coordinated(Actuated):
     def begin_at(self, now: int, offset: int = 0) -> None:
         """Begins, at the clock now, in the phase in which the plan is then; offset: of the plan, seconds."""
         Actuated.begin_at(self, now, offset)
-        self.planned = self.due - self.phases[self.at].seconds
+        self.planned = now - self.listed_at(now, offset)[1]
+        self.due = max(now + 1, self.planned + self.phases[self.at].seconds)
 
     def moves_on(self, now: int, gap: GapOf) -> bool:
         """Goes on to the next phase where the present one is over at the clock now; gives whether it does. The plan's
