@@ -2,10 +2,12 @@
 import os
 import sys
 import unittest
+from pathlib import Path
 
 from support import PROGRAM, STREET, Case, needs_simulator
 from streetsim.base import client
 from streetsim.base.client import Client, ProgramEnded, Row, Starved, Vehicle
+from streetsim.base.files import Fault
 
 
 def fake(case, replies):
@@ -183,6 +185,17 @@ class Simulator(Case):
         car = sim.enter([10])
         sim.takeout(car)
         sim.takeout(car)
+
+    def test_a_map_is_not_kept_as_a_session(self):
+        """The program would empty it; what a crash left of a line goes on."""
+        for text, whole in (('{"nodes":[]}', True), ("[1]", True), ('{"cmd":"cou', False), ('{"cmd":"count"}', False)):
+            file = Path(self.write("x.json", text))
+            if whole:
+                with self.assertRaisesRegex(Fault, "x.json: not the file of a session$"):
+                    Client(PROGRAM, keep=file)
+            else:
+                Client(PROGRAM, keep=file).close()
+            self.assertEqual(file.read_text(encoding="utf-8"), text if whole else "")
 
     def test_a_session_that_is_kept(self):
         """A client that is killed loses nothing that was answered: the next one goes on from there."""

@@ -9,6 +9,7 @@ from os import PathLike, fspath
 from typing import Any, Self
 
 from streetsim.base import limits
+from streetsim.base.files import Fault
 from streetsim.base.program import find_program
 
 Command = dict[str, Any] | str | bytes  # a command, or its line
@@ -268,6 +269,19 @@ def words_of(program: str, calls: int = 0, keep: str | PathLike[str] | None = No
     return [program, "--endless"] if "--endless" in help_of(program) else [program]
 
 
+def check_kept(path: str | PathLike[str]) -> None:
+    """Fault where a file is one whole value of JSON without a LF, and no command, as a map is: the program would take
+    it for the begin of a line that a crash left, and empty it. What cannot be read is left to the program."""
+    try:
+        with open(path, "rb") as file:
+            line = file.readline()
+        value = {"cmd": ""} if line.endswith(b"\n") else json.loads(line)
+    except (OSError, ValueError):
+        return
+    if not (isinstance(value, dict) and "cmd" in value):
+        raise Fault(f"{fspath(path)}: not the file of a session")
+
+
 class Client:
     """One run of the program, over pipes. Methods raise what was refused, or Starved; `batch` gives these as values.
     All raise ProgramEnded where the program ends before it replied.
@@ -282,8 +296,11 @@ class Client:
         self, program: str | None = None, workers: int = 1, calls: int = 0, keep: str | PathLike[str] | None = None
     ) -> None:
         """Starts the program. program: a path or a command's name, else as the class tells; workers: threads, from 1;
-        calls: how many it takes, 0 for no end; keep: a file of the session. Fault where there is no program."""
+        calls: how many it takes, 0 for no end; keep: a file of the session. Fault where there is no program, or the
+        file is that of something else, as `check_kept` tells."""
         program = find_program(program)
+        if keep is not None:
+            check_kept(keep)
         words = words_of(program, calls, keep) + (["--workers", str(workers)] if workers != 1 else [])
         self.errors = tempfile.TemporaryFile()
         self.ended: tuple[int, str] | None = None
