@@ -69,7 +69,8 @@ class Networks(Case):
         made = made.replace('<junction id="C" type="priority"', '<junction id="C" type="zipper"')
         self.network(made.replace('state="M"', 'state="Z"'))
         self.assertIn("1 junctions are of type zipper, which does nothing here: C", self.said.warnings)
-        told = next(text for text in self.said.warnings if "the state 'Z', which does nothing here" in text)
+        told = "2 connections have the state 'Z', which does nothing here: edges a, b"
+        self.assertIn(told, self.said.warnings)
         self.assertEqual(sorted(self.said.alike[told][0].names), ["a", "b"])
         self.network(made.replace("zipper", "priority_stop"))
         self.assertFalse([text for text in self.said.warnings if "does nothing here" in text])

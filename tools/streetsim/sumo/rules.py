@@ -128,7 +128,7 @@ def warn_of_unknown(net: SumoNet, programs: Iterable[tuple[str, Program]], repor
         if not one.light and one.state not in STATES:
             edges[one.state].append(one.source)
     for state, names in sorted(edges.items()):
-        sources = first_few(set(names))
+        sources = first_few(sorted(set(names)))
         told = f"{len(names)} connections have the state {state!r}, which does nothing here: edges {sources}"
         report.warn(told, dict.fromkeys(names), "judge them by SUMO")
     for light, program in programs:
