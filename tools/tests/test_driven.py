@@ -91,6 +91,9 @@ class Scripts(Case):
         self.assertEqual(self.told(), (0, "G", 73.0))
         traci.simulationStep(74)
         self.assertEqual(traci.trafficlight.getPhase("L"), 1)
+        traci.trafficlight.setPhaseDuration("L", 0)  # the next step is of the next phase, as in SUMO
+        traci.simulationStep()
+        self.assertEqual(self.told(), (2, "r", 94.0))
 
     def test_there_and_back_between_programs(self):
         # The fixed one is loaded last, so it runs. The other goes on unseen: it has a cycle of 5 + 3 + 20 s, of

@@ -178,11 +178,10 @@ class Control:
 
     def end_phase(self, name: str, clock: int) -> None:
         """Shows the present phase until a clock, with permissive greens as full greens, and then the next one; a light
-        that detectors drive stays driven, its greens as they are, and its phase goes on for one step at least.
-        TraCIException for a NEMA light that they drive."""
+        that detectors drive stays driven, its greens as they are. TraCIException for a NEMA light that they drive."""
         light = self.light(name)
         if (driven := self.driven(name)) is not None:
-            actuated_of(name, driven).end_at(max(clock, self.simulation.clock + 1))
+            actuated_of(name, driven).end_at(clock)
             return
         index, _ = self.present_phase(name)
         self.end_timers(name)

@@ -128,7 +128,7 @@ class TrafficLight(Domain):
 
     def setPhaseDuration(self, name: str, seconds: float) -> None:
         """Has the present phase end so many seconds from now (rounded); the next ones last as in the program. Until
-        then g is shown as G, but where detectors drive the light, whose phase goes on for a second at least.
+        then g is shown as G, but where detectors drive the light.
         TraCIException below 0, for inf, and where a program of type NEMA drives the light."""
         control = self.now().control
         control.light(name)
