@@ -133,6 +133,18 @@ class Seen(unittest.TestCase):
         one.note_look(110, seen, lambda *_: True)
         self.assertEqual([one.coming[car].free for car in (50, 51)], [2 + 1 + 20 + 1 + 15, 20 + 1 + 15])
 
+    def test_a_street_behind_a_short_one_is_looked_at_with_it(self):
+        """The queue reaches the begin of a, and y before it has 5 cells, 2.5 s alone: z is asked for at once too, and
+        stands before y there."""
+        both = [turn(at, lane, at + 1) for at in (0, 1) for lane in (0, 1)]
+        three = mapped(link("z"), link("y", cells=5, begin=1, end=2), link("a", begin=2, end=3), turns=both)
+        one = Watched(Closure(2, 0, 30, 39, 100, 1900), streets_of(three), [0.5, 0.5, 0.5])
+        near = lane(*((car, 29 - 3 * car, 0) for car in range(10)))
+        self.assertEqual(sorted(one.further(110, {(2, 0): near, (2, 1): lane()})), [0, 1])
+        seen = {(2, 0): near, (2, 1): lane(), (0, 0): lane((50, 36, 1)), (0, 1): lane(), (1, 0): lane(), (1, 1): lane()}
+        one.note_look(110, seen, lambda *_: True)
+        self.assertEqual(one.coming[50].free, 2 + 1 + 2.5 + 1 + 15)
+
     def test_who_has_passed_them_does_not_come_to_them_again(self):
         """Vehicle 0 turns back behind works on link 1 and drives away over link 0, which leads to them; vehicle 1 comes
         over that to them, vehicle 2 over another one."""

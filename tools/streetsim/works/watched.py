@@ -1,5 +1,6 @@
 """What is seen before the works of a run: who passes and how late, how far the queue reaches, who stands."""
-from collections.abc import Callable, Iterable, Iterator, Mapping, Sequence
+from collections import deque
+from collections.abc import Callable, Collection, Iterable, Iterator, Mapping, Sequence
 from dataclasses import dataclass, field
 
 from streetsim.base.client import Lane
@@ -129,12 +130,11 @@ class Watched:
                 self.coming[car] = Coming(clock, sight.free, sight.link)
 
     def sights(self, lanes: Mapping[Place, Lane]) -> tuple[dict[int, Sight], set[int]]:
-        """(the vehicles before the works, by number in the program; those on the link past their begin). lanes: those
-        of the link go first, and those of each link after those of one that it leads to."""
+        """(the vehicles before the works, by number in the program; those on the link past their begin)."""
         link, first = self.closure.link, self.closure.first
         before: dict[int, Sight] = {}
         beyond: set[int] = set()
-        behind = self.seconds_behind(dict.fromkeys(other for other, _ in lanes))
+        behind = self.seconds_behind({other for other, _ in lanes})
         for (other, _), lane in lanes.items():
             cells, pace = self.streets.cells[other], self.pace[other]
             if other != link:
@@ -149,17 +149,18 @@ class Watched:
             beyond.update(car for car, *_ in lane.buffer)
         return before, beyond
 
-    def seconds_behind(self, links: Iterable[int]) -> dict[int, float]:
+    def seconds_behind(self, links: Collection[int]) -> dict[int, float]:
         """By link the seconds from the junction at its end to the works, alone, on the way of the fewest links; 0 on
-        the link of the works, which goes first. links: as the lanes of `sights`."""
-        found = {self.closure.link: 0.0}
-        for link in links:
-            if link == self.closure.link:
-                ahead = self.closure.first * self.pace[link]
-            else:
+        the link of the works. links: those that are looked at, each of which leads to it over others of them."""
+        found, reached = {self.closure.link: 0.0}, deque([self.closure.link])
+        while reached:
+            link = reached.popleft()
+            ahead = self.closure.first * self.pace[link]
+            if link != self.closure.link:
                 ahead = found[link] + self.streets.across[link] + self.streets.cells[link] * self.pace[link]
-            for feeder in self.streets.before.get(link, ()):
-                found.setdefault(feeder, ahead)
+            new = [one for one in self.streets.before.get(link, ()) if one in links and one not in found]
+            found.update(dict.fromkeys(new, ahead))
+            reached.extend(new)
         return found
 
     def note_standing(self, clock: int, lanes: Mapping[Place, Lane]) -> None:
