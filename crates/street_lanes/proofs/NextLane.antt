@@ -1,13 +1,14 @@
 -- The next lane with somebody in its cells, in its buffer or waiting, by the yard's lists.
-use Rattle.std.proofs.Common.{◌≡◌, ℕ, ◌+◌, ◌*◌, ◌<◌, ◌≤◌, List, [], ◌∷◌, length, map, refl, sym, ap, subst, ◌∙◌, arith, Option, Some, None, filter_map}
+use Rattle.std.proofs.Common.{◌≡◌, ℕ, ◌+◌, ◌*◌, ◌<◌, List, [], ◌∷◌, length, map, refl, sym, ap, subst, ◌∙◌, arith, Option, Some, None, filter_map}
 use Rattle.std.proofs.lemmas.List.{length-map, nil_from_length}
 use Rattle.street_base.specs.declared.car.Car.{Car}
-use Rattle.street_base.specs.Prelude.{Vehicle, vehicle_at}
-use Rattle.street_yard.specs.Prelude.{Yard, list_at, car_of, lanes_in, IsWhole, IsNextFilled, cell_at, key_at, cells_at, IsFalling, IsLane}
+use Rattle.street_base.specs.Prelude.{Vehicle}
+use Rattle.street_yard.specs.Prelude.{Yard, list_at, car_of, lanes_in, IsWhole, IsFirstBut, cell_at, key_at, cells_at, IsFalling, IsLane}
 use Rattle.street_yard.proofs.FallingLists.{key_at-split, stands-key}
+use Rattle.street_yard.proofs.YardLemmas.{first-like}
 use Rattle.street_lanes.specs.declared.lanes.Lanes.TheInside.{Inside}
-use Rattle.street_lanes.specs.Prelude.{LaneView, Lanes, lane_of, waiting_of, queued_of, cells_list, buffer_list, waiting_list, cars_on}
-use Rattle.street_lanes.specs.Prelude.{IsDeserted, HasNobodyInCells, HasEmptyBuffer, HasNobodyWaiting, IsNextBut}
+use Rattle.street_lanes.specs.Prelude.{LaneView, Lanes, lane_of, waiting_of, queued_of, buffer_list, waiting_list, cars_on}
+use Rattle.street_lanes.specs.Prelude.{IsDeserted, HasNobodyInCells, HasEmptyBuffer, HasNobodyWaiting}
 use Rattle.street_lanes.specs.Inside.{length_at, lane_in, seen, IsSound}
 use Rattle.street_lanes.proofs.Access.{lanes-are, in-extents, lane-is}
 use Rattle.street_lanes.proofs.Cars.{cars-length}
@@ -39,24 +40,26 @@ module _ (x : Inside) (v : Lanes) (is : seen x ≡ v) (sound : IsSound x) where
   lanes-counted = let are = lanes-are x v is in let three = sound.three_each in omega arith
 
   module _ (whole : IsWhole x.yard) (lane next : ℕ) where
+    -- of the lanes from this one on, `next` is the first whose list of this kind has a key, or the count of lanes
+    abbrev IsNextFilled : ℕ → Type 0
+    IsNextFilled class = IsFirstBut (λ n. list_at x.yard (3 * n + class) ≡ []) lane (lanes_in x.yard) next
+
+    -- of the lanes from this one on, `next` is the first that is not such, or the count of lanes
+    abbrev IsNextBut : (LaneView → Type 0) → Type 0
+    IsNextBut IsSuch = IsFirstBut (λ n. IsSuch (lane_of v n)) lane (length v.lanes) next
+
     -- what is true of lanes whose list of a kind has no key, and of no other lane
     by-kind : (IsSuch : LaneView → Type 0) (class : ℕ)
         → ((n : ℕ) → n < length v.lanes → list_at x.yard (3 * n + class) ≡ [] → IsSuch (lane_in x.yard x.closures.items x.extents.items n))
         → ((n : ℕ) → n < length v.lanes → IsSuch (lane_in x.yard x.closures.items x.extents.items n) → list_at x.yard (3 * n + class) ≡ [])
-        → IsNextFilled x.yard class lane next → IsNextBut IsSuch v lane next
-    by-kind IsSuch class such none f =
+        → IsNextFilled class → IsNextBut IsSuch
+    by-kind IsSuch class such none first =
         let counted = lanes-counted in
-        let within : next ≤ length v.lanes = omega (arith, counted, f.within) in
-        record {
-          not_before = f.not_before;
-          within = within;
-          here = λ below is_such. f.filled (omega (arith, counted)) (none next below (subst IsSuch (lane-is x v is next below) is_such));
-          passed = λ k above below.
-              let inside : k < length v.lanes = omega arith in
-              subst IsSuch (sym (lane-is x v is k inside)) (such k inside (f.empty k above below));
-        }
+        first-like lane (lanes_in x.yard) (length v.lanes) next first (omega (arith, counted, first.within)) (λ lt. omega (arith, counted))
+        (λ n lt empty. subst IsSuch (sym (lane-is x v is n lt)) (such n lt empty))
+        (λ n lt is_such. none n lt (subst IsSuch (lane-is x v is n lt) is_such))
 
-    pub next-cells : IsNextFilled x.yard 0 lane next → IsNextBut HasNobodyInCells v lane next
+    pub next-cells : IsNextFilled 0 → IsNextBut HasNobodyInCells
     next-cells = by-kind HasNobodyInCells 0
         (λ n h none. nobody-listed x.yard (3 * n) (length_at x.extents.items n) whole (subst (λ (l : ℕ). list_at x.yard l ≡ []) (at n) none))
         (λ n h deserted. subst (λ (l : ℕ). list_at x.yard l ≡ []) (sym (at n)) (nobody-stands x.yard (3 * n) (length_at x.extents.items n) whole (sound.falls n (in-extents x v is n h)) deserted))
@@ -64,12 +67,12 @@ module _ (x : Inside) (v : Lanes) (is : seen x ≡ v) (sound : IsSound x) where
         at : (n : ℕ) → 3 * n + 0 ≡ 3 * n
         at n = omega arith
 
-    pub next-buffer : IsNextFilled x.yard 1 lane next → IsNextBut HasEmptyBuffer v lane next
+    pub next-buffer : IsNextFilled 1 → IsNextBut HasEmptyBuffer
     next-buffer = by-kind HasEmptyBuffer 1
         (λ n h none. ap (λ (ks : List ℕ). map queued_of (filter_map (car_of x.yard) ks)) none)
         (λ n h none. nobody-made queued_of x.yard (buffer_list n) whole none)
 
-    pub next-waiting : IsNextFilled x.yard 2 lane next → IsNextBut HasNobodyWaiting v lane next
+    pub next-waiting : IsNextFilled 2 → IsNextBut HasNobodyWaiting
     next-waiting = by-kind HasNobodyWaiting 2
         (λ n h none. ap (λ (ks : List ℕ). map waiting_of (filter_map (car_of x.yard) ks)) none)
         (λ n h none. nobody-made waiting_of x.yard (waiting_list n) whole none)

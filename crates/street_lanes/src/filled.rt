@@ -2,7 +2,8 @@
 //!
 //! Source: this profile.
 ghost use Rattle.std.specs.Prelude.{◌≤◌, length};
-ghost use Rattle.street_lanes.specs.Prelude.{IsNextBut, HasNobodyInCells, HasEmptyBuffer, HasNobodyWaiting};
+ghost use Rattle.street_yard.specs.Prelude.{IsFirstBut};
+ghost use Rattle.street_lanes.specs.Prelude.{lane_of, HasNobodyInCells, HasEmptyBuffer, HasNobodyWaiting};
 
 use crate::lanes::Lanes;
 use street_yard::ListKind;
@@ -12,7 +13,7 @@ impl Lanes {
     #[inline]
     pub fn next_with_cells(&self, lane: usize) -> usize
         requires { lane ≤ length self.now.lanes }
-        ensures { IsNextBut HasNobodyInCells self.now lane result }
+        ensures { IsFirstBut (λ n. HasNobodyInCells (lane_of self.now n)) lane (length self.now.lanes) result }
     {
         self.yard.next_filled(ListKind::Cells, lane)
     }
@@ -21,7 +22,7 @@ impl Lanes {
     #[inline]
     pub fn next_with_buffer(&self, lane: usize) -> usize
         requires { lane ≤ length self.now.lanes }
-        ensures { IsNextBut HasEmptyBuffer self.now lane result }
+        ensures { IsFirstBut (λ n. HasEmptyBuffer (lane_of self.now n)) lane (length self.now.lanes) result }
     {
         self.yard.next_filled(ListKind::Buffer, lane)
     }
@@ -30,7 +31,7 @@ impl Lanes {
     #[inline]
     pub fn next_with_waiting(&self, lane: usize) -> usize
         requires { lane ≤ length self.now.lanes }
-        ensures { IsNextBut HasNobodyWaiting self.now lane result }
+        ensures { IsFirstBut (λ n. HasNobodyWaiting (lane_of self.now n)) lane (length self.now.lanes) result }
     {
         self.yard.next_filled(ListKind::Waiting, lane)
     }

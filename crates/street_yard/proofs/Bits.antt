@@ -1,12 +1,13 @@
 -- How the words of a `FilledLists` follow its bits.
 use Rattle.std.proofs.Common.{◌≡◌, ◌≢◌, ℕ, zero, suc, ◌+◌, ◌-◌, ◌*◌, ◌/◌, ◌%◌, ◌^◌, ◌<◌, ◌≤◌, ◌==◌, Bool, true, false, List, length, get_or, set, replicate, Option, Some, None, bit_and, bit_or, w64, refl, sym, ap, ◌∙◌, arith, inl, inr, min}
 use Rattle.std.specs.Int.{bit_at, bit_not, trailing_zeros}
-use Rattle.std.proofs.lemmas.Bool.{cases_eq, cases_lt}
+use Rattle.std.proofs.lemmas.Bool.{cases_eq, cases_lt, both_ways}
 use Rattle.std.proofs.lemmas.List.{get_or-set_same, get_or-set_other, get_or_past, get_or_default, get_or-replicate, length-set, length-replicate, ext_get_or}
 use Rattle.std.proofs.lemmas.List.FromFn.{get_or-map-range_with_len, length-map-range_with_len}
 use Rattle.std.proofs.lemmas.Nat.{and_le_l}
 use Rattle.std.proofs.lemmas.Nat.Bits.{bit_at-zero, bit_at-lt, bit_at-trailing_zeros, bit_at_set_same, bit_at_set_other, bit_at_clear_same, bit_at_clear_other, bit_at_and, ones_shl, bit_at_mask_inside, bit_at_mask_below}
 use Rattle.street_yard.specs.Bits.{bit_of, bits_of, AreWords, has_bit, IsNextBit}
+use Rattle.street_yard.proofs.YardLemmas.{such-at, first-further}
 
 -- the word and the place in it of a list's bit
 
@@ -169,43 +170,32 @@ module _ (words : List ℕ) (are : AreWords words) (v : List Bool) (is_v : bits_
       lowest : (trailing_zeros w64 part < 64) × (bit_at part (trailing_zeros w64 part) ≡ 1) × ((i : ℕ) → i < trailing_zeros w64 part → bit_at part i ≡ 0)
       lowest = bit_at-trailing_zeros w64 part some fits
 
-      next : ℕ
-      next = 64 * group + trailing_zeros w64 part
-
       from-on : from ≤ trailing_zeros w64 part
       from-on = elim (cases_lt (trailing_zeros w64 part) from) [
         | inl lt ↦ absurd (let none = below (trailing_zeros w64 part) lt in let one = lowest.1 in omega arith)
         | inr ge ↦ ge
       ]
 
-      part-first : IsNextBit v class (64 * group + from) (Some (64 * group + trailing_zeros w64 part))
-      part-first =
+      part-first : (lane : ℕ) → lane ≡ 64 * group + from → IsNextBit v class lane (Some (64 * group + trailing_zeros w64 part))
+      part-first lane starts =
           let t = trailing_zeros w64 part in
           let few = lowest.0 in
           let at : (64 * group + t) / 64 ≡ group = omega arith in
           let place : (64 * group + t) % 64 ≡ t = omega arith in
-          let even = are.even in (
-            (let ge = from-on in omega arith),
-            has-bit (64 * group + t) (omega arith) ∙ ap (λ v. v == 1) (bit-part (64 * group + t) at (let ge = from-on in omega arith) ∙ ap (bit_at part) place ∙ lowest.1),
-            λ n ge lt. none-at n (bit-part n (omega arith) (omega arith) ∙ lowest.2 (n % 64) (omega arith)),
-          )
+          let even = are.even in
+          let ge = from-on in
+          let one = bit-part (64 * group + t) at (omega arith) ∙ ap (bit_at part) place ∙ lowest.1 in
+          record {
+            not_before = omega arith;
+            within = omega arith;
+            here = λ lt none. both_ways _ none (has-bit (64 * group + t) (omega arith) ∙ ap (λ v. v == 1) one);
+            passed = λ n above below. none-at n (bit-part n (omega arith) (omega arith) ∙ lowest.2 (n % 64) (omega arith));
+          }
 
   -- no lane up to one has a bit: the next one from there is the next one
   pub further : (lane later : ℕ) (r : Option ℕ) → lane ≤ later → ((n : ℕ) → lane ≤ n → n < later → has_bit v class n ≡ false) → IsNextBit v class later r → IsNextBit v class lane r
-  further lane later None le none next = λ n from.
-      elim (cases_lt n later) [
-        | inl lt ↦ none n from lt
-        | inr ge ↦ next n ge
-      ]
-  further lane later (Some k) le none next = (
-    (let ge = next.0 in omega arith),
-    next.1,
-    λ n from lt.
-        elim (cases_lt n later) [
-          | inl before ↦ none n from before
-          | inr ge ↦ next.2 n ge lt
-        ],
-  )
+  further lane later None le none next = λ n from. such-at lane later n none from (next n)
+  further lane later (Some k) le none next = first-further lane later (k + 1) k le none next
 
   -- the whole word
   module _ (group word : ℕ) (is : word ≡ get_or words (3 * group + class) 0) where
@@ -214,8 +204,7 @@ module _ (words : List ℕ) (are : AreWords words) (v : List Bool) (is_v : bits_
 
     pub word-first : 0 < word → word < 2 ^ 64 → 3 * group + class < length words → IsNextBit v class (64 * group) (Some (64 * group + trailing_zeros w64 word))
     word-first some fits within =
-        further (64 * group) (64 * group + 0) (Some (64 * group + trailing_zeros w64 word)) (omega arith) (λ n from lt. absurd (omega arith))
-        (part-first group 0 word word is (λ i from below. refl) (λ i lt'. absurd (omega arith)) (omega arith) some fits within)
+        part-first group 0 word word is (λ i from below. refl) (λ i lt'. absurd (omega arith)) (omega arith) some fits within (64 * group) (omega arith)
 
   -- the word from a lane on
   module _ (lane word : ℕ) (is : word ≡ get_or words (3 * (lane / 64) + class) 0) where
@@ -227,5 +216,4 @@ module _ (words : List ℕ) (are : AreWords words) (v : List Bool) (is_v : bits_
 
     pub lane-first : 0 < masked word (lane % 64) → word < 2 ^ 64 → 3 * (lane / 64) + class < length words → IsNextBit v class lane (Some (64 * (lane / 64) + trailing_zeros w64 (masked word (lane % 64))))
     lane-first some fits within =
-        further lane (64 * (lane / 64) + lane % 64) (Some (64 * (lane / 64) + trailing_zeros w64 (masked word (lane % 64)))) (omega arith) (λ n from lt. absurd (omega arith))
-        (part-first (lane / 64) (lane % 64) (masked word (lane % 64)) word is (masked-above word (lane % 64) low) (masked-below word (lane % 64) low) low some (masked-fits word (lane % 64) low fits) within)
+        part-first (lane / 64) (lane % 64) (masked word (lane % 64)) word is (masked-above word (lane % 64) low) (masked-below word (lane % 64) low) low some (masked-fits word (lane % 64) low fits) within lane (omega arith)

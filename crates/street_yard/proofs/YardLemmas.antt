@@ -1,9 +1,9 @@
 -- What every caller of a yard needs, over what contracts see.
 use Rattle.std.proofs.Common.{◌≡◌, ◌≢◌, ℕ, zero, suc, ◌<◌, ◌≤◌, Bool, false, cond, eqb, List, [], ◌∷◌, ◌++◌, length, get_or, set, IsSome, IsSomeAnd, Option, Some, None, refl, sym, ap, subst, ◌∙◌, inl, inr, arith, eq-eqb, filter_map, option_map, option_and_then, unwrap_or}
-use Rattle.std.proofs.lemmas.Bool.{cases_eq}
+use Rattle.std.proofs.lemmas.Bool.{cases_eq, cases_lt}
 use Rattle.std.proofs.lemmas.List.{get_or-set_same, get_or-set_other}
 use Rattle.street_base.specs.declared.car.Car.{Car}
-use Rattle.street_yard.specs.Prelude.{YardEntry, Yard, list_at, entry_at, car_of, mark_of, list_on, kept_set, list_set, car_set, mark_set, without, first_or, Has, Away, IsApart, IsLoose, IsWhole, cell_at, AllAbove}
+use Rattle.street_yard.specs.Prelude.{YardEntry, Yard, list_at, entry_at, car_of, mark_of, list_on, kept_set, list_set, car_set, mark_set, without, first_or, Has, Away, IsApart, IsFirstBut, IsLoose, IsWhole, cell_at, AllAbove}
 use Rattle.street_yard.proofs.Keys.{has-later, Away-append, IsApart-split, listed_within, without-split}
 
 -- a change of one key's entry
@@ -222,3 +222,32 @@ named-kept_set y k f j h =
       | inl e ↦ subst (λ i. IsSome (get_or (kept_set y.kept k f) i None)) (sym e) (subst IsSome (sym (entry-kept_set y.kept k f)) (same_entry (get_or y.kept k None) f (subst (λ i. IsSome (get_or y.kept i None)) e h)))
       | inr ne ↦ subst IsSome (sym (entry-kept_set_other y.kept k f j ne)) h
     ]
+
+-- ---- the first that is not such
+
+-- all before one are such, and this one if it is not before
+pub such-at : {IsSuch : ℕ → Type 0} (from later n : ℕ) → ((k : ℕ) → from ≤ k → k < later → IsSuch k) → from ≤ n → (later ≤ n → IsSuch n) → IsSuch n
+such-at {IsSuch} from later n before above else =
+    elim (cases_lt n later) as (λ _. IsSuch n) [
+      | inl lt ↦ before n above lt
+      | inr ge ↦ else ge
+    ]
+
+-- all before a later start are such: the first from there on is the first from here on
+pub first-further : {IsSuch : ℕ → Type 0} (from later count next : ℕ) → from ≤ later → ((n : ℕ) → from ≤ n → n < later → IsSuch n) → IsFirstBut IsSuch later count next → IsFirstBut IsSuch from count next
+first-further from later count next le before first = record {
+  not_before = (let ge = first.not_before in omega arith);
+  within = first.within;
+  here = first.here;
+  passed = λ n above below. such-at from later n before above (λ ge. first.passed n ge below);
+}
+
+-- below another count, which the first does not pass, the same ones are like this
+pub first-like : {IsSuch IsLike : ℕ → Type 0} (from count other next : ℕ) → IsFirstBut IsSuch from count next → next ≤ other → (next < other → next < count)
+    → ((n : ℕ) → n < other → IsSuch n → IsLike n) → ((n : ℕ) → n < other → IsLike n → IsSuch n) → IsFirstBut IsLike from other next
+first-like from count other next first le lt like such = record {
+  not_before = first.not_before;
+  within = le;
+  here = λ below is. first.here (lt below) (such next below is);
+  passed = λ n above below. like n (omega arith) (first.passed n above below);
+}

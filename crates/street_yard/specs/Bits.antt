@@ -1,7 +1,8 @@
 -- What the words of a `FilledLists` stand for.
-use Rattle.std.specs.Prelude.{◌≡◌, ℕ, ◌+◌, ◌*◌, ◌/◌, ◌%◌, ◌^◌, ◌<◌, ◌≤◌, ◌==◌, Bool, true, false, List, map, length, Option, Some, None, slice_index_or}
+use Rattle.std.specs.Prelude.{◌≡◌, ℕ, ◌+◌, ◌*◌, ◌/◌, ◌%◌, ◌^◌, ◌<◌, ◌≤◌, ◌==◌, Bool, false, List, map, length, Option, Some, None, slice_index_or}
 use Rattle.std.specs.Int.{bit_at}
 use Rattle.std.specs.List.{range_with_len}
+use Rattle.street_yard.specs.Yard.{IsFirstBut}
 
 -- the bit of a list: that of its lane, in the word of its lane and its kind
 abbrev pub bit_of : List ℕ → ℕ → Bool
@@ -23,4 +24,4 @@ has_bit bits class n = slice_index_or bits (3 * n + class) false
 -- the first lane, from this one on, whose list of this kind has a key, if there is one
 abbrev pub IsNextBit : List Bool → ℕ → ℕ → Option ℕ → Type 0
 IsNextBit bits class lane None = (n : ℕ) → lane ≤ n → has_bit bits class n ≡ false
-IsNextBit bits class lane (Some next) = (lane ≤ next) × (has_bit bits class next ≡ true) × ((n : ℕ) → lane ≤ n → n < next → has_bit bits class n ≡ false)
+IsNextBit bits class lane (Some next) = IsFirstBut (λ n. has_bit bits class n ≡ false) lane (next + 1) next

@@ -51,7 +51,7 @@ impl Model for ListTable {
 }
 
 impl ListTable {
-    ghost use Rattle.street_yard.specs.Prelude.{no_row, thirds, class_of, has_keys, IsFirst};
+    ghost use Rattle.street_yard.specs.Prelude.{no_row, thirds, class_of, HasNoKeys, IsFirstBut};
 
     /// The table of so many lists, none of which has a key.
     ///
@@ -107,7 +107,7 @@ impl ListTable {
     #[inline]
     pub(crate) fn next_filled(&self, kind: ListKind, lane: usize) -> usize
         requires { lane ≤ length self.now / 3 }
-        ensures { IsFirst (has_keys self.now (class_of kind)) lane (length self.now / 3) result }
+        ensures { IsFirstBut (HasNoKeys self.now (class_of kind)) lane (length self.now / 3) result }
     {
         match self.filled.next(kind, lane) {
             Some(next) => next,
